@@ -1,0 +1,158 @@
+-- DEMAND 3: two runs read as one list. Assumes nothing.
+use mathlib.Core.Path.{_≡_, refl, sym, _∙_, ap, ap₂}
+use mathlib.Core.List.{List, [], _∷_, _++_, append-assoc}
+use mathlib.Core.Option.{Option, none, some}
+use Prim.Native.Nat.{ℕ, suc, _+_, _/_}
+use native.Mathlib.Nat.{add-zero, zero-add, add-suc, suc-add}
+use lib.ListN.{length}
+use borrow.Author.Tests.{le-ltb}
+use Rattle.definition.specs.Escapes.{Read, got, refused}
+use Rattle.definition.specs.Body.{Piece, readBody}
+use Rattle.definition.specs.Records.{Item, Answer, answerOf}
+use Rattle.definition.specs.Entry.{Literal, oneMore, sixes, body, refusal, firstStart, entry}
+use Rattle.definition.specs.Reading.{Outcome, accepts, refuses, readLiteral, andThen, readFrom, sortOf, uMark, lastEnd, answered, read, roomed, called, readInto, readNumbers}
+use Rattle.definition.specs.Join.{joinSort, join, shifted, joinOutcomes, Enough}
+use Rattle.definition.proofs.Laid.{answer-append}
+use Rattle.definition.proofs.EntrySplit.{entry-left, entry-right, sort-append}
+
+-- a refusal's literal number, raised by n
+shift : ℕ → Outcome (List Item) → Outcome (List Item)
+shift n (accepts xs) = accepts xs
+shift n (refuses r) = refuses (shifted n r)
+
+shift-literal : (script : List ℕ) (n i : ℕ) (l : Literal) → readLiteral script (n + i) l ≡ shift n (readLiteral script i l)
+unfolding readLiteral shift shifted refusal
+shift-literal script n i l = go (readBody (l .kind) (body script l)) refl
+  where
+    go : (r : Read (List Piece)) → readBody (l .kind) (body script l) ≡ r → readLiteral script (n + i) l ≡ shift n (readLiteral script i l)
+    go (got ps j) e = rw (e, readLiteral)
+    go (refused m j a b) e = rw (e, readLiteral)
+
+shift-then : (n : ℕ) (o p : Outcome (List Item)) → andThen (shift n o) (shift n p) ≡ shift n (andThen o p)
+unfolding shift andThen
+shift-then n (refuses r) p = refl
+shift-then n (accepts xs) (refuses r) = refl
+shift-then n (accepts xs) (accepts ys) = refl
+
+-- reading from a later number on
+shift-from : (script : List ℕ) (n i : ℕ) (ls : List Literal) → readFrom script (n + i) ls ≡ shift n (readFrom script i ls)
+unfolding readFrom shift
+shift-from script n i [] = refl
+shift-from script n i (l ∷ ls) =
+    ap₂ andThen (shift-literal script n i l) (ap (λ k. readFrom script k ls) (sym (add-suc n i)) ∙ shift-from script n (suc i) ls)
+    ∙ shift-then n (readLiteral script i l) (readFrom script (suc i) ls)
+
+then-assoc : (o p q : Outcome (List Item)) → andThen o (andThen p q) ≡ andThen (andThen o p) q
+unfolding andThen
+then-assoc (refuses r) p q = refl
+then-assoc (accepts xs) (refuses r) q = refl
+then-assoc (accepts xs) (accepts ys) (refuses r) = refl
+then-assoc (accepts xs) (accepts ys) (accepts zs) = ap accepts (sym (append-assoc xs ys zs))
+
+then-nil : (o : Outcome (List Item)) → andThen (accepts []) o ≡ o
+unfolding andThen
+then-nil (refuses r) = refl
+then-nil (accepts xs) = refl
+
+from-append : (script : List ℕ) (i : ℕ) (xs ys : List Literal) → readFrom script i (xs ++ ys) ≡ andThen (readFrom script i xs) (readFrom script (i + length xs) ys)
+unfolding readFrom
+from-append script i [] ys = ap (λ k. readFrom script k ys) (sym (add-zero i)) ∙ sym (then-nil (readFrom script (i + 0) ys))
+from-append script i (x ∷ xs) ys =
+    ap (andThen (readLiteral script i x))
+    (from-append script (suc i) xs ys ∙ ap (λ k. andThen (readFrom script (suc i) xs) (readFrom script k ys)) (suc-add i (length xs) ∙ sym (add-suc i (length xs))))
+    ∙ then-assoc (readLiteral script i x) (readFrom script (suc i) xs) (readFrom script (i + suc (length xs)) ys)
+
+end-append : (e : ℕ) (xs : List Literal) (y : Literal) (ys : List Literal) → lastEnd e (xs ++ (y ∷ ys)) ≡ lastEnd 0 (y ∷ ys)
+unfolding lastEnd
+end-append e [] y ys = refl
+end-append e (x ∷ xs) y ys = end-append (x .end) xs y ys
+
+read-passed : (script : List ℕ) (ls : List Literal) → entry script ls ≡ none → read script ls ≡ answered ls (readFrom script 0 ls)
+unfolding read
+read-passed script ls e = rw (e, read)
+
+module _ (script : List ℕ) (x : Literal) (xs : List Literal) (y : Literal) (ys : List Literal) (passed : entry script ((x ∷ xs) ++ (y ∷ ys)) ≡ none) where
+  answered-join : (o p : Outcome (List Item))
+      → answered ((x ∷ xs) ++ (y ∷ ys)) (andThen o (shift (length (x ∷ xs)) p)) ≡ joinOutcomes (length (x ∷ xs)) (answered (x ∷ xs) o) (answered (y ∷ ys) p)
+  unfolding answered andThen shift joinOutcomes uMark firstStart
+  answered-join (refuses r) p = refl
+  answered-join (accepts ps) (refuses r) = refl
+  answered-join (accepts ps) (accepts qs) =
+      ap accepts
+      (ap₂ (λ k e. answerOf k (uMark (x ∷ xs)) (x .start) e (ps ++ qs)) (sort-append script x xs y ys passed) (end-append 0 (x ∷ xs) y ys)
+      ∙ answer-append (sortOf (x ∷ xs)) (sortOf (y ∷ ys)) (uMark (x ∷ xs)) (uMark (y ∷ ys)) (x .start) (y .start) (lastEnd 0 (x ∷ xs)) (lastEnd 0 (y ∷ ys)) ps qs)
+
+  -- DEMAND 3, with room for anything: two runs, each not empty, that together pass the entry checks
+  pub read-join : read script ((x ∷ xs) ++ (y ∷ ys)) ≡ joinOutcomes (length (x ∷ xs)) (read script (x ∷ xs)) (read script (y ∷ ys))
+  read-join =
+      read-passed script ((x ∷ xs) ++ (y ∷ ys)) passed
+      ∙ ap (answered ((x ∷ xs) ++ (y ∷ ys)))
+      (from-append script 0 (x ∷ xs) (y ∷ ys)
+      ∙ ap (λ k. andThen (readFrom script 0 (x ∷ xs)) (readFrom script k (y ∷ ys))) (zero-add (length (x ∷ xs)) ∙ sym (add-zero (length (x ∷ xs))))
+      ∙ ap (andThen (readFrom script 0 (x ∷ xs))) (shift-from script (length (x ∷ xs)) 0 (y ∷ ys)))
+      ∙ answered-join (readFrom script 0 (x ∷ xs)) (readFrom script 0 (y ∷ ys))
+      ∙ ap₂ (joinOutcomes (length (x ∷ xs)))
+      (sym (read-passed script (x ∷ xs) (entry-left script x xs y ys passed)))
+      (sym (read-passed script (y ∷ ys) (entry-right script x xs y ys passed)))
+
+room : (w t : ℕ) (o : Outcome Answer) → Enough w t o → roomed w t o ≡ o
+unfolding roomed Enough
+room w t (refuses r) h = refl
+room w t (accepts x) h = rw (le-ltb (w / 8) (length (x .records)) (h .0), le-ltb t (length (x .text)) (h .1))
+
+-- DEMAND 3, over descriptors and with buffers, each of the three readings into its own: what the whole returns and leaves is the join's
+pub into-join : (script : List ℕ) (x : Literal) (xs : List Literal) (y : Literal) (ys : List Literal) (w t w₁ t₁ w₂ t₂ : List ℕ)
+    → entry script ((x ∷ xs) ++ (y ∷ ys)) ≡ none
+    → Enough (length w) (length t) (read script ((x ∷ xs) ++ (y ∷ ys)))
+    → Enough (length w₁) (length t₁) (read script (x ∷ xs))
+    → Enough (length w₂) (length t₂) (read script (y ∷ ys))
+    → readInto script ((x ∷ xs) ++ (y ∷ ys)) w t ≡ called (joinOutcomes (length (x ∷ xs)) (readInto script (x ∷ xs) w₁ t₁ .outcome) (readInto script (y ∷ ys) w₂ t₂ .outcome)) w t
+unfolding readInto called
+into-join script x xs y ys w t w₁ t₁ w₂ t₂ passed h h₁ h₂ =
+    ap (λ o. called o w t)
+    (room (length w) (length t) (read script ((x ∷ xs) ++ (y ∷ ys))) h
+    ∙ read-join script x xs y ys passed
+    ∙ ap₂ (joinOutcomes (length (x ∷ xs)))
+    (sym (room (length w₁) (length t₁) (read script (x ∷ xs)) h₁))
+    (sym (room (length w₂) (length t₂) (read script (y ∷ ys)) h₂)))
+
+-- FLAT NUMBERS: the literals of two lists of numbers
+sixes-append : (ns ms : List ℕ) (xs ys : List Literal) → sixes ns ≡ some xs → sixes ms ≡ some ys → sixes (ns ++ ms) ≡ some (xs ++ ys)
+unfolding sixes oneMore
+sixes-append [] ms xs ys p q = let z : xs ≡ [] = cc in rw z q
+sixes-append (a ∷ []) ms xs ys p q = cc
+sixes-append (a ∷ b ∷ []) ms xs ys p q = cc
+sixes-append (a ∷ b ∷ c ∷ []) ms xs ys p q = cc
+sixes-append (a ∷ b ∷ c ∷ d ∷ []) ms xs ys p q = cc
+sixes-append (a ∷ b ∷ c ∷ d ∷ e ∷ []) ms xs ys p q = cc
+sixes-append (a ∷ b ∷ c ∷ d ∷ e ∷ f ∷ ns) ms xs ys p q = go (λ ls r. sixes-append ns ms ls ys r q) (sixes ns) refl p
+  where
+    l : Literal
+    l = record { kind = a; triple = b; offset = c; size = d; start = e; end = f }
+
+    go : ((ls : List Literal) → sixes ns ≡ some ls → sixes (ns ++ ms) ≡ some (ls ++ ys)) → (o : Option (List Literal)) → sixes ns ≡ o
+        → oneMore l (sixes ns) ≡ some xs → oneMore l (sixes (ns ++ ms)) ≡ some (xs ++ ys)
+    go ih none r p = let z : _≡_ {A = Option (List Literal)} none (some xs) = rw r at p in cc
+    go ih (some ls) r p =
+        let z : _≡_ {A = Option (List Literal)} (some (l ∷ ls)) (some xs) = rw r at p in
+        let y : xs ≡ l ∷ ls = cc in
+        rw (ih ls r, y)
+
+read-numbers : (script ns : List ℕ) (w t : List ℕ) (ls : List Literal) → sixes ns ≡ some ls → readNumbers script ns w t ≡ readInto script ls w t
+unfolding readNumbers
+read-numbers script ns w t ls e = rw (e, readNumbers)
+
+-- DEMAND 3, over flat numbers
+pub numbers-join : (script ns ms : List ℕ) (x : Literal) (xs : List Literal) (y : Literal) (ys : List Literal) (w t w₁ t₁ w₂ t₂ : List ℕ)
+    → sixes ns ≡ some (x ∷ xs) → sixes ms ≡ some (y ∷ ys)
+    → entry script ((x ∷ xs) ++ (y ∷ ys)) ≡ none
+    → Enough (length w) (length t) (read script ((x ∷ xs) ++ (y ∷ ys)))
+    → Enough (length w₁) (length t₁) (read script (x ∷ xs))
+    → Enough (length w₂) (length t₂) (read script (y ∷ ys))
+    → readNumbers script (ns ++ ms) w t ≡ called (joinOutcomes (length (x ∷ xs)) (readNumbers script ns w₁ t₁ .outcome) (readNumbers script ms w₂ t₂ .outcome)) w t
+numbers-join script ns ms x xs y ys w t w₁ t₁ w₂ t₂ p q passed h h₁ h₂ =
+    read-numbers script (ns ++ ms) w t ((x ∷ xs) ++ (y ∷ ys)) (sixes-append ns ms (x ∷ xs) (y ∷ ys) p q)
+    ∙ into-join script x xs y ys w t w₁ t₁ w₂ t₂ passed h h₁ h₂
+    ∙ ap₂ (λ a b. called (joinOutcomes (length (x ∷ xs)) (a .outcome) (b .outcome)) w t)
+    (sym (read-numbers script ns w₁ t₁ (x ∷ xs) p))
+    (sym (read-numbers script ms w₂ t₂ (y ∷ ys) q))

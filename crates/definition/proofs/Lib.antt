@@ -1,0 +1,11 @@
+pub mod Starred
+pub mod Seam
+pub mod Assoc
+pub mod Laid
+pub mod EntrySplit
+pub mod JoinLaw
+pub mod CharLaws
+pub mod Moves
+pub mod Steps
+pub mod Fuel
+pub mod Outcomes

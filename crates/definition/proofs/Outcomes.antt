@@ -1,0 +1,219 @@
+-- What holds of every outcome: its number, and an acceptance's offsets, counts and lengths. Assumes nothing.
+use mathlib.Core.Path.{_≡_, refl, sym, _∙_, ap}
+use mathlib.Core.Bool.{Bool, true, false, _&&_, not}
+use mathlib.Core.List.{List, [], _∷_, _++_, map}
+use mathlib.Core.Option.{Option, none, some}
+use Prim.Native.Nat.{ℕ, zero, suc, _+_, _*_, _/_, _≤_}
+use native.Mathlib.Omega.{arith}
+use lib.Dec.{ltb}
+use lib.ListN.{length, drop, length-append, length-drop, length-replicate}
+use borrow.Author.Tests.{ltb-false}
+use Rattle.definition.specs.Numbers.{isBytes, emptyList, tooManyLiterals, badDescriptor, bodiesTooLong, notUtf8, mixedBytes, tooFewRecordPlaces, tooLittleTextRoom}
+use Rattle.definition.specs.Chars.{if_then_else_}
+use Rattle.definition.specs.Escapes.{Read, got, refused}
+use Rattle.definition.specs.Body.{Piece, readBody}
+use Rattle.definition.specs.Records.{Item, Record, wordsOf, merged, texts, recordAt, laid, cover, Answer, answerOf}
+use Rattle.definition.specs.Entry.{Literal, sixes, placeOf, body, Refusal, refusal, notEmpty, notMany, firstBad, bad, allGood, total, notLong, formed, illFormed, allUtf8, anyOf, firstStart, notMixed, firstOf, entry}
+use Rattle.definition.specs.Reading.{Outcome, accepts, refuses, readLiteral, andThen, readFrom, sortOf, uMark, lastEnd, answered, read, roomed, allWords, inFront, wordsAfter, textAfter, Call, called, readInto, readNumbers}
+use Rattle.definition.proofs.Moves.{Listed, Sound}
+use Rattle.definition.proofs.Fuel.{body-sound}
+
+-- a refusal's number stands in 01's table
+abbrev Numbered : {A : Type 0} → Outcome A → Type 0
+Numbered (accepts x) = Unit {0}
+Numbered (refuses r) = Listed (r .number)
+
+-- a check's refusal, if there is one
+abbrev Refusing : Option Refusal → Type 0
+Refusing none = Unit {0}
+Refusing (some r) = Listed (r .number)
+
+by-test : (t : Bool) (r : Refusal) → Listed (r .number) → Refusing (if t then some r else none)
+by-test true r h = h
+by-test false r h = tt
+
+by-literal : (test : ℕ → Literal → Bool) (why : ℕ → Literal → Refusal) → ((i : ℕ) (l : Literal) → Listed (why i l .number))
+    → (previous i : ℕ) (ls : List Literal) → Refusing (firstBad test why previous i ls)
+unfolding firstBad
+by-literal test why h previous i [] = tt
+by-literal test why h previous i (l ∷ ls) = go (test previous l) refl (by-literal test why h (l .end) (suc i) ls)
+  where
+    go : (t : Bool) → test previous l ≡ t → Refusing (firstBad test why (l .end) (suc i) ls) → Refusing (firstBad test why previous i (l ∷ ls))
+    go true e p = rw (e, firstBad) (h i l)
+    go false e p = rw (e, firstBad) p
+
+abbrev AllRefusing : List (Option Refusal) → Type 0
+AllRefusing [] = Unit {0}
+AllRefusing (c ∷ cs) = Refusing c × AllRefusing cs
+
+first-numbered : (cs : List (Option Refusal)) → AllRefusing cs → Refusing (firstOf cs)
+unfolding firstOf
+first-numbered [] h = tt
+first-numbered (none ∷ cs) h = first-numbered cs (h .1)
+first-numbered (some r ∷ cs) h = h .0
+
+some-literal : (ls : List Literal) → Refusing (notEmpty ls)
+unfolding notEmpty refusal
+some-literal [] = tt
+some-literal (l ∷ ls) = tt
+
+entry-numbered : (script : List ℕ) (ls : List Literal) → Refusing (entry script ls)
+unfolding entry notMany allGood notLong allUtf8 notMixed refusal
+entry-numbered script ls =
+    first-numbered (notEmpty ls ∷ notMany ls ∷ allGood script ls ∷ notLong ls ∷ allUtf8 script ls ∷ notMixed ls ∷ []) (
+      some-literal ls,
+      (
+        by-test (ltb 1024 (length ls)) (refusal tooManyLiterals 0 0 0 0) tt,
+        (
+          by-literal (bad script) (λ i l. refusal badDescriptor i 0 0 0) (λ i l. tt) 0 0 ls,
+          (
+            by-test (ltb 1048576 (total ls)) (refusal bodiesTooLong 0 0 0 0) tt,
+            (
+              by-literal (illFormed script) (λ i l. refusal notUtf8 i (placeOf l (formed script l)) 0 0) (λ i l. tt) 0 0 ls,
+              (by-test (anyOf isBytes ls && anyOf (λ kind. not (isBytes kind)) ls) (refusal mixedBytes 0 (firstStart ls) 0 0) tt, tt),
+            ),
+          ),
+        ),
+      ),
+    )
+
+literal-numbered : (script : List ℕ) (i : ℕ) (l : Literal) → Numbered (readLiteral script i l)
+unfolding readLiteral refusal
+literal-numbered script i l = go (readBody (l .kind) (body script l)) refl (body-sound (l .kind) (body script l))
+  where
+    go : (r : Read (List Piece)) → readBody (l .kind) (body script l) ≡ r → Sound (body script l) 0 r → Numbered (readLiteral script i l)
+    go (got ps j) e h = rw (e, readLiteral) tt
+    go (refused m j a b) e h = rw (e, readLiteral) (h .0)
+
+then-numbered : (o p : Outcome (List Item)) → Numbered o → Numbered p → Numbered (andThen o p)
+unfolding andThen
+then-numbered (refuses r) p h k = h
+then-numbered (accepts xs) (refuses r) h k = k
+then-numbered (accepts xs) (accepts ys) h k = tt
+
+from-numbered : (script : List ℕ) (i : ℕ) (ls : List Literal) → Numbered (readFrom script i ls)
+unfolding readFrom
+from-numbered script i [] = tt
+from-numbered script i (l ∷ ls) =
+    then-numbered (readLiteral script i l) (readFrom script (suc i) ls) (literal-numbered script i l) (from-numbered script (suc i) ls)
+
+-- AN ACCEPTANCE'S OFFSETS AND LENGTHS: the text from n to m lies in the records in order, without gaps
+abbrev pub Gapless : ℕ → List Record → ℕ → Type 0
+Gapless n [] m = n ≡ m
+Gapless n (r ∷ rs) m = (r .offset ≡ n) × Gapless (n + r .size) rs m
+
+abbrev pub sizes : List Record → ℕ
+sizes [] = 0
+sizes (r ∷ rs) = r .size + sizes rs
+
+-- EVERY OUTCOME IS A CONSISTENT ACCEPTANCE OR A REFUSAL WHOSE NUMBER STANDS IN 01'S TABLE
+abbrev pub Sane : Outcome Answer → Type 0
+Sane (accepts x) = Gapless 0 (x .records) (length (x .text)) × (sizes (x .records) ≡ length (x .text))
+Sane (refuses r) = Listed (r .number)
+
+laid-gapless : (n : ℕ) (xs : List Item) (m : ℕ) → n + length (texts xs) ≡ m → Gapless n (laid n xs) m
+unfolding laid recordAt texts
+laid-gapless n [] m e = omega arith
+laid-gapless n (x ∷ xs) m e = (refl, laid-gapless (n + length (x .text)) xs m (omega (arith, length-append (x .text) (texts xs))))
+
+cover-gapless : (s e u n : ℕ) (rs : List Record) (m : ℕ) → Gapless n rs m → Gapless n (map (cover s e u) rs) m
+unfolding cover
+cover-gapless s e u n [] m h = h
+cover-gapless s e u n (r ∷ rs) m h = (h .0, cover-gapless s e u (n + r .size) rs m (h .1))
+
+gapless-sum : (n : ℕ) (rs : List Record) (m : ℕ) → Gapless n rs m → n + sizes rs ≡ m
+gapless-sum n [] m h = omega arith
+gapless-sum n (r ∷ rs) m h = omega (arith, gapless-sum (n + r .size) rs m (h .1))
+
+answered-sane : (ls : List Literal) (o : Outcome (List Item)) → Numbered o → Sane (answered ls o)
+unfolding answered answerOf
+answered-sane ls (refuses r) h = h
+answered-sane ls (accepts xs) h = (gapless, omega (arith, gapless-sum 0 records (length (texts (merged xs))) gapless))
+  where
+    records : List Record
+    records = map (cover (firstStart ls) (lastEnd 0 ls) (uMark ls)) (laid 0 (merged xs))
+
+    gapless : Gapless 0 records (length (texts (merged xs)))
+    gapless =
+        cover-gapless (firstStart ls) (lastEnd 0 ls) (uMark ls) 0 (laid 0 (merged xs)) (length (texts (merged xs)))
+        (laid-gapless 0 (merged xs) (length (texts (merged xs))) (omega arith))
+
+-- of a list with room for anything
+pub read-sane : (script : List ℕ) (ls : List Literal) → Sane (read script ls)
+unfolding read
+read-sane script ls = go (entry script ls) refl (entry-numbered script ls)
+  where
+    go : (c : Option Refusal) → entry script ls ≡ c → Refusing c → Sane (read script ls)
+    go none e h = rw (e, read) (answered-sane ls (readFrom script 0 ls) (from-numbered script 0 ls))
+    go (some r) e h = rw (e, read) h
+
+roomed-sane : (w t : ℕ) (o : Outcome Answer) → Sane o → Sane (roomed w t o)
+unfolding roomed refusal
+roomed-sane w t (refuses r) h = h
+roomed-sane w t (accepts x) h = go (ltb (w / 8) (length (x .records))) (ltb t (length (x .text)))
+  where
+    n : ℕ
+    n = length (x .records)
+
+    m : ℕ
+    m = length (x .text)
+
+    go : (a b : Bool) → Sane (if a then refuses (refusal tooFewRecordPlaces 0 0 n m) else if b then refuses (refusal tooLittleTextRoom 0 0 n m) else accepts x)
+    go true b = tt
+    go false true = tt
+    go false false = h
+
+-- of descriptors with both buffers lent
+pub into-sane : (script : List ℕ) (ls : List Literal) (words text : List ℕ) → Sane (readInto script ls words text .outcome)
+unfolding readInto called
+into-sane script ls words text = roomed-sane (length words) (length text) (read script ls) (read-sane script ls)
+
+-- of flat numbers
+pub numbers-sane : (script ns words text : List ℕ) → Sane (readNumbers script ns words text .outcome)
+unfolding readNumbers called refusal
+numbers-sane script ns words text = go (sixes ns) refl
+  where
+    go : (o : Option (List Literal)) → sixes ns ≡ o → Sane (readNumbers script ns words text .outcome)
+    go none e = rw (e, readNumbers) tt
+    go (some ls) e = rw (e, readNumbers) (into-sane script ls words text)
+
+-- BOTH BUFFERS KEEP THEIR LENGTHS
+abbrev pub Kept : List ℕ → List ℕ → Call → Type 0
+Kept words text c = (length (c .words) ≡ length words) × (length (c .text) ≡ length text)
+
+all-words : (rs : List Record) → length (allWords rs) ≡ length rs * 8
+unfolding allWords wordsOf
+all-words [] = refl
+all-words (r ∷ rs) = omega (arith, all-words rs)
+
+in-front : (xs buffer : List ℕ) → length xs ≤ length buffer → length (inFront xs buffer) ≡ length buffer
+in-front xs buffer h = omega (arith, length-append xs (drop (length xs) buffer), length-drop (length xs) buffer)
+
+called-kept : (o : Outcome Answer) (words text : List ℕ) → Kept words text (called (roomed (length words) (length text) o) words text)
+unfolding called roomed wordsAfter textAfter
+called-kept (refuses r) words text = (length-replicate (length words) 0, length-replicate (length text) 0)
+called-kept (accepts x) words text = go (ltb (length words / 8) (length (x .records))) refl (ltb (length text) (length (x .text))) refl
+  where
+    o : Outcome Answer
+    o = roomed (length words) (length text) (accepts x)
+
+    go : (a : Bool) → ltb (length words / 8) (length (x .records)) ≡ a → (b : Bool) → ltb (length text) (length (x .text)) ≡ b
+        → (length (wordsAfter o words) ≡ length words) × (length (textAfter o text) ≡ length text)
+    go true p b q = rw p (length-replicate (length words) 0, length-replicate (length text) 0)
+    go false p true q = rw (p, q) (length-replicate (length words) 0, length-replicate (length text) 0)
+    go false p false q =
+        let n = ltb-false (length words / 8) (length (x .records)) p in
+        let m = ltb-false (length text) (length (x .text)) q in
+        rw (p, q) (in-front (allWords (x .records)) words (omega (arith, all-words (x .records))), in-front (x .text) text m)
+
+pub into-kept : (script : List ℕ) (ls : List Literal) (words text : List ℕ) → Kept words text (readInto script ls words text)
+unfolding readInto
+into-kept script ls words text = called-kept (read script ls) words text
+
+pub numbers-kept : (script ns words text : List ℕ) → Kept words text (readNumbers script ns words text)
+unfolding readNumbers called wordsAfter textAfter
+numbers-kept script ns words text = go (sixes ns) refl
+  where
+    go : (o : Option (List Literal)) → sixes ns ≡ o → Kept words text (readNumbers script ns words text)
+    go none e = rw (e, readNumbers) (length-replicate (length words) 0, length-replicate (length text) 0)
+    go (some ls) e = rw (e, readNumbers) (into-kept script ls words text)

@@ -1,0 +1,69 @@
+-- 01's starred readings: one table and one claim over it, computed. Assumes nothing.
+use Prim.Native.Nat.{ℕ, _+_}
+use Prim.Native.String.{String}
+use mathlib.Core.Path.{_≡_, refl}
+use mathlib.Core.List.{List, [], _∷_, map}
+use lib.ListN.{length}
+use Rattle.definition.specs.Numbers.{prefix}
+use Rattle.definition.specs.Chars.{ascii, table37, following, follow, width, decoded, code, next, char, formedFrom, wellFormed, utf8, before, same}
+use Rattle.definition.specs.Escapes.{octalDigit, octalFrom, hexDigit, scalar, hexFrom, lookup, named, unicodeName, escapeCase, escape, encode, meant}
+use Rattle.definition.specs.Body.{withEscape, stringCase, stringMove, stringN, textCase, textMove, filled, fresh, add, documented, spaced, formatted, outside, fieldCase, caseOf, conversionMove, openMove, closeMove, quoteMove, fieldMove, direct, conversionOf, fieldPieces, selfDocumenting, finished, plainRun, textN, alone, readBody}
+use Rattle.definition.specs.Records.{Role, top, raw, inner, touching, covers, Record, item, itemOf, glue, merge, bothItems, merged, texts, recordAt, laid, cover, Sort, plain, joined, bytesOnly, Answer, answerOf}
+use Rattle.definition.specs.Entry.{Literal, opening, placeOf, body, refusal, notEmpty, notMany, firstBad, bad, allGood, total, notLong, formed, illFormed, allUtf8, anyOf, firstStart, notMixed, firstOf, entry}
+use Rattle.definition.specs.Reading.{Outcome, accepts, refuses, readLiteral, andThen, readFrom, sortOf, uMark, lastEnd, answered, read}
+
+abbrev literal : (kind offset size start end : ℕ) → Literal
+literal kind offset size start end = record { kind = kind; triple = 0; offset = offset; size = size; start = start; end = end }
+
+-- the body of one literal of a kind, start 0, flag 0, whose end is after the closing quote
+abbrev one : ℕ → String → Outcome Answer
+unfolding ascii prefix
+one kind text = let s = ascii text in read s (literal kind 0 (length s) 0 (prefix kind + length s + 2) ∷ [])
+
+abbrev rec : Role → (kind offset size start end mode parts place : ℕ) → Record
+rec role kind offset size start end mode parts place =
+    record { role = role; kind = kind; offset = offset; size = size; start = start; end = end; mode = mode; parts = parts; place = place }
+
+-- an acceptance that starts at 0
+abbrev accepted : Sort → ℕ → List Record → List ℕ → Outcome Answer
+accepted sort end records text = accepts (record { sort = sort; uMark = 0; start = 0; end = end; records = records; text = text })
+
+abbrev refusedAs : (number place a b : ℕ) → Outcome Answer
+refusedAs number place a b = refuses (record { number = number; literal = 0; place = place; a = a; b = b })
+
+pub record Row : Type 0 where
+  pub reading : Outcome Answer
+  pub is : Outcome Answer
+
+infix 3 _gives_
+abbrev _gives_ : Outcome Answer → Outcome Answer → Row
+reading gives is = record { reading = reading; is = is }
+
+pub starred : List Row
+unfolding ascii
+starred =
+    (one 1 "{x!=y}" gives accepted joined 9 (rec inner 2 0 4 0 9 0 0 3 ∷ []) (ascii "x!=y"))
+    ∷ (one 1 "{x!r b}" gives refusedAs 20 6 0 0)
+    ∷ (one 1 "{x:{y:{z}}}" gives refusedAs 24 8 0 0)
+    ∷ (one 1 "{x = }" gives accepted joined 9 (rec top 1 0 4 0 9 0 0 0 ∷ rec inner 2 4 2 0 9 114 0 3 ∷ []) (ascii "x = x "))
+    ∷ (one 1 "{x=()}" gives accepted joined 9 (rec top 1 0 4 0 9 0 0 0 ∷ rec inner 2 4 3 0 9 114 0 3 ∷ []) (ascii "x()=x()"))
+    ∷ (one 1 "" gives accepted joined 3 [] [])
+    ∷ (one 1 "{(]}" gives refusedAs 23 5 40 93)
+    ∷ (one 1 "{x:\\n>{w}\\n}"
+    gives accepted joined 15
+    (rec inner 2 0 1 0 15 0 1 3
+    ∷ rec inner 3 1 0 0 15 0 3 0
+    ∷ rec inner 1 1 3 0 15 0 0 0
+    ∷ rec inner 2 4 1 0 15 0 0 9
+    ∷ rec inner 1 5 1 0 15 0 0 0
+    ∷ [])
+    (ascii "x\\n>w\n"))
+    ∷ (read (ascii "\"\" f\"{x}\"") (literal 0 1 0 0 2 ∷ literal 1 5 3 3 9 ∷ [])
+    gives accepted joined 9 (rec top 1 0 0 0 9 0 0 0 ∷ rec inner 2 0 1 3 9 0 0 6 ∷ []) (ascii "x"))
+    ∷ (one 2 "\\777" gives accepted bytesOnly 7 (rec raw 4 0 1 0 7 0 0 0 ∷ []) (255 ∷ []))
+    ∷ (one 0 "\\777" gives accepted plain 6 (rec top 1 0 2 0 6 0 0 0 ∷ []) (0xC7 ∷ 0xBF ∷ []))
+    ∷ []
+
+pub starred-read : map (λ r. r .reading) starred ≡ map (λ r. r .is) starred
+unfolding starred prefix ascii table37 following follow width decoded code next char formedFrom wellFormed utf8 before same octalDigit octalFrom hexDigit scalar hexFrom lookup named unicodeName escapeCase escape encode meant withEscape stringCase stringMove stringN textCase textMove filled fresh add documented spaced formatted outside fieldCase caseOf conversionMove openMove closeMove quoteMove fieldMove direct conversionOf fieldPieces selfDocumenting finished plainRun textN alone readBody touching covers item itemOf glue merge bothItems merged texts recordAt laid cover answerOf opening placeOf body refusal notEmpty notMany firstBad bad allGood total notLong formed illFormed allUtf8 anyOf firstStart notMixed firstOf entry readLiteral andThen readFrom sortOf uMark lastEnd answered read
+starred-read = refl

@@ -1,0 +1,83 @@
+-- What a reader does at each move: the equations that a proof about it goes by. Assumes nothing.
+use mathlib.Core.Path.{_≡_, refl}
+use mathlib.Core.Bool.{Bool, true, false}
+use mathlib.Core.List.{List, [], _++_}
+use Prim.Native.Nat.{ℕ, suc, _+_}
+use lib.ListN.{drop}
+use Rattle.definition.specs.Chars.{_is_, part, code, next}
+use Rattle.definition.specs.Escapes.{Read, got, refused}
+use Rattle.definition.specs.Body.{Piece, Move, goes, stops, calls, ends, stringMove, stringN, filled, Field, fresh, formatted, textMove, fieldMove, finished, plainRun, textN, fieldN, specN}
+
+module _ (n kind : ℕ) (s : List ℕ) (i : ℕ) (text : List ℕ) where
+  pub string-goes : (j : ℕ) (text′ : List ℕ) → stringMove kind s i text ≡ goes j text′ → stringN (suc n) kind s i text ≡ stringN n kind s j text′
+  unfolding stringN
+  string-goes j text′ e = rw (e, stringN)
+
+  pub string-stops : (m j a b : ℕ) → stringMove kind s i text ≡ stops m j a b → stringN (suc n) kind s i text ≡ refused m j a b
+  unfolding stringN
+  string-stops m j a b e = rw (e, stringN)
+
+  pub string-ends : stringMove kind s i text ≡ ends → stringN (suc n) kind s i text ≡ got text i
+  unfolding stringN
+  string-ends e = rw (e, stringN)
+
+module _ (n kind : ℕ) (s : List ℕ) (depth i : ℕ) (text : List ℕ) (ps : List Piece) where
+  pub text-goes : (j : ℕ) (text′ : List ℕ) → textMove kind s depth i text ≡ goes j text′ → textN (suc n) kind s depth i text ps ≡ textN n kind s depth j text′ ps
+  unfolding textN
+  text-goes j text′ e = rw (e, textN)
+
+  pub text-stops : (m j a b : ℕ) → textMove kind s depth i text ≡ stops m j a b → textN (suc n) kind s depth i text ps ≡ refused m j a b
+  unfolding textN
+  text-stops m j a b e = rw (e, textN)
+
+  pub text-ends : textMove kind s depth i text ≡ ends → textN (suc n) kind s depth i text ps ≡ got (ps ++ filled depth text) i
+  unfolding textN
+  text-ends e = rw (e, textN)
+
+  pub text-got : (qs : List Piece) (j : ℕ) → textMove kind s depth i text ≡ calls → fieldN n kind s depth (next s i) (next s i) fresh ≡ got qs j
+      → textN (suc n) kind s depth i text ps ≡ textN n kind s depth j [] (ps ++ filled depth text ++ qs)
+  unfolding textN
+  text-got qs j e f = rw (e, f, textN)
+
+  pub text-refused : (m j a b : ℕ) → textMove kind s depth i text ≡ calls → fieldN n kind s depth (next s i) (next s i) fresh ≡ refused m j a b
+      → textN (suc n) kind s depth i text ps ≡ refused m j a b
+  unfolding textN
+  text-refused m j a b e f = rw (e, f, textN)
+
+module _ (n kind : ℕ) (s : List ℕ) (depth from i : ℕ) (f : Field) where
+  pub field-goes : (j : ℕ) (f′ : Field) → fieldMove s i f ≡ goes j f′ → fieldN (suc n) kind s depth from i f ≡ fieldN n kind s depth from j f′
+  unfolding fieldN
+  field-goes j f′ e = rw (e, fieldN)
+
+  pub field-stops : (m j a b : ℕ) → fieldMove s i f ≡ stops m j a b → fieldN (suc n) kind s depth from i f ≡ refused m j a b
+  unfolding fieldN
+  field-stops m j a b e = rw (e, fieldN)
+
+  pub field-ends : fieldMove s i f ≡ ends → fieldN (suc n) kind s depth from i f ≡ finished depth from (next s i) f
+  unfolding fieldN
+  field-ends e = rw (e, fieldN)
+
+  pub field-got : (ps : List Piece) (j : ℕ) → fieldMove s i f ≡ calls → specN n kind s depth (next s i) ≡ got ps j
+      → fieldN (suc n) kind s depth from i f ≡ fieldN n kind s depth from j (formatted ps f)
+  unfolding fieldN
+  field-got ps j e g = rw (e, g, fieldN)
+
+  pub field-refused : (m j a b : ℕ) → fieldMove s i f ≡ calls → specN n kind s depth (next s i) ≡ refused m j a b → fieldN (suc n) kind s depth from i f ≡ refused m j a b
+  unfolding fieldN
+  field-refused m j a b e g = rw (e, g, fieldN)
+
+-- where a spec's first piece ends, and that piece
+abbrev pub firstEnd : List ℕ → ℕ → ℕ
+firstEnd s i = i + plainRun (drop i s)
+
+abbrev pub firstPiece : List ℕ → ℕ → ℕ → List Piece
+firstPiece s depth i = filled (suc depth) (part s i (firstEnd s i))
+
+module _ (n kind : ℕ) (s : List ℕ) (depth i : ℕ) where
+  pub spec-calls : (code s (firstEnd s i) is "{") ≡ true → specN (suc n) kind s depth i ≡ textN n kind s (suc depth) (firstEnd s i) [] (firstPiece s depth i)
+  unfolding specN
+  spec-calls e = rw (e, specN)
+
+  pub spec-ends : (code s (firstEnd s i) is "{") ≡ false → specN (suc n) kind s depth i ≡ got (firstPiece s depth i) (firstEnd s i)
+  unfolding specN
+  spec-ends e = rw (e, specN)

@@ -1,0 +1,280 @@
+-- One literal's body, read to pieces (parse_string, parse_bytes, parse_fstring, parse_formatted_value, parse_spec).
+use Prim.Native.Nat.{ℕ, zero, suc, _+_}
+use mathlib.Core.Bool.{Bool, true, false, _&&_, _||_, not}
+use mathlib.Core.List.{List, [], _∷_, _++_}
+use mathlib.Core.Option.{Option, none, some}
+use lib.Dec.{ltb, leb, eqb}
+use lib.ListN.{length, drop, replicate}
+use Rattle.definition.specs.Numbers.{isFString, isBytes, isRaw, nonAsciiInBytes, unclosedLbrace, invalidConversionFlag, emptyExpression, mismatchedDelimiter, expressionNestedTooDeeply, singleRbrace, unmatched, unterminatedString, tooManyBrackets}
+use Rattle.definition.specs.Chars.{if_then_else_, _is_, part, atEnd, _to_, inside, code, next, char, before}
+use Rattle.definition.specs.Escapes.{Read, got, refused, Meaning, escape, meant}
+
+-- A piece, in record order: a field, its spec, the spec's parts. `depth` is that of the text that it stands in
+pub data Piece : Type 0 where
+  literal : (depth : ℕ) (text : List ℕ) → Piece
+  field : (depth : ℕ) (expression : List ℕ) (conversion parts taken : ℕ) → Piece  -- taken: just after its `{`
+  spec : (parts : ℕ) → Piece
+  bytes : (text : List ℕ) → Piece
+
+-- What a reader does at a character: goes on with a new state, refuses, calls for the next reader, or ends
+pub data Move (A : Type 0) : Type 0 where
+  goes : (taken : ℕ) (state : A) → Move A
+  stops : (number taken a b : ℕ) → Move A
+  calls : Move A
+  ends : Move A
+
+-- a text with what the escape of the backslash at i stands for
+unfoldable pub withEscape : ℕ → List ℕ → ℕ → List ℕ → Read Meaning → Move (List ℕ)
+withEscape kind s i text (got m j) = goes j (text ++ meant kind s i j m)
+withEscape kind s i text (refused n j a b) = stops n j a b
+
+-- STRING AND BYTES BODIES
+pub data StringCase : Type 0 where
+  over escapes foreign plain : StringCase
+
+unfoldable pub stringCase : ℕ → List ℕ → ℕ → StringCase
+stringCase kind s i =
+    if atEnd s i then over else
+    if code s i is "\\" && not (isRaw kind) then escapes else
+    if isBytes kind && leb 0x80 (code s i) then foreign else plain
+
+unfoldable pub stringMove : ℕ → List ℕ → ℕ → List ℕ → Move (List ℕ)
+stringMove kind s i text =
+    elim (stringCase kind s i) [
+      | over ↦ ends
+      | escapes ↦ withEscape kind s i text (escape kind s (next s i))
+      | foreign ↦ stops nonAsciiInBytes (next s i) 0 0
+      | plain ↦ goes (next s i) (text ++ char s i)
+    ]
+
+-- n bounds the moves
+unfoldable pub stringN : ℕ → ℕ → List ℕ → ℕ → List ℕ → Read (List ℕ)
+stringN zero kind s i text = refused 0 i 0 0
+stringN (suc n) kind s i text =
+    elim (stringMove kind s i text) [
+      | goes j text′ ↦ stringN n kind s j text′
+      | stops m j a b ↦ refused m j a b
+      | calls ↦ refused 0 i 0 0
+      | ends ↦ got text i
+    ]
+
+-- F-STRING TEXT, at a depth
+pub data TextCase : Type 0 where
+  deep over opens last doubled lone escapes plain : TextCase
+
+-- a backslash before a brace stays and the brace is read next
+unfoldable pub textCase : ℕ → List ℕ → ℕ → ℕ → TextCase
+textCase kind s depth i =
+    let c = code s i in
+    let c′ = code s (next s i) in
+    if leb 2 depth then deep else
+    if atEnd s i then over else
+    if c is "{" && eqb depth 0 && c′ is "{" then doubled else
+    if c is "{" && eqb depth 0 && atEnd s (next s i) then last else
+    if c is "{" then opens else
+    if c is "}" && not (eqb depth 0) then over else
+    if c is "}" && c′ is "}" then doubled else
+    if c is "}" then lone else
+    if c is "\\" && not (isRaw kind) && not (c′ is "{}") then escapes else plain
+
+-- `text` is what was read since the last field
+unfoldable pub textMove : ℕ → List ℕ → ℕ → ℕ → List ℕ → Move (List ℕ)
+textMove kind s depth i text =
+    elim (textCase kind s depth i) [
+      | deep ↦ stops expressionNestedTooDeeply i 0 0
+      | over ↦ ends
+      | opens ↦ calls
+      | last ↦ stops unclosedLbrace (next s i) 0 0
+      | doubled ↦ goes (next s (next s i)) (text ++ char s i)
+      | lone ↦ stops singleRbrace (next s i) 0 0
+      | escapes ↦ withEscape kind s i text (escape kind s (next s i))
+      | plain ↦ goes (next s i) (text ++ char s i)
+    ]
+
+-- empty f-string or spec text gives no literal
+unfoldable pub filled : ℕ → List ℕ → List Piece
+filled depth [] = []
+filled depth (b ∷ text) = literal depth (b ∷ text) ∷ []
+
+-- A FIELD. Its state: the expression, whether that is blank so far, the open brackets (innermost first), the conversion,
+-- whether a self-documenting `=` was met, the spaces kept apart after it, and the spec's pieces
+pub data Field : Type 0 where
+  state : (expression : List ℕ) (blank : Bool) (brackets : List ℕ) (conversion : ℕ) (documented : Bool) (spaces : ℕ) (pieces : Option (List Piece)) → Field
+
+unfoldable pub fresh : Field
+fresh = state [] true [] 0 false 0 none
+
+-- blank means only space and U+0009 to U+000D
+abbrev pub isBlank : ℕ → Bool
+isBlank c = c is " " || inside (9 to 13) c
+
+-- more of the expression: its text, and whether it is blank
+unfoldable pub add : List ℕ → Bool → Field → Field
+add t blank (state e b o c d w p) = state (e ++ t) (b && blank) o c d w p
+
+unfoldable pub documented : Field → Field
+documented (state e b o c d w p) = state e b o c true w p
+
+unfoldable pub spaced : Field → Field
+spaced (state e b o c d w p) = state e b o c d (suc w) p
+
+unfoldable pub formatted : List Piece → Field → Field
+formatted ps (state e b o c d w p) = state e b o c d w (some ps)
+
+pub data FieldCase : Type 0 where
+  over pair converts documents formats opener closes closer quote space backslash stray plain : FieldCase
+
+unfoldable pub outside : List ℕ → Bool
+outside [] = true
+outside (b ∷ brackets) = false
+
+-- `out`: outside brackets; `doc`: after a self-documenting `=`
+unfoldable pub fieldCase : List ℕ → ℕ → Bool → Bool → FieldCase
+fieldCase s i out doc =
+    let c = code s i in
+    if atEnd s i then over else
+    if c is "!=><" && code s (next s i) is "=" then pair else
+    if c is "!" && out then converts else
+    if c is "=" && out then documents else
+    if c is ":" && out then formats else
+    if c is "([{" then opener else
+    if c is "}" && out then closes else
+    if c is ")]}" then closer else
+    if c is "\"'" then quote else
+    if c is " " && doc then space else
+    if c is "\\" then backslash else
+    if doc then stray else plain
+
+unfoldable pub caseOf : List ℕ → ℕ → Field → FieldCase
+caseOf s i (state e b o c d w p) = fieldCase s i (outside o) d
+
+-- the `!` at i: not after a blank expression; then s, a or r; then `}` or `:` must follow
+unfoldable pub conversionMove : List ℕ → ℕ → Field → Move Field
+conversionMove s i (state e b o c d w p) =
+    let flag = next s i in
+    let after = next s flag in
+    if b then stops emptyExpression flag 0 0 else
+    if atEnd s flag then stops unclosedLbrace flag 0 0 else
+    if not (code s flag is "sar") then stops invalidConversionFlag after 0 0 else
+    if code s after is "}:" then goes after (state e b o (code s flag) d w p) else stops unclosedLbrace after 0 0
+
+-- the opening bracket at i: 64 may be open at once
+unfoldable pub openMove : List ℕ → ℕ → Field → Move Field
+openMove s i (state e b o c d w p) =
+    if ltb (length o) 64 then goes (next s i) (state (e ++ char s i) false (code s i ∷ o) c d w p) else stops tooManyBrackets (next s i) 0 0
+
+abbrev pub matching : ℕ → ℕ → Bool
+matching a b = a is "(" && b is ")" || a is "[" && b is "]" || a is "{" && b is "}"
+
+-- the closing bracket at i must match the innermost open one by kind
+unfoldable pub closeMove : List ℕ → ℕ → Field → Move Field
+closeMove s i (state e b [] c d w p) = stops unmatched (next s i) (code s i) 0
+closeMove s i (state e b (a ∷ o) c d w p) =
+    if matching a (code s i) then goes (next s i) (state (e ++ char s i) false o c d w p) else stops mismatchedDelimiter (next s i) a (code s i)
+
+-- the quote at i opens a run that ends at the same quote
+unfoldable pub quoteMove : List ℕ → ℕ → Field → Move Field
+quoteMove s i f =
+    let close = next s i + before (λ b. eqb b (code s i)) (drop (next s i) s) in
+    if atEnd s close then stops unterminatedString (length s) 0 0 else goes (close + 1) (add (part s i (close + 1)) false f)
+
+unfoldable pub fieldMove : List ℕ → ℕ → Field → Move Field
+fieldMove s i f =
+    let after = next s i in
+    elim (caseOf s i f) [
+      | over ↦ stops unclosedLbrace i 0 0
+      | pair ↦ goes (next s after) (add (part s i (next s after)) false f)
+      | converts ↦ conversionMove s i f
+      | documents ↦ goes after (documented f)
+      | formats ↦ calls
+      | opener ↦ openMove s i f
+      | closes ↦ ends
+      | closer ↦ closeMove s i f
+      | quote ↦ quoteMove s i f
+      | space ↦ goes after (spaced f)
+      | backslash ↦ stops unterminatedString after 0 0
+      | stray ↦ stops unclosedLbrace after 0 0
+      | plain ↦ goes after (add (char s i) (isBlank (code s i)) f)
+    ]
+
+-- the direct literals and fields among a spec's pieces, which stand at a depth
+unfoldable pub direct : ℕ → List Piece → ℕ
+direct depth [] = 0
+direct depth (literal d t ∷ ps) = (if eqb d depth then 1 else 0) + direct depth ps
+direct depth (field d t c n i ∷ ps) = (if eqb d depth then 1 else 0) + direct depth ps
+direct depth (spec n ∷ ps) = direct depth ps
+direct depth (bytes t ∷ ps) = direct depth ps
+
+-- a self-documenting field has conversion r exactly if it has neither conversion nor spec
+unfoldable pub conversionOf : Bool → ℕ → Option (List Piece) → ℕ
+conversionOf false c p = c
+conversionOf true c none = if eqb c 0 then 114 else c
+conversionOf true c (some ps) = c
+
+-- a field that began at i, with its spec and the spec's parts
+unfoldable pub fieldPieces : ℕ → List ℕ → ℕ → ℕ → Option (List Piece) → List Piece
+fieldPieces depth e c i none = field depth e c 0 i ∷ []
+fieldPieces depth e c i (some ps) = field depth e c 1 i ∷ spec (direct (suc depth) ps) ∷ ps
+
+-- a self-documenting field gives the literals expression + `=` and spaces (even none) first
+unfoldable pub selfDocumenting : ℕ → Bool → List ℕ → ℕ → List Piece
+selfDocumenting depth false e w = []
+selfDocumenting depth true e w = literal depth (e ++ (61 ∷ [])) ∷ literal depth (replicate w 32) ∷ []
+
+-- the `}` before j that ends the field which began at i
+unfoldable pub finished : ℕ → ℕ → ℕ → Field → Read (List Piece)
+finished depth i j (state e b o c d w p) =
+    if b then refused emptyExpression j 0 0 else got (selfDocumenting depth d e w ++ fieldPieces depth e (conversionOf d c p) i p) j
+
+-- a spec's first piece: the bytes before the first brace
+unfoldable pub plainRun : List ℕ → ℕ
+plainRun s = before (λ b. b is "{}") s
+
+-- TEXT, FIELD AND SPEC call for one another; n bounds the moves. `ps` is the text's pieces so far; a field began at `from`
+unfoldable mutual
+  pub textN : ℕ → ℕ → List ℕ → ℕ → ℕ → List ℕ → List Piece → Read (List Piece)
+  textN zero kind s depth i text ps = refused 0 i 0 0
+  textN (suc n) kind s depth i text ps =
+      elim (textMove kind s depth i text) [
+        | goes j text′ ↦ textN n kind s depth j text′ ps
+        | stops m j a b ↦ refused m j a b
+        | calls ↦ elim (fieldN n kind s depth (next s i) (next s i) fresh) [
+          | got qs j ↦ textN n kind s depth j [] (ps ++ filled depth text ++ qs)
+          | refused m j a b ↦ refused m j a b
+        ]
+        | ends ↦ got (ps ++ filled depth text) i
+      ]
+
+  pub fieldN : ℕ → ℕ → List ℕ → ℕ → ℕ → ℕ → Field → Read (List Piece)
+  fieldN zero kind s depth from i f = refused 0 i 0 0
+  fieldN (suc n) kind s depth from i f =
+      elim (fieldMove s i f) [
+        | goes j f′ ↦ fieldN n kind s depth from j f′
+        | stops m j a b ↦ refused m j a b
+        | calls ↦ elim (specN n kind s depth (next s i)) [
+          | got ps j ↦ fieldN n kind s depth from j (formatted ps f)
+          | refused m j a b ↦ refused m j a b
+        ]
+        | ends ↦ finished depth from (next s i) f
+      ]
+
+  pub specN : ℕ → ℕ → List ℕ → ℕ → ℕ → Read (List Piece)
+  specN zero kind s depth i = refused 0 i 0 0
+  specN (suc n) kind s depth i =
+      let j = i + plainRun (drop i s) in
+      let first = filled (suc depth) (part s i j) in
+      elim (code s j is "{") [ true ↦ textN n kind s (suc depth) j [] first | false ↦ got first j ]
+
+-- moves enough for a body
+abbrev pub enough : List ℕ → ℕ
+enough s = length s + length s + 2
+
+-- a string's or bytes' one piece, empty or not
+unfoldable pub alone : ℕ → Read (List ℕ) → Read (List Piece)
+alone kind (got t j) = got ((if isBytes kind then bytes t else literal 0 t) ∷ []) j
+alone kind (refused m j a b) = refused m j a b
+
+-- ONE LITERAL: the body s of a kind
+unfoldable pub readBody : ℕ → List ℕ → Read (List Piece)
+readBody kind s =
+    elim (isFString kind) [ true ↦ textN (enough s) kind s 0 0 [] [] | false ↦ alone kind (stringN (enough s) kind s 0 []) ]

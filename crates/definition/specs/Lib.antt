@@ -1,0 +1,8 @@
+pub mod Numbers
+pub mod Chars
+pub mod Escapes
+pub mod Body
+pub mod Records
+pub mod Entry
+pub mod Reading
+pub mod Join

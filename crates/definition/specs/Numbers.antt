@@ -1,0 +1,123 @@
+-- 01's numbers by their names: the kinds of a literal, and what a refusal returns.
+use Prim.Native.Nat.{ℕ}
+use mathlib.Core.Bool.{Bool, false, _&&_, _||_}
+use mathlib.Core.List.{List, [], _∷_}
+use lib.Dec.{leb, eqb}
+use lib.ListN.{getD}
+
+-- Kinds: 0 String, 1 FString, 2 Bytes, 3 RawString, 4 RawFString, 5 RawBytes, 6 Unicode
+abbrev pub isFString : ℕ → Bool
+isFString kind = eqb kind 1 || eqb kind 4
+
+abbrev pub isBytes : ℕ → Bool
+isBytes kind = eqb kind 2 || eqb kind 5
+
+abbrev pub isRaw : ℕ → Bool
+isRaw kind = leb 3 kind && leb kind 5
+
+abbrev pub isUnicode : ℕ → Bool
+isUnicode kind = eqb kind 6
+
+-- the length of a kind's prefix
+unfoldable pub prefix : ℕ → ℕ
+prefix kind = getD (0 ∷ 1 ∷ 1 ∷ 1 ∷ 2 ∷ 2 ∷ 1 ∷ []) kind 0
+
+-- Refusals
+abbrev pub emptyList : ℕ
+emptyList = 1
+
+abbrev pub notSixes : ℕ
+notSixes = 2
+
+abbrev pub tooManyLiterals : ℕ
+tooManyLiterals = 3
+
+abbrev pub badDescriptor : ℕ
+badDescriptor = 4
+
+abbrev pub bodiesTooLong : ℕ
+bodiesTooLong = 5
+
+abbrev pub notUtf8 : ℕ
+notUtf8 = 6
+
+abbrev pub mixedBytes : ℕ
+mixedBytes = 7
+
+abbrev pub stringError : ℕ
+stringError = 10
+
+abbrev pub unicodeError : ℕ
+unicodeError = 11
+
+abbrev pub nonAsciiInBytes : ℕ
+nonAsciiInBytes = 12
+
+abbrev pub nameNotHeld : ℕ
+nameNotHeld = 13
+
+abbrev pub unclosedLbrace : ℕ
+unclosedLbrace = 20
+
+abbrev pub invalidConversionFlag : ℕ
+invalidConversionFlag = 21
+
+abbrev pub emptyExpression : ℕ
+emptyExpression = 22
+
+abbrev pub mismatchedDelimiter : ℕ
+mismatchedDelimiter = 23
+
+abbrev pub expressionNestedTooDeeply : ℕ
+expressionNestedTooDeeply = 24
+
+abbrev pub singleRbrace : ℕ
+singleRbrace = 25
+
+abbrev pub unmatched : ℕ
+unmatched = 26
+
+abbrev pub unterminatedString : ℕ
+unterminatedString = 27
+
+abbrev pub tooManyBrackets : ℕ
+tooManyBrackets = 28
+
+abbrev pub tooFewRecordPlaces : ℕ
+tooFewRecordPlaces = 30
+
+abbrev pub tooLittleTextRoom : ℕ
+tooLittleTextRoom = 31
+
+-- all of them, in the table's order
+abbrev pub refusals : List ℕ
+refusals =
+    emptyList
+    ∷ notSixes
+    ∷ tooManyLiterals
+    ∷ badDescriptor
+    ∷ bodiesTooLong
+    ∷ notUtf8
+    ∷ mixedBytes
+    ∷ stringError
+    ∷ unicodeError
+    ∷ nonAsciiInBytes
+    ∷ nameNotHeld
+    ∷ unclosedLbrace
+    ∷ invalidConversionFlag
+    ∷ emptyExpression
+    ∷ mismatchedDelimiter
+    ∷ expressionNestedTooDeeply
+    ∷ singleRbrace
+    ∷ unmatched
+    ∷ unterminatedString
+    ∷ tooManyBrackets
+    ∷ tooFewRecordPlaces
+    ∷ tooLittleTextRoom
+    ∷ []
+
+-- a number is one of a list
+infix 50 _among_
+abbrev pub _among_ : ℕ → List ℕ → Bool
+n among [] = false
+n among (m ∷ ms) = eqb n m || n among ms

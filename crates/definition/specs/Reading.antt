@@ -1,0 +1,116 @@
+-- A whole list: its reading, the room it needs, and what the two buffers hold afterwards (parse_strings).
+use Prim.Native.Nat.{ℕ, suc, _+_, _/_, _≤_}
+use mathlib.Core.Bool.{Bool, true, false}
+use mathlib.Core.List.{List, [], _∷_, _++_, map}
+use mathlib.Core.Option.{Option, none, some}
+use lib.Dec.{ltb}
+use lib.ListN.{length, drop, replicate}
+use Rattle.definition.specs.Numbers.{isFString, isBytes, isUnicode, notSixes, tooFewRecordPlaces, tooLittleTextRoom}
+use Rattle.definition.specs.Chars.{if_then_else_}
+use Rattle.definition.specs.Escapes.{Read, got, refused}
+use Rattle.definition.specs.Body.{Piece, readBody}
+use Rattle.definition.specs.Records.{Item, itemOf, Record, wordsOf, Sort, plain, joined, bytesOnly, Answer, answerOf}
+use Rattle.definition.specs.Entry.{Literal, sixes, placeOf, body, Refusal, refusal, anyOf, firstStart, entry}
+
+-- An outcome
+pub data Outcome (A : Type 0) : Type 0 where
+  accepts : (answer : A) → Outcome A
+  refuses : (why : Refusal) → Outcome A
+
+-- one literal, number i of the list
+unfoldable pub readLiteral : List ℕ → ℕ → Literal → Outcome (List Item)
+readLiteral script i l =
+    elim (readBody (l .kind) (body script l)) [
+      | got ps j ↦ accepts (map (itemOf (l .start) (l .end) (placeOf l 0)) ps)
+      | refused m j a b ↦ refuses (refusal m i (placeOf l j) a b)
+    ]
+
+-- the first's refusal, else the second's, else the items of both
+unfoldable pub andThen : Outcome (List Item) → Outcome (List Item) → Outcome (List Item)
+andThen (refuses r) o = refuses r
+andThen (accepts xs) (refuses r) = refuses r
+andThen (accepts xs) (accepts ys) = accepts (xs ++ ys)
+
+-- all literals from number i on, in order: the first refusal wins
+unfoldable pub readFrom : List ℕ → ℕ → List Literal → Outcome (List Item)
+readFrom script i [] = accepts []
+readFrom script i (l ∷ ls) = andThen (readLiteral script i l) (readFrom script (suc i) ls)
+
+unfoldable pub sortOf : List Literal → Sort
+sortOf ls = if anyOf isFString ls then joined else if anyOf isBytes ls then bytesOnly else plain
+
+-- 1 if the first kind is 6
+unfoldable pub uMark : List Literal → ℕ
+uMark [] = 0
+uMark (l ∷ ls) = if isUnicode (l .kind) then 1 else 0
+
+-- the last end, after one of `end`
+unfoldable pub lastEnd : ℕ → List Literal → ℕ
+lastEnd end [] = end
+lastEnd end (l ∷ ls) = lastEnd (l .end) ls
+
+unfoldable pub answered : List Literal → Outcome (List Item) → Outcome Answer
+answered ls (accepts xs) = accepts (answerOf (sortOf ls) (uMark ls) (firstStart ls) (lastEnd 0 ls) xs)
+answered ls (refuses r) = refuses r
+
+-- A WHOLE LIST, with room for anything
+unfoldable pub read : List ℕ → List Literal → Outcome Answer
+read script ls = elim (entry script ls) [ some r ↦ refuses r | none ↦ answered ls (readFrom script 0 ls) ]
+
+-- 30 before 31, exactly if the buffer holds fewer than needed: w words and t bytes are lent, eight words make one record place
+unfoldable pub roomed : ℕ → ℕ → Outcome Answer → Outcome Answer
+roomed w t (refuses r) = refuses r
+roomed w t (accepts x) =
+    let records = length (x .records) in
+    let size = length (x .text) in
+    if ltb (w / 8) records then refuses (refusal tooFewRecordPlaces 0 0 records size) else
+    if ltb t size then refuses (refusal tooLittleTextRoom 0 0 records size) else accepts x
+
+-- the records' words, in order
+unfoldable pub allWords : List Record → List ℕ
+allWords [] = []
+allWords (r ∷ rs) = wordsOf r ++ allWords rs
+
+-- a buffer with xs in front and what follows unchanged; a buffer of zeros
+abbrev pub inFront : List ℕ → List ℕ → List ℕ
+inFront xs buffer = xs ++ drop (length xs) buffer
+
+abbrev pub zeros : List ℕ → List ℕ
+zeros buffer = replicate (length buffer) 0
+
+-- what the word buffer and the text buffer hold after an outcome
+unfoldable pub wordsAfter : Outcome Answer → List ℕ → List ℕ
+wordsAfter (refuses r) buffer = zeros buffer
+wordsAfter (accepts x) buffer = inFront (allWords (x .records)) buffer
+
+unfoldable pub textAfter : Outcome Answer → List ℕ → List ℕ
+textAfter (refuses r) buffer = zeros buffer
+textAfter (accepts x) buffer = inFront (x .text) buffer
+
+-- WHAT A CALL RETURNS AND LEAVES
+pub record Call : Type 0 where
+  pub outcome : Outcome Answer
+  pub words : List ℕ
+  pub text : List ℕ
+
+unfoldable pub called : Outcome Answer → List ℕ → List ℕ → Call
+called o words text = record { outcome = o; words = wordsAfter o words; text = textAfter o text }
+
+-- the entry over descriptors, with both buffers lent
+unfoldable pub readInto : List ℕ → List Literal → List ℕ → List ℕ → Call
+readInto script ls words text = called (roomed (length words) (length text) (read script ls)) words text
+
+-- the entry over flat numbers
+unfoldable pub readNumbers : List ℕ → List ℕ → List ℕ → List ℕ → Call
+readNumbers script ns words text =
+    elim (sixes ns) [ none ↦ called (refuses (refusal notSixes 0 0 0 0)) words text | some ls ↦ readInto script ls words text ]
+
+-- The paper's numbers: of a sort; of an outcome, 0 first for an acceptance
+unfoldable pub sortNumber : Sort → ℕ
+sortNumber plain = 0
+sortNumber joined = 1
+sortNumber bytesOnly = 2
+
+unfoldable pub numbers : Outcome Answer → List ℕ
+numbers (refuses r) = r .number ∷ r .literal ∷ r .place ∷ r .a ∷ r .b ∷ []
+numbers (accepts x) = 0 ∷ sortNumber (x .sort) ∷ x .uMark ∷ x .start ∷ x .end ∷ length (x .records) ∷ length (x .text) ∷ []
