@@ -1,96 +1,203 @@
--- What holds of the character at an index of any bytes. Assumes nothing.
-use mathlib.Core.Path.{_≡_, refl, sym, _∙_, ap}
-use mathlib.Core.Bool.{Bool, true, false, _&&_, true≢false, false≢true}
+-- Characters of any bytes: where one ends, and which of them are ASCII. Assumes nothing.
+use mathlib.Core.Path.{_≡_, refl, sym, subst}
+use mathlib.Core.Bool.{Bool, true, false, _&&_}
 use mathlib.Core.List.{List, [], _∷_}
 use mathlib.Core.Option.{Option, none, some}
-use Prim.Native.Nat.{ℕ, zero, suc, _+_, _≤_, _<_, max}
-use native.Mathlib.Omega.{arith}
-use lib.Dec.{T, leb, ltb, ltb→lt}
-use lib.ListN.{length, drop, length-drop, List·getD-eq-default}
-use borrow.Author.Tests.{leb-true, leb-false, lt-leb, le-leb}
-use Rattle.definition.specs.Chars.{if_then_else_, byte, atEnd, Range, _to_, inside, table37, following, follow, width, next, before}
+use Prim.Native.Nat.{ℕ, zero, suc, _+_, _-_, _≤_, _<_, max}
+use native.Mathlib.Nat.{add-zero, add-assoc, le-of-suc-le-suc, not-suc-le-zero}
+use native.Mathlib.Omega.{arith, by-contra}
+use borrow.Author.Tests.{ltb-true, ltb-false, leb-true, leb-false, le-leb, lt-leb, eqb-true, eqb-false, eq-eqb, ne-eqb}
+use lib.Dec.{ltb, leb, eqb, lit≤}
+use lib.ListN.{length, drop, getD, length-drop, List·getD-eq-default}
+use Rattle.definition.specs.Chars.{if_then_else_, byte, atEnd, noCode, Range, _to_, inside, table37, following, follow, width, decoded, code, next, before}
 
--- every range ends below 256
-abbrev low : List Range → Bool
-low [] = true
-low ((a to e) ∷ rs) = ltb e 256 && low rs
+-- a test is true or false
+pub cases : {P : Type 0} (t : Bool) → (t ≡ true → P) → (t ≡ false → P) → P
+cases true f g = f refl
+cases false f g = g refl
 
-abbrev lows : List (Range × List Range) → Bool
-lows [] = true
-lows (row ∷ rows) = low (row .1) && lows rows
+pub no : {P : Type 0} → false ≡ true → P
+no h = let z : _≡_ {A = ℕ} 0 1 = cc in absurd (omega arith)
 
-and-left : (a b : Bool) → a && b ≡ true → a ≡ true
-and-left true b e = refl
-and-left false b e = e
+-- what is within a range, and what is not
+pub inside-true : (low high b : ℕ) → inside (low to high) b ≡ true → (low ≤ b) × (b ≤ high)
+inside-true low high b t =
+    cases (leb low b)
+    (λ e. cases (leb b high) (λ f. (leb-true _ _ e, leb-true _ _ f)) (λ f. no (rw (e, f) at t)))
+    (λ e. no (rw e at t))
 
-and-right : (a b : Bool) → a && b ≡ true → b ≡ true
-and-right true b e = e
-and-right false b e = absurd (false≢true e)
+pub inside-yes : (low high b : ℕ) → low ≤ b → b ≤ high → inside (low to high) b ≡ true
+inside-yes low high b p q = rw (le-leb _ _ p, le-leb _ _ q)
 
-following-low : (rows : List (Range × List Range)) (b : ℕ) (rs : List Range) → lows rows ≡ true → following rows b ≡ some rs → low rs ≡ true
-unfolding following
-following-low [] b rs l e = cc
-following-low (row ∷ rows) b rs l e = go (inside (row .0) b) refl (following-low rows b rs (and-right (low (row .1)) (lows rows) l))
-  where
-    go : (t : Bool) → inside (row .0) b ≡ t → (following rows b ≡ some rs → low rs ≡ true) → low rs ≡ true
-    go true t ih = let z : _≡_ {A = Option (List Range)} (some (row .1)) (some rs) = rw (t, following) at e in let y : row .1 ≡ rs = cc in rw y at (and-left (low (row .1)) (lows rows) l)
-    go false t ih = ih (rw (t, following) at e)
+pub inside-not : (low high b : ℕ) → (low ≤ b → b ≤ high → ⊥) → inside (low to high) b ≡ false
+inside-not low high b f =
+    cases (inside (low to high) b) (λ t. absurd (f (inside-true low high b t .0) (inside-true low high b t .1))) (λ t. t)
 
--- a byte below 256 stands in the body
+-- within a list the default does not matter
+pub byte-is : (s : List ℕ) (i : ℕ) → i < length s → getD s i 0 ≡ byte s i
+byte-is [] i h = absurd (not-suc-le-zero h)
+byte-is (x ∷ s) zero h = refl
+byte-is (x ∷ s) (suc i) h = byte-is s i (le-of-suc-le-suc h)
+
+-- a byte that is there is below the end
 pub byte-in : (s : List ℕ) (i : ℕ) → byte s i < 256 → i < length s
-byte-in s i h = go (leb (length s) i) refl
-  where
-    go : (t : Bool) → leb (length s) i ≡ t → i < length s
-    go true t = absurd (let e : byte s i ≡ 256 = List·getD-eq-default s 256 {n = i} (leb-true (length s) i t) in omega arith)
-    go false t = leb-false (length s) i t
+byte-in s i h =
+    by-contra (suc i) (length s)
+    (λ (k : length s < suc i). let e = List·getD-eq-default s 256 (le-of-suc-le-suc k) in omega arith)
 
-follow-in : (rs : List Range) (s : List ℕ) (i : ℕ) → i ≤ length s → low rs ≡ true → follow rs s i ≡ true → i + length rs ≤ length s
-unfolding follow
-follow-in [] s i h l f = omega arith
-follow-in ((a to e) ∷ rs) s i h l f =
-    let small : e < 256 = ltb-below (and-left (ltb e 256) (low rs) l) in
-    let inner : inside (a to e) (byte s i) ≡ true = and-left (inside (a to e) (byte s i)) (follow rs s (i + 1)) f in
-    let top : byte s i ≤ e = leb-true (byte s i) e (and-right (leb a (byte s i)) (leb (byte s i) e) inner) in
-    let here : i < length s = byte-in s i (omega arith) in
-    let rest = follow-in rs s (i + 1) (omega arith) (and-right (ltb e 256) (low rs) l) (and-right (inside (a to e) (byte s i)) (follow rs s (i + 1)) f) in
-    omega arith
-  where
-    ltb-below : ltb e 256 ≡ true → e < 256
-    ltb-below t = ltb→lt e 256 (rw t tt)
+past-bytes : following table37 256 ≡ none
+unfolding following table37
+past-bytes = refl
 
--- a well-formed character ends in the body
-pub width-in : (s : List ℕ) (i : ℕ) → i < length s → i + width s i ≤ length s
-unfolding width table37
-width-in s i h = go (following table37 (byte s i)) refl
-  where
-    fits : (rs : List Range) (t : Bool) → follow rs s (i + 1) ≡ t → following table37 (byte s i) ≡ some rs → i + width s i ≤ length s
-    fits rs true t e = rw (e, t, width) (let f = follow-in rs s (i + 1) (omega arith) (following-low table37 (byte s i) rs refl e) t in omega arith)
-    fits rs false t e = rw (e, t, width) (omega arith)
+-- what holds of each row, with its number from k on
+abbrev pub Each : (ℕ → Range × List Range → Type 0) → ℕ → List (Range × List Range) → Type 0
+Each Q k [] = Unit {0}
+Each Q k (row ∷ rows) = Q k row × Each Q (suc k) rows
 
-    go : (o : Option (List Range)) → following table37 (byte s i) ≡ o → i + width s i ≤ length s
-    go none e = rw (e, width) (omega arith)
-    go (some rs) e = fits rs (follow rs s (i + 1)) refl e
+-- the character at i by its row
+module _ (s : List ℕ) (i : ℕ) where
+  -- the bytes from i + n on lie in the ranges
+  abbrev Within : List Range → ℕ → Type 0
+  Within [] n = Unit {0}
+  Within ((low to high) ∷ rs) n = (low ≤ byte s (i + n)) × (byte s (i + n) ≤ high) × Within rs (n + 1)
 
--- the next character begins later, and no later than the end
-pub next-past : (s : List ℕ) (i : ℕ) → i < length s → i < next s i
-unfolding next
-next-past s i h = rw (lt-leb (length s) i h) (omega arith)
+  within : (rs : List Range) (n : ℕ) → follow rs s (i + n) ≡ true → Within rs n
+  unfolding follow
+  within [] n t = tt
+  within ((low to high) ∷ rs) n t =
+      cases (inside (low to high) (byte s (i + n)))
+      (λ e.
+      let h = inside-true low high (byte s (i + n)) e in
+      (h .0, h .1, within rs (n + 1) (rw (e, add-assoc i n 1) at t)))
+      (λ e. no (rw e at t))
 
-pub next-in : (s : List ℕ) (i : ℕ) → i ≤ length s → next s i ≤ length s
-unfolding next
-next-in s i h = go (atEnd s i) refl
-  where
-    go : (t : Bool) → atEnd s i ≡ t → next s i ≤ length s
-    go true t = rw (t, next) h
-    go false t = let l : i < length s = leb-false (length s) i t in rw (t, next) (omega (arith, width-in s i l))
+  module _ (P : ℕ → Type 0) (none-is : P 0) where
+    -- what the characters of a row have
+    abbrev Of : ℕ → Range × List Range → Type 0
+    Of j (low to high, rs) = low ≤ byte s i → byte s i ≤ high → Within rs 1 → P (suc (length rs))
 
-pub next-from : (s : List ℕ) (i : ℕ) → i ≤ next s i
-unfolding next
-next-from s i = go (atEnd s i)
-  where
-    go : (t : Bool) → i ≤ (if t then i else i + max 1 (width s i))
-    go true = omega arith
-    go false = omega arith
+    by-rows : (k : ℕ) (rows : List (Range × List Range)) → Each Of k rows → P (elim (following rows (byte s i)) [ none ↦ 0 | some rs ↦ if follow rs s (i + 1) then suc (length rs) else 0 ])
+    unfolding following
+    by-rows k [] e = none-is
+    by-rows k ((low to high, rs) ∷ rows) e =
+        cases (inside (low to high) (byte s i))
+        (λ t.
+        cases (follow rs s (i + 1))
+        (λ f. let h = inside-true low high (byte s i) t in rw (t, f) (e .0 (h .0) (h .1) (within rs 1 f)))
+        (λ f. rw (t, f) none-is))
+        (λ t. rw t (by-rows (suc k) rows (e .1)))
+
+    -- what holds of none, and of the characters of each row, holds of the one at i
+    by-row : Each Of 1 table37 → P (width s i)
+    unfolding width
+    by-row e = by-rows 1 table37 e
+
+  -- a byte that no character begins with
+  abbrev Tail : ℕ → Type 0
+  Tail j = (0x80 ≤ byte s j) × (byte s j ≤ 0xBF)
+
+  -- what the character of n bytes at i has
+  record Formed (n : ℕ) : Type 0 where
+    short : n ≤ 4
+    two : 1 < n → Tail (i + 1)
+    three : 2 < n → Tail (i + 2)
+    four : 3 < n → Tail (i + 3)
+    wide : 0x80 ≤ byte s i → 0x80 ≤ decoded n s i
+    below : decoded n s i < noCode
+
+  formed : Formed (width s i)
+  unfolding table37 decoded
+  formed =
+      by-row Formed (omega arith) (
+        (λ l h w. omega arith),
+        ((λ l h w. omega arith), ((λ l h w. omega arith), ((λ l h w. omega arith), ((λ l h w. omega arith), ((λ l h w. omega arith), ((λ l h w. omega arith), ((λ l h w. omega arith), ((λ l h w. omega arith), tt)))))))),
+      )
+
+  -- the next character begins later, and no later than the end
+  pub next-past : i < length s → i < next s i
+  unfolding next
+  next-past h = rw (lt-leb _ _ h) (omega arith)
+
+  pub next-from : i ≤ next s i
+  unfolding next
+  next-from = cases (atEnd s i) (λ e. rw (e, next) (omega arith)) (λ e. rw (e, next) (omega arith))
+
+  -- between a character's first byte and the next character
+  pub between : (j : ℕ) → i < j → j < next s i → Tail j
+  unfolding next
+  between j l h = cases (atEnd s i) (λ e. absurd (let k = rw (e, next) at h in omega arith)) (λ e. within-width (rw (e, next) at h))
+    where
+      is : (m : ℕ) → j ≡ m → Tail m → Tail j
+      is m e t = subst (λ (x : ℕ). Tail x) (sym e) t
+
+      within-width : j < i + max 1 (width s i) → Tail j
+      within-width h =
+          let f = formed in
+          let k = f .short in
+          cases (eqb j (i + 1))
+          (λ t. let e = eqb-true j (i + 1) t in is (i + 1) e (f .two (omega arith)))
+          (λ t.
+          let n = eqb-false j (i + 1) t in
+          cases (eqb j (i + 2))
+          (λ u. let e = eqb-true j (i + 2) u in is (i + 2) e (f .three (omega arith)))
+          (λ u. let m = eqb-false j (i + 2) u in is (i + 3) (omega arith) (f .four (omega arith))))
+
+  pub next-in : i ≤ length s → next s i ≤ length s
+  unfolding next
+  next-in h = cases (atEnd s i) (λ e. rw (e, next) h) (λ e. inside-next (leb-false _ _ e))
+    where
+      inside-next : i < length s → next s i ≤ length s
+      inside-next l =
+          by-contra (next s i) (length s)
+          (λ (k : length s < next s i).
+          let t = between (next s i - 1) (omega arith) (omega arith) in
+          omega (arith, byte-in s (next s i - 1) (omega arith)))
+
+  pub code-below : i < length s → code s i < noCode
+  unfolding code
+  code-below h = rw (lt-leb _ _ h) (formed .below)
+
+  -- every character of more than a byte is above ASCII, and what stands past the end
+  pub code-wide : 0x80 ≤ byte s i → 0x80 ≤ code s i
+  unfolding code
+  code-wide h = cases (atEnd s i) (λ e. rw e (lit≤ tt)) (λ e. rw e (formed .wide h))
+
+  -- past the end there is none
+  pub width-end : length s ≤ i → width s i ≡ 0
+  unfolding width
+  width-end h = rw (List·getD-eq-default s 256 h, past-bytes, width)
+
+  pub width-in : i ≤ length s → i + width s i ≤ length s
+  unfolding next
+  width-in h =
+      cases (atEnd s i) (λ e. rw (width-end (leb-true _ _ e)) (omega arith))
+      (λ e. let k = rw (e, next) at (next-in h) in omega arith)
+
+  pub step-in : i < length s → i + max 1 (width s i) ≤ length s
+  step-in h = omega (arith, width-in (omega arith))
+
+  -- an ASCII byte is a character
+  module _ (h : byte s i < 0x80) where
+    pub width-ascii : width s i ≡ 1
+    unfolding width following follow table37
+    width-ascii = rw (inside-yes 0 0x7F (byte s i) (omega arith) (omega arith), width, following)
+
+    pub next-ascii : next s i ≡ i + 1
+    unfolding next
+    next-ascii = rw (lt-leb _ _ (byte-in s i (omega arith)), width-ascii)
+
+    pub code-ascii : code s i ≡ byte s i
+    unfolding code decoded
+    code-ascii = rw (lt-leb _ _ (byte-in s i (omega arith)), width-ascii)
+
+  -- so an ASCII code is told by the byte
+  pub code-is : (a : ℕ) → a < 0x80 → eqb (code s i) a ≡ eqb (byte s i) a
+  code-is a h =
+      cases (ltb (byte s i) 0x80) (λ e. rw (code-ascii (ltb-true _ _ e)))
+      (λ e.
+      let l : 0x80 ≤ byte s i = ltb-false _ _ e in
+      let k = code-wide l in
+      rw (ne-eqb (code s i) a (omega arith), ne-eqb (byte s i) a (omega arith)))
 
 before-most : (test : ℕ → Bool) (l : List ℕ) → before test l ≤ length l
 unfolding before
