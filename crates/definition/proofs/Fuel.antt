@@ -2,15 +2,15 @@
 use mathlib.Core.Path.{_≡_, refl, sym, _∙_}
 use mathlib.Core.Bool.{Bool, true, false}
 use mathlib.Core.List.{List, [], _∷_, _++_}
-use Prim.Native.Nat.{ℕ, zero, suc, _+_, _-_, _≤_, _<_}
+use Prim.Native.Nat.{ℕ, zero, suc, _+_, _-_, _*_, _≤_, _<_}
 use native.Mathlib.Omega.{arith}
 use lib.ListN.{length, drop}
-use Rattle.definition.specs.Numbers.{isFString}
-use Rattle.definition.specs.Chars.{_is_, code, next}
+use Rattle.definition.specs.Numbers.{isFString, isBytes}
+use Rattle.definition.specs.Chars.{if_then_else_, _is_, part, code, next}
 use Rattle.definition.specs.Escapes.{Read, got, refused}
-use Rattle.definition.specs.Body.{Piece, Move, goes, stops, calls, ends, stringMove, stringN, filled, Field, fresh, formatted, textMove, fieldMove, finished, plainRun, textN, fieldN, specN, enough, alone, readBody}
+use Rattle.definition.specs.Body.{Piece, literal, bytes, Move, goes, stops, calls, ends, stringMove, stringN, filled, Field, state, fresh, formatted, textMove, fieldMove, finished, plainRun, textN, fieldN, specN, enough, alone, readBody}
 use Rattle.definition.proofs.CharLaws.{next-past, next-in, next-from, before-in}
-use Rattle.definition.proofs.Moves.{Sound, Ahead, later, string-ahead, text-ahead, field-ahead, finished-sound}
+use Rattle.definition.proofs.Moves.{Sound, textSize, weight, Ahead, later, part-short, string-ahead, text-ahead, fieldSize, field-ahead, finished-sound, Light, weight-append, filled-light, finished-light}
 use Rattle.definition.proofs.Steps.{string-goes, string-stops, string-ends, text-goes, text-stops, text-ends, text-got, text-refused, field-goes, field-stops, field-ends, field-got, field-refused, firstEnd, firstPiece, spec-calls, spec-ends}
 
 -- moves enough at i: twice the bytes left, and e more
@@ -21,24 +21,36 @@ first-in : (s : List ℕ) (i : ℕ) → i ≤ length s → firstEnd s i ≤ leng
 unfolding plainRun
 first-in s i h = before-in (λ b. b is "{}") s i h
 
--- a sound reading, and the same one again
-abbrev Agree : {A : Type 0} → List ℕ → ℕ → Read A → Read A → Type 0
-Agree s i r r′ = Sound s i r × (r ≡ r′)
+first-light : (s : List ℕ) (depth i : ℕ) → weight (firstPiece s depth i) + 0 + 4 * i ≤ 0 + 4 * firstEnd s i
+first-light s depth i = omega (arith, filled-light (suc depth) (part s i (firstEnd s i)), part-short s i (firstEnd s i))
 
-both-later : {A : Type 0} (s : List ℕ) (i j : ℕ) (r r′ : Read A) → i ≤ j → Agree s j r r′ → Agree s i r r′
-both-later s i j r r′ h p = (later s i j r h (p .0), p .1)
+formatted-size : (ps : List Piece) (f : Field) → fieldSize (formatted ps f) ≤ fieldSize f + weight ps
+unfolding formatted
+formatted-size ps (state e b o c d w p) = omega arith
+
+-- a sound reading that is light from w on, and the same one again
+abbrev Agree : {A : Type 0} → (A → ℕ) → ℕ → List ℕ → ℕ → Read A → Read A → Type 0
+Agree size w s i r r′ = Sound s i r × (r ≡ r′) × Light size w i r
+
+lighter : {A : Type 0} (size : A → ℕ) (w w′ i j : ℕ) (r : Read A) → w′ + 4 * i ≤ w + 4 * j → Light size w′ j r → Light size w i r
+lighter size w w′ i j (got v k) h p = omega arith
+lighter size w w′ i j (refused n k a b) h p = tt
+
+both-later : {A : Type 0} (size : A → ℕ) (w w′ : ℕ) (s : List ℕ) (i j : ℕ) (r r′ : Read A) → i ≤ j → w′ + 4 * i ≤ w + 4 * j → Agree size w′ s j r r′ → Agree size w s i r r′
+both-later size w w′ s i j r r′ h k p = (later s i j r h (p .0), p .1, lighter size w w′ i j r k (p .2))
 
 -- the three readers with n moves: sound, and the same with m moves
 record Reads (n : ℕ) : Type 0 where
   text : (m kind : ℕ) (s : List ℕ) (depth i : ℕ) (text : List ℕ) (ps : List Piece) → i ≤ length s → Moves s i 1 n → Moves s i 1 m
-      → Agree s i (textN n kind s depth i text ps) (textN m kind s depth i text ps)
+      → Agree weight (weight ps + textSize text) s i (textN n kind s depth i text ps) (textN m kind s depth i text ps)
   field : (m kind : ℕ) (s : List ℕ) (depth from i : ℕ) (f : Field) → i ≤ length s → Moves s i 1 n → Moves s i 1 m
-      → Agree s i (fieldN n kind s depth from i f) (fieldN m kind s depth from i f)
-  spec : (m kind : ℕ) (s : List ℕ) (depth i : ℕ) → i ≤ length s → Moves s i 2 n → Moves s i 2 m → Agree s i (specN n kind s depth i) (specN m kind s depth i)
+      → Agree weight (fieldSize f) s i (fieldN n kind s depth from i f) (fieldN m kind s depth from i f)
+  spec : (m kind : ℕ) (s : List ℕ) (depth i : ℕ) → i ≤ length s → Moves s i 2 n → Moves s i 2 m → Agree weight 0 s i (specN n kind s depth i) (specN m kind s depth i)
 
 module _ (n : ℕ) (R : Reads n) (kind : ℕ) (s : List ℕ) where
   text-step : (m depth i : ℕ) (text : List ℕ) (ps : List Piece) → i ≤ length s → Moves s i 1 (suc n) → Moves s i 1 m
-      → Agree s i (textN (suc n) kind s depth i text ps) (textN m kind s depth i text ps)
+      → Agree weight (weight ps + textSize text) s i (textN (suc n) kind s depth i text ps) (textN m kind s depth i text ps)
+  unfolding fresh
   text-step zero depth i text ps l p q = absurd (omega arith)
   text-step (suc m) depth i text ps l p q = go (textMove kind s depth i text) refl (text-ahead kind s depth i text l)
     where
@@ -46,29 +58,30 @@ module _ (n : ℕ) (R : Reads n) (kind : ℕ) (s : List ℕ) where
       a = next s i
 
       Goal : Type 0
-      Goal = Agree s i (textN (suc n) kind s depth i text ps) (textN (suc m) kind s depth i text ps)
+      Goal = Agree weight (weight ps + textSize text) s i (textN (suc n) kind s depth i text ps) (textN (suc m) kind s depth i text ps)
 
-      after : (r : Read (List Piece)) → fieldN n kind s depth a a fresh ≡ r → Sound s a r → fieldN n kind s depth a a fresh ≡ fieldN m kind s depth a a fresh → i < length s → textMove kind s depth i text ≡ calls → Goal
-      after (got qs j) f sound same h e =
+      after : (r : Read (List Piece)) → fieldN n kind s depth a a fresh ≡ r → Sound s a r → Light weight 0 a r → fieldN n kind s depth a a fresh ≡ fieldN m kind s depth a a fresh → i < length s → textMove kind s depth i text ≡ calls → Goal
+      after (got qs j) f sound light same h e =
           let qs′ = ps ++ filled depth text ++ qs in
           rw (text-got n kind s depth i text ps qs j e f, text-got m kind s depth i text ps qs j e (sym same ∙ f))
-          (both-later s i j (textN n kind s depth j [] qs′) (textN m kind s depth j [] qs′) (omega (arith, next-from s i))
+          (both-later weight (weight ps + textSize text) (weight qs′ + 0) s i j (textN n kind s depth j [] qs′) (textN m kind s depth j [] qs′) (omega (arith, next-from s i))
+          (omega (arith, next-from s i, weight-append (ps ++ filled depth text) qs, weight-append ps (filled depth text), filled-light depth text))
           (R .text m kind s depth j [] qs′ (sound .1) (omega (arith, next-past s i h)) (omega (arith, next-past s i h))))
-      after (refused x j b c) f sound same h e =
-          rw (text-refused n kind s depth i text ps x j b c e f, text-refused m kind s depth i text ps x j b c e (sym same ∙ f)) (sound, refl)
+      after (refused x j b c) f sound light same h e =
+          rw (text-refused n kind s depth i text ps x j b c e f, text-refused m kind s depth i text ps x j b c e (sym same ∙ f)) (sound, refl, tt)
 
-      go : (x : Move (List ℕ)) → textMove kind s depth i text ≡ x → Ahead (i < length s) (Unit {0}) s i x → Goal
+      go : (x : Move (List ℕ)) → textMove kind s depth i text ≡ x → Ahead textSize (textSize text) (i < length s) (Unit {0}) s i x → Goal
       go (goes j text′) e h =
           rw (text-goes n kind s depth i text ps j text′ e, text-goes m kind s depth i text ps j text′ e)
-          (both-later s i j (textN n kind s depth j text′ ps) (textN m kind s depth j text′ ps) (omega arith) (R .text m kind s depth j text′ ps (h .1) (omega arith) (omega arith)))
-      go (stops x j b c) e h = rw (text-stops n kind s depth i text ps x j b c e, text-stops m kind s depth i text ps x j b c e) (h, refl)
+          (both-later weight (weight ps + textSize text) (weight ps + textSize text′) s i j (textN n kind s depth j text′ ps) (textN m kind s depth j text′ ps) (omega arith) (omega arith) (R .text m kind s depth j text′ ps (h .1) (omega arith) (omega arith)))
+      go (stops x j b c) e h = rw (text-stops n kind s depth i text ps x j b c e, text-stops m kind s depth i text ps x j b c e) (h, refl, tt)
       go calls e h =
           let f = R .field m kind s depth a a fresh (next-in s i l) (omega (arith, next-past s i h)) (omega (arith, next-past s i h)) in
-          after (fieldN n kind s depth a a fresh) refl (f .0) (f .1) h e
-      go ends e h = rw (text-ends n kind s depth i text ps e, text-ends m kind s depth i text ps e) ((omega arith, l), refl)
+          after (fieldN n kind s depth a a fresh) refl (f .0) (f .2) (f .1) h e
+      go ends e h = rw (text-ends n kind s depth i text ps e, text-ends m kind s depth i text ps e) ((omega arith, l), refl, omega (arith, weight-append ps (filled depth text), filled-light depth text))
 
   field-step : (m depth from i : ℕ) (f : Field) → i ≤ length s → Moves s i 1 (suc n) → Moves s i 1 m
-      → Agree s i (fieldN (suc n) kind s depth from i f) (fieldN m kind s depth from i f)
+      → Agree weight (fieldSize f) s i (fieldN (suc n) kind s depth from i f) (fieldN m kind s depth from i f)
   field-step zero depth from i f l p q = absurd (omega arith)
   field-step (suc m) depth from i f l p q = go (fieldMove s i f) refl (field-ahead s i f l)
     where
@@ -76,39 +89,40 @@ module _ (n : ℕ) (R : Reads n) (kind : ℕ) (s : List ℕ) where
       a = next s i
 
       Goal : Type 0
-      Goal = Agree s i (fieldN (suc n) kind s depth from i f) (fieldN (suc m) kind s depth from i f)
+      Goal = Agree weight (fieldSize f) s i (fieldN (suc n) kind s depth from i f) (fieldN (suc m) kind s depth from i f)
 
-      after : (r : Read (List Piece)) → specN n kind s depth a ≡ r → Sound s a r → specN n kind s depth a ≡ specN m kind s depth a → i < length s → fieldMove s i f ≡ calls → Goal
-      after (got ps j) g sound same h e =
+      after : (r : Read (List Piece)) → specN n kind s depth a ≡ r → Sound s a r → Light weight 0 a r → specN n kind s depth a ≡ specN m kind s depth a → i < length s → fieldMove s i f ≡ calls → Goal
+      after (got ps j) g sound light same h e =
           rw (field-got n kind s depth from i f ps j e g, field-got m kind s depth from i f ps j e (sym same ∙ g))
-          (both-later s i j (fieldN n kind s depth from j (formatted ps f)) (fieldN m kind s depth from j (formatted ps f)) (omega (arith, next-from s i))
+          (both-later weight (fieldSize f) (fieldSize (formatted ps f)) s i j (fieldN n kind s depth from j (formatted ps f)) (fieldN m kind s depth from j (formatted ps f)) (omega (arith, next-from s i))
+          (omega (arith, next-from s i, formatted-size ps f))
           (R .field m kind s depth from j (formatted ps f) (sound .1) (omega (arith, next-past s i h)) (omega (arith, next-past s i h))))
-      after (refused x j b c) g sound same h e =
-          rw (field-refused n kind s depth from i f x j b c e g, field-refused m kind s depth from i f x j b c e (sym same ∙ g)) (sound, refl)
+      after (refused x j b c) g sound light same h e =
+          rw (field-refused n kind s depth from i f x j b c e g, field-refused m kind s depth from i f x j b c e (sym same ∙ g)) (sound, refl, tt)
 
-      go : (x : Move Field) → fieldMove s i f ≡ x → Ahead (i < length s) (i < length s) s i x → Goal
+      go : (x : Move Field) → fieldMove s i f ≡ x → Ahead fieldSize (fieldSize f) (i < length s) (i < length s) s i x → Goal
       go (goes j f′) e h =
           rw (field-goes n kind s depth from i f j f′ e, field-goes m kind s depth from i f j f′ e)
-          (both-later s i j (fieldN n kind s depth from j f′) (fieldN m kind s depth from j f′) (omega arith) (R .field m kind s depth from j f′ (h .1) (omega arith) (omega arith)))
-      go (stops x j b c) e h = rw (field-stops n kind s depth from i f x j b c e, field-stops m kind s depth from i f x j b c e) (h, refl)
+          (both-later weight (fieldSize f) (fieldSize f′) s i j (fieldN n kind s depth from j f′) (fieldN m kind s depth from j f′) (omega arith) (omega arith) (R .field m kind s depth from j f′ (h .1) (omega arith) (omega arith)))
+      go (stops x j b c) e h = rw (field-stops n kind s depth from i f x j b c e, field-stops m kind s depth from i f x j b c e) (h, refl, tt)
       go calls e h =
           let g = R .spec m kind s depth a (next-in s i l) (omega (arith, next-past s i h)) (omega (arith, next-past s i h)) in
-          after (specN n kind s depth a) refl (g .0) (g .1) h e
-      go ends e h = rw (field-ends n kind s depth from i f e, field-ends m kind s depth from i f e) (finished-sound s depth from i a f (next-from s i) (next-in s i l), refl)
+          after (specN n kind s depth a) refl (g .0) (g .2) (g .1) h e
+      go ends e h = rw (field-ends n kind s depth from i f e, field-ends m kind s depth from i f e) (finished-sound s depth from i a f (next-from s i) (next-in s i l), refl, finished-light depth from i a f (next-past s i h))
 
-  spec-step : (m depth i : ℕ) → i ≤ length s → Moves s i 2 (suc n) → Moves s i 2 m → Agree s i (specN (suc n) kind s depth i) (specN m kind s depth i)
+  spec-step : (m depth i : ℕ) → i ≤ length s → Moves s i 2 (suc n) → Moves s i 2 m → Agree weight 0 s i (specN (suc n) kind s depth i) (specN m kind s depth i)
   spec-step zero depth i l p q = absurd (omega arith)
   spec-step (suc m) depth i l p q = go (code s (firstEnd s i) is "{") refl
     where
       j : ℕ
       j = firstEnd s i
 
-      go : (t : Bool) → (code s j is "{") ≡ t → Agree s i (specN (suc n) kind s depth i) (specN (suc m) kind s depth i)
+      go : (t : Bool) → (code s j is "{") ≡ t → Agree weight 0 s i (specN (suc n) kind s depth i) (specN (suc m) kind s depth i)
       go true e =
           let qs = firstPiece s depth i in
           rw (spec-calls n kind s depth i e, spec-calls m kind s depth i e)
-          (both-later s i j (textN n kind s (suc depth) j [] qs) (textN m kind s (suc depth) j [] qs) (omega arith) (R .text m kind s (suc depth) j [] qs (first-in s i l) (omega arith) (omega arith)))
-      go false e = rw (spec-ends n kind s depth i e, spec-ends m kind s depth i e) ((omega arith, first-in s i l), refl)
+          (both-later weight 0 (weight qs + 0) s i j (textN n kind s (suc depth) j [] qs) (textN m kind s (suc depth) j [] qs) (omega arith) (first-light s depth i) (R .text m kind s (suc depth) j [] qs (first-in s i l) (omega arith) (omega arith)))
+      go false e = rw (spec-ends n kind s depth i e, spec-ends m kind s depth i e) ((omega arith, first-in s i l), refl, omega (arith, first-light s depth i))
 
 reads : (n : ℕ) → Reads n
 reads zero = record {
@@ -122,19 +136,19 @@ reads (suc n) = record {
   spec = λ m kind s. spec-step n (reads n) kind s m;
 }
 
-string-reads : (n m kind : ℕ) (s : List ℕ) (i : ℕ) (text : List ℕ) → i ≤ length s → Moves s i 1 n → Moves s i 1 m → Agree s i (stringN n kind s i text) (stringN m kind s i text)
+string-reads : (n m kind : ℕ) (s : List ℕ) (i : ℕ) (text : List ℕ) → i ≤ length s → Moves s i 1 n → Moves s i 1 m → Agree textSize (textSize text) s i (stringN n kind s i text) (stringN m kind s i text)
 string-reads zero m kind s i text l p q = absurd (omega arith)
 string-reads (suc n) zero kind s i text l p q = absurd (omega arith)
 string-reads (suc n) (suc m) kind s i text l p q = go (λ j text′. string-reads n m kind s j text′) (stringMove kind s i text) refl (string-ahead kind s i text)
   where
-    go : ((j : ℕ) (text′ : List ℕ) → j ≤ length s → Moves s j 1 n → Moves s j 1 m → Agree s j (stringN n kind s j text′) (stringN m kind s j text′))
-        → (x : Move (List ℕ)) → stringMove kind s i text ≡ x → Ahead ⊥ (Unit {0}) s i x → Agree s i (stringN (suc n) kind s i text) (stringN (suc m) kind s i text)
+    go : ((j : ℕ) (text′ : List ℕ) → j ≤ length s → Moves s j 1 n → Moves s j 1 m → Agree textSize (textSize text′) s j (stringN n kind s j text′) (stringN m kind s j text′))
+        → (x : Move (List ℕ)) → stringMove kind s i text ≡ x → Ahead textSize (textSize text) ⊥ (Unit {0}) s i x → Agree textSize (textSize text) s i (stringN (suc n) kind s i text) (stringN (suc m) kind s i text)
     go ih (goes j text′) e h =
         rw (string-goes n kind s i text j text′ e, string-goes m kind s i text j text′ e)
-        (both-later s i j (stringN n kind s j text′) (stringN m kind s j text′) (omega arith) (ih j text′ (h .1) (omega arith) (omega arith)))
-    go ih (stops x j b c) e h = rw (string-stops n kind s i text x j b c e, string-stops m kind s i text x j b c e) (h, refl)
+        (both-later textSize (textSize text) (textSize text′) s i j (stringN n kind s j text′) (stringN m kind s j text′) (omega arith) (omega arith) (ih j text′ (h .1) (omega arith) (omega arith)))
+    go ih (stops x j b c) e h = rw (string-stops n kind s i text x j b c e, string-stops m kind s i text x j b c e) (h, refl, tt)
     go ih calls e h = absurd h
-    go ih ends e h = rw (string-ends n kind s i text e, string-ends m kind s i text e) ((omega arith, l), refl)
+    go ih ends e h = rw (string-ends n kind s i text e, string-ends m kind s i text e) ((omega arith, l), refl, omega arith)
 
 -- WITH ENOUGH MOVES THEIR NUMBER DOES NOT MATTER
 pub text-fuel : (n m kind : ℕ) (s : List ℕ) (depth i : ℕ) (text : List ℕ) (ps : List Piece) → i ≤ length s → Moves s i 1 n → Moves s i 1 m
@@ -151,18 +165,44 @@ spec-fuel n m kind s depth i l p q = reads n .spec m kind s depth i l p q .1
 pub string-fuel : (n m kind : ℕ) (s : List ℕ) (i : ℕ) (text : List ℕ) → i ≤ length s → Moves s i 1 n → Moves s i 1 m → stringN n kind s i text ≡ stringN m kind s i text
 string-fuel n m kind s i text l p q = string-reads n m kind s i text l p q .1
 
--- a whole body's reading is sound: no answer that moves ran out ever shows
-pub body-sound : (kind : ℕ) (s : List ℕ) → Sound s 0 (readBody kind s)
+-- with enough moves a reading stays in the body, and what it gives is light
+abbrev pub Reading : {A : Type 0} → (A → ℕ) → ℕ → List ℕ → ℕ → Read A → Type 0
+Reading size w s i r = Sound s i r × Light size w i r
+
+pub text-reading : (n kind : ℕ) (s : List ℕ) (depth i : ℕ) (text : List ℕ) (ps : List Piece) → i ≤ length s → Moves s i 1 n
+    → Reading weight (weight ps + textSize text) s i (textN n kind s depth i text ps)
+text-reading n kind s depth i text ps l p = let r = reads n .text n kind s depth i text ps l p p in (r .0, r .2)
+
+pub field-reading : (n kind : ℕ) (s : List ℕ) (depth from i : ℕ) (f : Field) → i ≤ length s → Moves s i 1 n
+    → Reading weight (fieldSize f) s i (fieldN n kind s depth from i f)
+field-reading n kind s depth from i f l p = let r = reads n .field n kind s depth from i f l p p in (r .0, r .2)
+
+pub spec-reading : (n kind : ℕ) (s : List ℕ) (depth i : ℕ) → i ≤ length s → Moves s i 2 n → Reading weight 0 s i (specN n kind s depth i)
+spec-reading n kind s depth i l p = let r = reads n .spec n kind s depth i l p p in (r .0, r .2)
+
+pub string-reading : (n kind : ℕ) (s : List ℕ) (i : ℕ) (text : List ℕ) → i ≤ length s → Moves s i 1 n → Reading textSize (textSize text) s i (stringN n kind s i text)
+string-reading n kind s i text l p = let r = string-reads n n kind s i text l p p in (r .0, r .2)
+
+-- of a whole body: no answer that moves ran out ever shows
+pub body-reading : (kind : ℕ) (s : List ℕ) → Reading weight 1 s 0 (readBody kind s)
 unfolding readBody alone
-body-sound kind s = go (isFString kind) refl
+body-reading kind s = go (isFString kind) refl
   where
     string : Read (List ℕ)
     string = stringN (enough s) kind s 0 []
 
-    one : (r : Read (List ℕ)) → Sound s 0 r → Sound s 0 (alone kind r)
-    one (got t j) p = p
-    one (refused m j a b) p = p
+    one : (r : Read (List ℕ)) → Reading textSize 0 s 0 r → Reading weight 1 s 0 (alone kind r)
+    one (got t j) p = (p .0, by-kind (isBytes kind))
+      where
+        by-kind : (b : Bool) → weight ((if b then bytes t else literal 0 t) ∷ []) + 4 * 0 ≤ 1 + 4 * j
+        by-kind true = omega arith
+        by-kind false = omega arith
+    one (refused m j a b) p = (p .0, tt)
 
-    go : (t : Bool) → isFString kind ≡ t → Sound s 0 (readBody kind s)
-    go true e = rw (e, readBody) (reads (enough s) .text (enough s) kind s 0 0 [] [] (omega arith) (omega arith) (omega arith) .0)
-    go false e = rw (e, readBody) (one string (string-reads (enough s) (enough s) kind s 0 [] (omega arith) (omega arith) (omega arith) .0))
+    more : (r : Read (List Piece)) → Reading weight 0 s 0 r → Reading weight 1 s 0 r
+    more (got ps j) p = (p .0, omega arith)
+    more (refused m j a b) p = p
+
+    go : (t : Bool) → isFString kind ≡ t → Reading weight 1 s 0 (readBody kind s)
+    go true e = rw (e, readBody) (more (textN (enough s) kind s 0 0 [] []) (text-reading (enough s) kind s 0 0 [] [] (omega arith) (omega arith)))
+    go false e = rw (e, readBody) (one string (string-reading (enough s) kind s 0 [] (omega arith) (omega arith)))

@@ -3,15 +3,15 @@ use mathlib.Core.Path.{_≡_, refl, sym, _∙_, ap}
 use mathlib.Core.Bool.{Bool, true, false, _&&_, _||_, not}
 use mathlib.Core.List.{List, [], _∷_, _++_}
 use mathlib.Core.Option.{Option, none, some}
-use Prim.Native.Nat.{ℕ, zero, suc, _+_, _*_, _≤_, _<_}
+use Prim.Native.Nat.{ℕ, zero, suc, _+_, _-_, _*_, _/_, _%_, _≤_, _<_}
 use native.Mathlib.Omega.{arith}
 use lib.Dec.{T, ltb, leb, eqb}
-use lib.ListN.{length, drop}
+use lib.ListN.{length, drop, length-append, length-take, length-replicate}
 use borrow.Author.Tests.{leb-false}
-use Rattle.definition.specs.Numbers.{refusals, _among_, unicodeError, nameNotHeld, stringError, emptyExpression, unclosedLbrace, invalidConversionFlag, tooManyBrackets, mismatchedDelimiter, unterminatedString}
-use Rattle.definition.specs.Chars.{if_then_else_, _is_, part, noCode, atEnd, inside, _to_, code, next, char, before}
-use Rattle.definition.specs.Escapes.{Read, got, refused, Meaning, stands, octalDigit, octalFrom, hexDigit, scalar, hexFrom, held, lookup, named, unicodeName, EscapeCase, ended, simple, octal, hex, name, newline, foreign, other, escapeCase, escape, meant}
-use Rattle.definition.specs.Body.{Piece, Move, goes, stops, calls, ends, withEscape, StringCase, stringCase, stringMove, TextCase, deep, opens, last, doubled, lone, textCase, textMove, Field, state, add, documented, spaced, FieldCase, pair, converts, documents, formats, opener, closes, closer, quote, space, backslash, stray, outside, fieldCase, caseOf, conversionMove, openMove, matching, closeMove, quoteMove, fieldMove, finished, selfDocumenting, fieldPieces, conversionOf}
+use Rattle.definition.specs.Numbers.{isBytes, refusals, _among_, unicodeError, nameNotHeld, stringError, emptyExpression, unclosedLbrace, invalidConversionFlag, tooManyBrackets, mismatchedDelimiter, unterminatedString}
+use Rattle.definition.specs.Chars.{if_then_else_, _is_, part, noCode, atEnd, inside, _to_, code, next, char, utf8, before}
+use Rattle.definition.specs.Escapes.{Read, got, refused, Meaning, stands, stays, vanishes, octalDigit, octalFrom, hexDigit, scalar, hexFrom, held, lookup, named, unicodeName, EscapeCase, ended, simple, octal, hex, name, newline, foreign, other, escapeCase, escape, encode, meant}
+use Rattle.definition.specs.Body.{Piece, literal, field, spec, bytes, Move, goes, stops, calls, ends, withEscape, StringCase, stringCase, stringMove, TextCase, deep, opens, last, doubled, lone, textCase, textMove, Field, state, isBlank, add, documented, spaced, FieldCase, pair, converts, documents, formats, opener, closes, closer, quote, space, backslash, stray, outside, fieldCase, caseOf, conversionMove, openMove, matching, closeMove, quoteMove, fieldMove, filled, finished, selfDocumenting, fieldPieces, conversionOf}
 use Rattle.definition.proofs.CharLaws.{next-past, next-in, next-from, before-in}
 
 -- the number stands in 01's table
@@ -23,12 +23,23 @@ abbrev pub Sound : {A : Type 0} → List ℕ → ℕ → Read A → Type 0
 Sound s i (got v j) = (i ≤ j) × (j ≤ length s)
 Sound s i (refused n j a b) = Listed n × (j ≤ length s)
 
--- a move at i: past i; C is what holds where it calls, and E where it ends
-abbrev pub Ahead : {A : Type 0} → Type 0 → Type 0 → List ℕ → ℕ → Move A → Type 0
-Ahead C E s i (goes j a) = (i < j) × (j ≤ length s)
-Ahead C E s i (stops n j a b) = Listed n × (j ≤ length s)
-Ahead C E s i calls = C
-Ahead C E s i ends = E
+-- a text's size, and that of pieces: twice what a text will weigh, and a record for each piece
+abbrev pub textSize : List ℕ → ℕ
+textSize text = length text + length text
+
+abbrev pub weight : List Piece → ℕ
+weight [] = 0
+weight (literal d t ∷ ps) = 1 + length t + weight ps
+weight (field d e c n i ∷ ps) = 1 + length e + weight ps
+weight (spec n ∷ ps) = 1 + weight ps
+weight (bytes t ∷ ps) = 1 + length t + weight ps
+
+-- a move at i from a state of size w: past i, with at most four more for each byte; C is what holds where it calls, and E where it ends
+abbrev pub Ahead : {A : Type 0} → (A → ℕ) → ℕ → Type 0 → Type 0 → List ℕ → ℕ → Move A → Type 0
+Ahead size w C E s i (goes j a) = (i < j) × (j ≤ length s) × (size a + 4 * i ≤ w + 4 * j)
+Ahead size w C E s i (stops n j a b) = Listed n × (j ≤ length s)
+Ahead size w C E s i calls = C
+Ahead size w C E s i ends = E
 
 -- from a later place on is from an earlier one on
 pub later : {A : Type 0} (s : List ℕ) (i j : ℕ) (r : Read A) → i ≤ j → Sound s j r → Sound s i r
@@ -101,36 +112,75 @@ name-sound s i h = go (not (code s i is "{")) (atEnd s (a + m)) refl
     go false true e = (tt, omega arith)
     go false false e = later s i a (named s a m) (next-from s i) (named-sound s a m (inner-in s (a + m) e))
 
-pub escape-sound : (kind : ℕ) (s : List ℕ) (i : ℕ) → i ≤ length s → Sound s i (escape kind s i)
+escape-at-end : (kind : ℕ) (s : List ℕ) (i : ℕ) → atEnd s i ≡ true → escapeCase kind s i ≡ ended
+unfolding escapeCase
+escape-at-end kind s i e = rw e
+
+-- an escape takes a character
+pub escape-sound : (kind : ℕ) (s : List ℕ) (i : ℕ) → i ≤ length s → Sound s (i + 1) (escape kind s i)
 unfolding escape
-escape-sound kind s i h = go (escapeCase kind s i) refl
+escape-sound kind s i l = at-end (atEnd s i) refl
   where
     a : ℕ
     a = next s i
 
-    on : {A : Type 0} (r : Read A) → Sound s a r → Sound s i r
-    on r p = later s i a r (next-from s i) p
+    k : a ≤ length s
+    k = next-in s i l
 
-    go : (x : EscapeCase) → escapeCase kind s i ≡ x → Sound s i (escape kind s i)
-    go ended e = rw (e, escape) (tt, h)
-    go (simple c) e = rw (e, escape) (next-from s i, next-in s i h)
-    go octal e = rw (e, escape) (on (octalFrom 2 (octalDigit (code s i)) s a) (octal-sound 2 (octalDigit (code s i)) s a (next-in s i h)))
-    go (hex n) e = rw (e, escape) (on (hexFrom n 0 s a a) (hex-sound n 0 s a a (next-in s i h) (next-in s i h)))
-    go name e = rw (e, escape) (on (unicodeName s a) (name-sound s a (next-in s i h)))
-    go newline e = rw (e, escape) (next-from s i, next-in s i h)
-    go foreign e = rw (e, escape) (tt, next-in s i h)
-    go other e = rw (e, escape) (next-from s i, next-in s i h)
+    on : {A : Type 0} (r : Read A) → i < length s → Sound s a r → Sound s (i + 1) r
+    on r h p = later s (i + 1) a r (omega (arith, next-past s i h)) p
+
+    go : (x : EscapeCase) → escapeCase kind s i ≡ x → i < length s → Sound s (i + 1) (escape kind s i)
+    go ended e h = rw (e, escape) (tt, l)
+    go (simple c) e h = rw (e, escape) (omega (arith, next-past s i h), k)
+    go octal e h = rw (e, escape) (on (octalFrom 2 (octalDigit (code s i)) s a) h (octal-sound 2 (octalDigit (code s i)) s a k))
+    go (hex n) e h = rw (e, escape) (on (hexFrom n 0 s a a) h (hex-sound n 0 s a a k k))
+    go name e h = rw (e, escape) (on (unicodeName s a) h (name-sound s a k))
+    go newline e h = rw (e, escape) (omega (arith, next-past s i h), k)
+    go foreign e h = rw (e, escape) (tt, k)
+    go other e h = rw (e, escape) (omega (arith, next-past s i h), k)
+
+    at-end : (t : Bool) → atEnd s i ≡ t → Sound s (i + 1) (escape kind s i)
+    at-end true e = rw (escape-at-end kind s i e, escape) (tt, l)
+    at-end false e = go (escapeCase kind s i) refl (inner-in s i e)
+
+-- what is taken as it stands is no longer than what was taken
+pub part-short : (s : List ℕ) (i j : ℕ) → length (part s i j) ≤ j - i
+part-short s i j = omega (arith, length-take (j - i) (drop i s))
+
+pub utf8-short : (c : ℕ) → length (utf8 c) ≤ 4
+unfolding utf8
+utf8-short c = go (ltb c 0x80) (ltb c 0x800) (ltb c 0x10000)
+  where
+    go : (x y z : Bool)
+        → length (if x then c ∷ [] else if y then (0xC0 + c / 64) ∷ (0x80 + c % 64) ∷ [] else if z then (0xE0 + c / 4096) ∷ (0x80 + c / 64 % 64) ∷ (0x80 + c % 64) ∷ [] else (0xF0 + c / 262144 % 8) ∷ (0x80 + c / 4096 % 64) ∷ (0x80 + c / 64 % 64) ∷ (0x80 + c % 64) ∷ []) ≤ 4
+    go true y z = omega arith
+    go false true z = omega arith
+    go false false true = omega arith
+    go false false false = omega arith
+
+meant-short : (kind : ℕ) (s : List ℕ) (i j : ℕ) (m : Meaning) → i + 2 ≤ j → length (meant kind s i j m) ≤ 2 * (j - i)
+unfolding meant encode
+meant-short kind s i j (stands c) h = go (isBytes kind)
+  where
+    go : (t : Bool) → length (if t then c % 256 ∷ [] else utf8 c) ≤ 2 * (j - i)
+    go true = omega arith
+    go false = omega (arith, utf8-short c)
+meant-short kind s i j stays h = omega (arith, part-short s i j)
+meant-short kind s i j vanishes h = omega arith
 
 -- the escape of a backslash at i
-escaped : (C : Type 0) (kind : ℕ) (s : List ℕ) (i : ℕ) (text : List ℕ) → i < length s → Ahead C (Unit {0}) s i (withEscape kind s i text (escape kind s (next s i)))
+escaped : (C : Type 0) (kind : ℕ) (s : List ℕ) (i : ℕ) (text : List ℕ) → i < length s → Ahead textSize (textSize text) C (Unit {0}) s i (withEscape kind s i text (escape kind s (next s i)))
 unfolding withEscape
 escaped C kind s i text h = go (escape kind s (next s i)) (escape-sound kind s (next s i) (next-in s i (omega arith)))
   where
-    go : (r : Read Meaning) → Sound s (next s i) r → Ahead C (Unit {0}) s i (withEscape kind s i text r)
-    go (got m j) p = (omega (arith, next-past s i h), p .1)
+    go : (r : Read Meaning) → Sound s (next s i + 1) r → Ahead textSize (textSize text) C (Unit {0}) s i (withEscape kind s i text r)
+    go (got m j) p =
+        let n = next-past s i h in
+        (omega arith, p .1, omega (arith, meant-short kind s i j m (omega arith), length-append text (meant kind s i j m)))
     go (refused n j a b) p = p
 
--- one character further
+-- one character further, with it or without
 on-by-one : (s : List ℕ) (i : ℕ) → i < length s → (i < next s i) × (next s i ≤ length s)
 on-by-one s i h = (next-past s i h, next-in s i (omega arith))
 
@@ -139,22 +189,29 @@ on-by-two : (s : List ℕ) (i : ℕ) → i < length s → (i < next s (next s i)
 on-by-two s i h =
     (omega (arith, next-past s i h, next-from s (next s i)), next-in s (next s i) (next-in s i (omega arith)))
 
+char-short : (s : List ℕ) (i : ℕ) (text : List ℕ) → length (text ++ char s i) + i ≤ length text + next s i
+unfolding char
+char-short s i text = omega (arith, next-from s i, part-short s i (next s i), length-append text (part s i (next s i)))
+
+with-char : (s : List ℕ) (i j : ℕ) (text : List ℕ) → (i < j) × (j ≤ length s) → next s i ≤ j → (i < j) × (j ≤ length s) × (textSize (text ++ char s i) + 4 * i ≤ textSize text + 4 * j)
+with-char s i j text h l = (h .0, h .1, omega (arith, char-short s i text))
+
 -- STRING AND BYTES BODIES
 string-at-end : (kind : ℕ) (s : List ℕ) (i : ℕ) → atEnd s i ≡ true → stringCase kind s i ≡ StringCase.over
 unfolding stringCase
 string-at-end kind s i e = rw e
 
-pub string-ahead : (kind : ℕ) (s : List ℕ) (i : ℕ) (text : List ℕ) → Ahead ⊥ (Unit {0}) s i (stringMove kind s i text)
+pub string-ahead : (kind : ℕ) (s : List ℕ) (i : ℕ) (text : List ℕ) → Ahead textSize (textSize text) ⊥ (Unit {0}) s i (stringMove kind s i text)
 unfolding stringMove
 string-ahead kind s i text = at-end (atEnd s i) refl
   where
-    go : (x : StringCase) → stringCase kind s i ≡ x → i < length s → Ahead ⊥ (Unit {0}) s i (stringMove kind s i text)
+    go : (x : StringCase) → stringCase kind s i ≡ x → i < length s → Ahead textSize (textSize text) ⊥ (Unit {0}) s i (stringMove kind s i text)
     go StringCase.over e h = rw (e, stringMove) tt
     go StringCase.escapes e h = rw (e, stringMove) (escaped ⊥ kind s i text h)
     go StringCase.foreign e h = rw (e, stringMove) (tt, next-in s i (omega arith))
-    go StringCase.plain e h = rw (e, stringMove) (on-by-one s i h)
+    go StringCase.plain e h = rw (e, stringMove) (with-char s i (next s i) text (on-by-one s i h) (omega arith))
 
-    at-end : (t : Bool) → atEnd s i ≡ t → Ahead ⊥ (Unit {0}) s i (stringMove kind s i text)
+    at-end : (t : Bool) → atEnd s i ≡ t → Ahead textSize (textSize text) ⊥ (Unit {0}) s i (stringMove kind s i text)
     at-end true e = rw (string-at-end kind s i e, stringMove) tt
     at-end false e = go (stringCase kind s i) refl (inner-in s i e)
 
@@ -163,25 +220,25 @@ text-at-end : (kind : ℕ) (s : List ℕ) (depth i : ℕ) → atEnd s i ≡ true
 unfolding textCase
 text-at-end kind s depth i e = rw e
 
-pub text-ahead : (kind : ℕ) (s : List ℕ) (depth i : ℕ) (text : List ℕ) → i ≤ length s → Ahead (i < length s) (Unit {0}) s i (textMove kind s depth i text)
+pub text-ahead : (kind : ℕ) (s : List ℕ) (depth i : ℕ) (text : List ℕ) → i ≤ length s → Ahead textSize (textSize text) (i < length s) (Unit {0}) s i (textMove kind s depth i text)
 unfolding textMove
 text-ahead kind s depth i text l = at-end (atEnd s i) refl
   where
-    deep-or-over : (t : Bool) → textCase kind s depth i ≡ (if t then deep else TextCase.over) → Ahead (i < length s) (Unit {0}) s i (textMove kind s depth i text)
+    deep-or-over : (t : Bool) → textCase kind s depth i ≡ (if t then deep else TextCase.over) → Ahead textSize (textSize text) (i < length s) (Unit {0}) s i (textMove kind s depth i text)
     deep-or-over true e = rw (e, textMove) (tt, l)
     deep-or-over false e = rw (e, textMove) tt
 
-    go : (x : TextCase) → textCase kind s depth i ≡ x → i < length s → Ahead (i < length s) (Unit {0}) s i (textMove kind s depth i text)
+    go : (x : TextCase) → textCase kind s depth i ≡ x → i < length s → Ahead textSize (textSize text) (i < length s) (Unit {0}) s i (textMove kind s depth i text)
     go deep e h = rw (e, textMove) (tt, l)
     go TextCase.over e h = rw (e, textMove) tt
     go opens e h = rw (e, textMove) h
     go last e h = rw (e, textMove) (tt, next-in s i l)
-    go doubled e h = rw (e, textMove) (on-by-two s i h)
+    go doubled e h = rw (e, textMove) (with-char s i (next s (next s i)) text (on-by-two s i h) (next-from s (next s i)))
     go lone e h = rw (e, textMove) (tt, next-in s i l)
     go TextCase.escapes e h = rw (e, textMove) (escaped (i < length s) kind s i text h)
-    go TextCase.plain e h = rw (e, textMove) (on-by-one s i h)
+    go TextCase.plain e h = rw (e, textMove) (with-char s i (next s i) text (on-by-one s i h) (omega arith))
 
-    at-end : (t : Bool) → atEnd s i ≡ t → Ahead (i < length s) (Unit {0}) s i (textMove kind s depth i text)
+    at-end : (t : Bool) → atEnd s i ≡ t → Ahead textSize (textSize text) (i < length s) (Unit {0}) s i (textMove kind s depth i text)
     at-end true e = deep-or-over (leb 2 depth) (text-at-end kind s depth i e)
     at-end false e = go (textCase kind s depth i) refl (inner-in s i e)
 
@@ -190,73 +247,108 @@ field-at-end : (s : List ℕ) (i : ℕ) (f : Field) → atEnd s i ≡ true → c
 unfolding caseOf fieldCase
 field-at-end s i (state e b o c d w p) h = rw h
 
-module _ (E : Type 0) (s : List ℕ) (i : ℕ) (h : i < length s) where
-  a : ℕ
-  a = next s i
+-- the size of a field's state: the expression, the spaces and the `=` twice, and the spec
+abbrev specWeight : Option (List Piece) → ℕ
+specWeight none = 0
+specWeight (some ps) = weight ps
 
-  conversion-ahead : (f : Field) → Ahead E E s i (conversionMove s i f)
-  unfolding conversionMove a
-  conversion-ahead (state e b o c d w p) =
-      go b (atEnd s a) (not (code s a is "sar")) (code s (next s a) is "}:")
+abbrev pub fieldSize : Field → ℕ
+fieldSize (state e b o c d w p) = 2 * (length e + w + (if d then 1 else 0)) + specWeight p
+
+add-size : (t : List ℕ) (b : Bool) (f : Field) → fieldSize (add t b f) ≡ fieldSize f + 2 * length t
+unfolding add
+add-size t b′ (state e b o c d w p) = omega (arith, length-append e t)
+
+documented-size : (f : Field) → fieldSize (documented f) ≤ fieldSize f + 2
+unfolding documented
+documented-size (state e b o c d w p) = omega arith
+
+spaced-size : (f : Field) → fieldSize (spaced f) ≡ fieldSize f + 2
+unfolding spaced
+spaced-size (state e b o c d w p) = omega arith
+
+module _ (s : List ℕ) (i : ℕ) (f : Field) (h : i < length s) where
+  abbrev Goes : Move Field → Type 0
+  Goes m = Ahead fieldSize (fieldSize f) (i < length s) (i < length s) s i m
+
+  -- more of the expression, up to j
+  with-part : (j : ℕ) (b : Bool) → (i < j) × (j ≤ length s) → Goes (goes j (add (part s i j) b f))
+  with-part j b k = (k .0, k .1, omega (arith, add-size (part s i j) b f, part-short s i j))
+
+module _ (s : List ℕ) (i : ℕ) (h : i < length s) (e : List ℕ) (b : Bool) (o : List ℕ) (c : ℕ) (d : Bool) (w : ℕ) (p : Option (List Piece)) where
+  abbrev f : Field
+  f = state e b o c d w p
+
+  conversion-ahead : Goes s i f h (conversionMove s i f)
+  unfolding conversionMove
+  conversion-ahead = go b (atEnd s a) (not (code s a is "sar")) (code s (next s a) is "}:")
     where
-      go : (x y z t : Bool) → Ahead E E s i (if x then stops emptyExpression a 0 0 else if y then stops unclosedLbrace a 0 0 else if z then stops invalidConversionFlag (next s a) 0 0 else if t then goes (next s a) (state e b o (code s a) d w p) else stops unclosedLbrace (next s a) 0 0)
+      a : ℕ
+      a = next s i
+
+      go : (x y z t : Bool) → Goes s i f h (if x then stops emptyExpression a 0 0 else if y then stops unclosedLbrace a 0 0 else if z then stops invalidConversionFlag (next s a) 0 0 else if t then goes (next s a) (state e b o (code s a) d w p) else stops unclosedLbrace (next s a) 0 0)
       go true y z t = (tt, on-by-one s i h .1)
       go false true z t = (tt, on-by-one s i h .1)
       go false false true t = (tt, on-by-two s i h .1)
-      go false false false true = on-by-two s i h
+      go false false false true = let k = on-by-two s i h in (k .0, k .1, omega arith)
       go false false false false = (tt, on-by-two s i h .1)
 
-  open-ahead : (f : Field) → Ahead E E s i (openMove s i f)
+  -- a bracket goes into the expression
+  with-bracket : (o′ : List ℕ) → Goes s i f h (goes (next s i) (state (e ++ char s i) false o′ c d w p))
+  with-bracket o′ = let k = on-by-one s i h in (k .0, k .1, omega (arith, char-short s i e))
+
+  open-ahead : Goes s i f h (openMove s i f)
   unfolding openMove
-  open-ahead (state e b o c d w p) = go (ltb (length o) 64)
+  open-ahead = go (ltb (length o) 64)
     where
-      go : (x : Bool) → Ahead E E s i (if x then goes (next s i) (state (e ++ char s i) false (code s i ∷ o) c d w p) else stops tooManyBrackets (next s i) 0 0)
-      go true = on-by-one s i h
+      go : (x : Bool) → Goes s i f h (if x then goes (next s i) (state (e ++ char s i) false (code s i ∷ o) c d w p) else stops tooManyBrackets (next s i) 0 0)
+      go true = with-bracket (code s i ∷ o)
       go false = (tt, on-by-one s i h .1)
 
-  close-ahead : (f : Field) → Ahead E E s i (closeMove s i f)
-  unfolding closeMove
-  close-ahead (state e b [] c d w p) = (tt, on-by-one s i h .1)
-  close-ahead (state e b (x ∷ o) c d w p) = go (matching x (code s i))
-    where
-      go : (t : Bool) → Ahead E E s i (if t then goes (next s i) (state (e ++ char s i) false o c d w p) else stops mismatchedDelimiter (next s i) x (code s i))
-      go true = on-by-one s i h
-      go false = (tt, on-by-one s i h .1)
+close-ahead : (s : List ℕ) (i : ℕ) (f : Field) (h : i < length s) → Goes s i f h (closeMove s i f)
+unfolding closeMove
+close-ahead s i (state e b [] c d w p) h = (tt, on-by-one s i h .1)
+close-ahead s i (state e b (x ∷ o) c d w p) h = go (matching x (code s i))
+  where
+    go : (t : Bool) → Goes s i (state e b (x ∷ o) c d w p) h (if t then goes (next s i) (state (e ++ char s i) false o c d w p) else stops mismatchedDelimiter (next s i) x (code s i))
+    go true = with-bracket s i h e b (x ∷ o) c d w p o
+    go false = (tt, on-by-one s i h .1)
 
-  quote-ahead : (f : Field) → Ahead E E s i (quoteMove s i f)
-  unfolding quoteMove
-  quote-ahead f = go (atEnd s close) refl
-    where
-      close : ℕ
-      close = next s i + before (λ b. eqb b (code s i)) (drop (next s i) s)
+quote-ahead : (s : List ℕ) (i : ℕ) (f : Field) (h : i < length s) → Goes s i f h (quoteMove s i f)
+unfolding quoteMove
+quote-ahead s i f h = go (atEnd s close) refl
+  where
+    close : ℕ
+    close = next s i + before (λ b. eqb b (code s i)) (drop (next s i) s)
 
-      go : (t : Bool) → atEnd s close ≡ t → Ahead E E s i (if t then stops unterminatedString (length s) 0 0 else goes (close + 1) (add (part s i (close + 1)) false f))
-      go true e = (tt, omega arith)
-      go false e = let c : close < length s = inner-in s close e in (omega (arith, next-from s i), omega arith)
+    go : (t : Bool) → atEnd s close ≡ t → Goes s i f h (if t then stops unterminatedString (length s) 0 0 else goes (close + 1) (add (part s i (close + 1)) false f))
+    go true e = (tt, omega arith)
+    go false e = let c : close < length s = inner-in s close e in with-part s i f h (close + 1) false (omega (arith, next-from s i), omega arith)
 
-pub field-ahead : (s : List ℕ) (i : ℕ) (f : Field) → i ≤ length s → Ahead (i < length s) (i < length s) s i (fieldMove s i f)
-unfolding fieldMove
+-- what a field's character does by its case, where there is one
+by-state : (s : List ℕ) (i : ℕ) (f : Field) (h : i < length s) → Goes s i f h (conversionMove s i f) × Goes s i f h (openMove s i f)
+by-state s i (state e b o c d w p) h = (conversion-ahead s i h e b o c d w p, open-ahead s i h e b o c d w p)
+
+pub field-ahead : (s : List ℕ) (i : ℕ) (f : Field) → i ≤ length s → Ahead fieldSize (fieldSize f) (i < length s) (i < length s) s i (fieldMove s i f)
+unfolding fieldMove char
 field-ahead s i f l = at-end (atEnd s i) refl
   where
-    E : Type 0
-    E = i < length s
-
-    go : (x : FieldCase) → caseOf s i f ≡ x → i < length s → Ahead E E s i (fieldMove s i f)
+    go : (x : FieldCase) → caseOf s i f ≡ x → (h : i < length s) → Goes s i f h (fieldMove s i f)
     go FieldCase.over e h = rw (e, fieldMove) (tt, l)
-    go pair e h = rw (e, fieldMove) (on-by-two s i h)
-    go converts e h = rw (e, fieldMove) (conversion-ahead E s i h f)
-    go documents e h = rw (e, fieldMove) (on-by-one s i h)
+    go pair e h = rw (e, fieldMove) (with-part s i f h (next s (next s i)) false (on-by-two s i h))
+    go converts e h = rw (e, fieldMove) (by-state s i f h .0)
+    go documents e h = rw (e, fieldMove) (let k = on-by-one s i h in (k .0, k .1, omega (arith, documented-size f)))
     go formats e h = rw (e, fieldMove) h
-    go opener e h = rw (e, fieldMove) (open-ahead E s i h f)
+    go opener e h = rw (e, fieldMove) (by-state s i f h .1)
     go closes e h = rw (e, fieldMove) h
-    go closer e h = rw (e, fieldMove) (close-ahead E s i h f)
-    go quote e h = rw (e, fieldMove) (quote-ahead E s i h f)
-    go space e h = rw (e, fieldMove) (on-by-one s i h)
+    go closer e h = rw (e, fieldMove) (close-ahead s i f h)
+    go quote e h = rw (e, fieldMove) (quote-ahead s i f h)
+    go space e h = rw (e, fieldMove) (let k = on-by-one s i h in (k .0, k .1, omega (arith, spaced-size f)))
     go backslash e h = rw (e, fieldMove) (tt, next-in s i l)
     go stray e h = rw (e, fieldMove) (tt, next-in s i l)
-    go FieldCase.plain e h = rw (e, fieldMove) (on-by-one s i h)
+    go FieldCase.plain e h = rw (e, fieldMove) (with-part s i f h (next s i) (isBlank (code s i)) (on-by-one s i h))
 
-    at-end : (t : Bool) → atEnd s i ≡ t → Ahead E E s i (fieldMove s i f)
+    at-end : (t : Bool) → atEnd s i ≡ t → Ahead fieldSize (fieldSize f) (i < length s) (i < length s) s i (fieldMove s i f)
     at-end true e = rw (field-at-end s i f e, fieldMove) (tt, l)
     at-end false e = go (caseOf s i f) refl (inner-in s i e)
 
@@ -267,3 +359,37 @@ finished-sound s depth from i j (state e b o c d w p) h k = go b
     go : (x : Bool) → Sound s i (if x then refused emptyExpression j 0 0 else got (selfDocumenting depth d e w ++ fieldPieces depth e (conversionOf d c p) from p) j)
     go true = (tt, k)
     go false = (h, k)
+
+-- what was read from i on weighs at most four for each byte taken, and w
+abbrev pub Light : {A : Type 0} → (A → ℕ) → ℕ → ℕ → Read A → Type 0
+Light size w i (got v j) = size v + 4 * i ≤ w + 4 * j
+Light size w i (refused n j a b) = Unit {0}
+
+pub weight-append : (ps qs : List Piece) → weight (ps ++ qs) ≡ weight ps + weight qs
+weight-append [] qs = omega arith
+weight-append (literal d t ∷ ps) qs = omega (arith, weight-append ps qs)
+weight-append (field d e c n i ∷ ps) qs = omega (arith, weight-append ps qs)
+weight-append (spec n ∷ ps) qs = omega (arith, weight-append ps qs)
+weight-append (bytes t ∷ ps) qs = omega (arith, weight-append ps qs)
+
+pub filled-light : (depth : ℕ) (text : List ℕ) → weight (filled depth text) ≤ textSize text
+unfolding filled
+filled-light depth [] = omega arith
+filled-light depth (b ∷ text) = omega arith
+
+pub finished-light : (depth from i j : ℕ) (f : Field) → i < j → Light weight (fieldSize f) i (finished depth from j f)
+unfolding finished selfDocumenting fieldPieces
+finished-light depth from i j (state e b o c d w p) h = go b
+  where
+    c′ : ℕ
+    c′ = conversionOf d c p
+
+    pieces : (d : Bool) (p : Option (List Piece)) → weight (selfDocumenting depth d e w ++ fieldPieces depth e c′ from p) + 4 * i ≤ 2 * (length e + w + (if d then 1 else 0)) + specWeight p + 4 * j
+    pieces true none = omega (arith, length-append e (61 ∷ []), length-replicate {A = ℕ} w 32)
+    pieces true (some ps) = omega (arith, length-append e (61 ∷ []), length-replicate {A = ℕ} w 32)
+    pieces false none = omega arith
+    pieces false (some ps) = omega arith
+
+    go : (x : Bool) → Light weight (fieldSize (state e b o c d w p)) i (if x then refused emptyExpression j 0 0 else got (selfDocumenting depth d e w ++ fieldPieces depth e c′ from p) j)
+    go true = tt
+    go false = pieces d p

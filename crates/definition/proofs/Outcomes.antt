@@ -16,7 +16,7 @@ use Rattle.definition.specs.Records.{Item, Record, wordsOf, merged, text
 use Rattle.definition.specs.Entry.{Literal, sixes, placeOf, body, Refusal, refusal, notEmpty, notMany, firstBad, bad, allGood, total, notLong, formed, illFormed, allUtf8, anyOf, firstStart, notMixed, firstOf, entry}
 use Rattle.definition.specs.Reading.{Outcome, accepts, refuses, readLiteral, andThen, readFrom, sortOf, uMark, lastEnd, answered, read, roomed, allWords, inFront, wordsAfter, textAfter, Call, called, readInto, readNumbers}
 use Rattle.definition.proofs.Moves.{Listed, Sound}
-use Rattle.definition.proofs.Fuel.{body-sound}
+use Rattle.definition.proofs.Fuel.{body-reading}
 
 -- a refusal's number stands in 01's table
 abbrev Numbered : {A : Type 0} → Outcome A → Type 0
@@ -79,7 +79,7 @@ entry-numbered script ls =
 
 literal-numbered : (script : List ℕ) (i : ℕ) (l : Literal) → Numbered (readLiteral script i l)
 unfolding readLiteral refusal
-literal-numbered script i l = go (readBody (l .kind) (body script l)) refl (body-sound (l .kind) (body script l))
+literal-numbered script i l = go (readBody (l .kind) (body script l)) refl (body-reading (l .kind) (body script l) .0)
   where
     go : (r : Read (List Piece)) → readBody (l .kind) (body script l) ≡ r → Sound (body script l) 0 r → Numbered (readLiteral script i l)
     go (got ps j) e h = rw (e, readLiteral) tt
