@@ -2,31 +2,28 @@
 use mathlib.Core.Path.{_≡_, refl, sym, _∙_}
 use mathlib.Core.Bool.{Bool, true, false}
 use mathlib.Core.List.{List, [], _∷_, _++_}
+use mathlib.Core.Option.{none}
 use Prim.Native.Nat.{ℕ, zero, suc, _+_, _-_, _*_, _≤_, _<_}
 use native.Mathlib.Omega.{arith}
 use lib.ListN.{length, drop}
-use Rattle.definition.specs.Numbers.{isFString, isBytes}
-use Rattle.definition.specs.Chars.{if_then_else_, _is_, part, code, next}
+use Rattle.definition.specs.Numbers.{isFString}
+use Rattle.definition.specs.Chars.{_is_, part, code, next}
 use Rattle.definition.specs.Escapes.{Read, got, refused}
-use Rattle.definition.specs.Body.{Piece, literal, bytes, Move, goes, stops, calls, ends, stringMove, stringN, filled, Field, state, fresh, formatted, textMove, fieldMove, finished, plainRun, textN, fieldN, specN, enough, alone, readBody}
+use Rattle.definition.specs.Body.{Piece, Move, goes, stops, calls, ends, stringMove, stringN, filled, Field, fresh, textMove, fieldMove, finished, plainRun, textN, fieldN, specN, enough, alone, readBody}
 use Rattle.definition.proofs.CharLaws.{next-past, next-in, next-from, before-in}
-use Rattle.definition.proofs.Moves.{Sound, textSize, weight, Ahead, later, part-short, string-ahead, text-ahead, fieldSize, field-ahead, finished-sound, Light, weight-append, filled-light, finished-light}
+use Rattle.definition.proofs.Moves.{Sound, textSize, weight, Ahead, later, part-short, string-ahead, text-ahead, fieldSize, field-ahead, finished-sound, specified-sound, Light, weight-append, filled-light, finished-light, specified-light}
 use Rattle.definition.proofs.Steps.{string-goes, string-stops, string-ends, text-goes, text-stops, text-ends, text-got, text-refused, field-goes, field-stops, field-ends, field-got, field-refused, firstEnd, firstPiece, spec-calls, spec-ends}
 
 -- moves enough at i: twice the bytes left, and e more
 abbrev pub Moves : List ℕ → ℕ → ℕ → ℕ → Type 0
 Moves s i e n = (length s - i) + (length s - i) + e ≤ n
 
-first-in : (s : List ℕ) (i : ℕ) → i ≤ length s → firstEnd s i ≤ length s
+pub first-in : (s : List ℕ) (i : ℕ) → i ≤ length s → firstEnd s i ≤ length s
 unfolding plainRun
 first-in s i h = before-in (λ b. b is "{}") s i h
 
 first-light : (s : List ℕ) (depth i : ℕ) → weight (firstPiece s depth i) + 0 + 4 * i ≤ 0 + 4 * firstEnd s i
 first-light s depth i = omega (arith, filled-light (suc depth) (part s i (firstEnd s i)), part-short s i (firstEnd s i))
-
-formatted-size : (ps : List Piece) (f : Field) → fieldSize (formatted ps f) ≤ fieldSize f + weight ps
-unfolding formatted
-formatted-size ps (state e b o c d w p) = omega arith
 
 -- a sound reading that is light from w on, and the same one again
 abbrev Agree : {A : Type 0} → (A → ℕ) → ℕ → List ℕ → ℕ → Read A → Read A → Type 0
@@ -93,10 +90,9 @@ module _ (n : ℕ) (R : Reads n) (kind : ℕ) (s : List ℕ) where
 
       after : (r : Read (List Piece)) → specN n kind s depth a ≡ r → Sound s a r → Light weight 0 a r → specN n kind s depth a ≡ specN m kind s depth a → i < length s → fieldMove s i f ≡ calls → Goal
       after (got ps j) g sound light same h e =
+          let n′ = next-past s i h in
           rw (field-got n kind s depth from i f ps j e g, field-got m kind s depth from i f ps j e (sym same ∙ g))
-          (both-later weight (fieldSize f) (fieldSize (formatted ps f)) s i j (fieldN n kind s depth from j (formatted ps f)) (fieldN m kind s depth from j (formatted ps f)) (omega (arith, next-from s i))
-          (omega (arith, next-from s i, formatted-size ps f))
-          (R .field m kind s depth from j (formatted ps f) (sound .1) (omega (arith, next-past s i h)) (omega (arith, next-past s i h))))
+          (specified-sound s depth from i j f ps (omega arith) (sound .1), refl, specified-light s depth from i j f ps (omega arith) (omega arith))
       after (refused x j b c) g sound light same h e =
           rw (field-refused n kind s depth from i f x j b c e g, field-refused m kind s depth from i f x j b c e (sym same ∙ g)) (sound, refl, tt)
 
@@ -108,7 +104,7 @@ module _ (n : ℕ) (R : Reads n) (kind : ℕ) (s : List ℕ) where
       go calls e h =
           let g = R .spec m kind s depth a (next-in s i l) (omega (arith, next-past s i h)) (omega (arith, next-past s i h)) in
           after (specN n kind s depth a) refl (g .0) (g .2) (g .1) h e
-      go ends e h = rw (field-ends n kind s depth from i f e, field-ends m kind s depth from i f e) (finished-sound s depth from i a f (next-from s i) (next-in s i l), refl, finished-light depth from i a f (next-past s i h))
+      go ends e h = rw (field-ends n kind s depth from i f e, field-ends m kind s depth from i f e) (finished-sound s depth from i a f none (next-from s i) (next-in s i l), refl, lighter weight (fieldSize f) (fieldSize f + 0) i i (finished depth from a f none) (omega arith) (finished-light depth from i a f none (next-past s i h)))
 
   spec-step : (m depth i : ℕ) → i ≤ length s → Moves s i 2 (suc n) → Moves s i 2 m → Agree weight 0 s i (specN (suc n) kind s depth i) (specN m kind s depth i)
   spec-step zero depth i l p q = absurd (omega arith)
@@ -191,12 +187,8 @@ body-reading kind s = go (isFString kind) refl
     string : Read (List ℕ)
     string = stringN (enough s) kind s 0 []
 
-    one : (r : Read (List ℕ)) → Reading textSize 0 s 0 r → Reading weight 1 s 0 (alone kind r)
-    one (got t j) p = (p .0, by-kind (isBytes kind))
-      where
-        by-kind : (b : Bool) → weight ((if b then bytes t else literal 0 t) ∷ []) + 4 * 0 ≤ 1 + 4 * j
-        by-kind true = omega arith
-        by-kind false = omega arith
+    one : (r : Read (List ℕ)) → Reading textSize 0 s 0 r → Reading weight 1 s 0 (alone r)
+    one (got t j) p = (p .0, omega arith)
     one (refused m j a b) p = (p .0, tt)
 
     more : (r : Read (List Piece)) → Reading weight 0 s 0 r → Reading weight 1 s 0 r

@@ -18,7 +18,7 @@ itemRole x = x .role
 abbrev texted : List ℕ → Item → Item
 texted t x = record { role = x .role; kind = x .kind; text = t; start = x .start; end = x .end; mode = x .mode; parts = x .parts; place = x .place }
 
-items-assoc : (a b c : Item) → bothItems (bothItems a b) c ≡ bothItems a (bothItems b c)
+pub items-assoc : (a b c : Item) → bothItems (bothItems a b) c ≡ bothItems a (bothItems b c)
 unfolding bothItems
 items-assoc a b c = ap (λ t. texted t a) (append-assoc (a .text) (b .text) (c .text))
 

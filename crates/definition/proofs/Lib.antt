@@ -9,3 +9,5 @@ pub mod Moves
 pub mod Steps
 pub mod Fuel
 pub mod Outcomes
+pub mod Whole
+pub mod Depths

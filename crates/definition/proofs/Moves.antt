@@ -11,7 +11,7 @@ use borrow.Author.Tests.{leb-false}
 use Rattle.definition.specs.Numbers.{isBytes, refusals, _among_, unicodeError, nameNotHeld, stringError, emptyExpression, unclosedLbrace, invalidConversionFlag, tooManyBrackets, mismatchedDelimiter, unterminatedString}
 use Rattle.definition.specs.Chars.{if_then_else_, _is_, part, noCode, atEnd, inside, _to_, code, next, char, utf8, before}
 use Rattle.definition.specs.Escapes.{Read, got, refused, Meaning, stands, stays, vanishes, octalDigit, octalFrom, hexDigit, scalar, hexFrom, held, lookup, named, unicodeName, EscapeCase, ended, simple, octal, hex, name, newline, foreign, other, escapeCase, escape, encode, meant}
-use Rattle.definition.specs.Body.{Piece, literal, field, spec, bytes, Move, goes, stops, calls, ends, withEscape, StringCase, stringCase, stringMove, TextCase, deep, opens, last, doubled, lone, textCase, textMove, Field, state, isBlank, add, documented, spaced, FieldCase, pair, converts, documents, formats, opener, closes, closer, quote, space, backslash, stray, outside, fieldCase, caseOf, conversionMove, openMove, matching, closeMove, quoteMove, fieldMove, filled, finished, selfDocumenting, fieldPieces, conversionOf}
+use Rattle.definition.specs.Body.{Piece, literal, field, spec, Move, goes, stops, calls, ends, withEscape, StringCase, stringCase, stringMove, TextCase, deep, opens, last, doubled, lone, textCase, textMove, Field, state, isBlank, add, documented, spaced, FieldCase, pair, converts, documents, formats, opener, closes, closer, quote, space, backslash, stray, outside, fieldCase, caseOf, conversionMove, openMove, matching, closeMove, quoteMove, fieldMove, filled, finished, specified, selfDocumenting, fieldPieces, conversionOf}
 use Rattle.definition.proofs.CharLaws.{next-past, next-in, next-from, before-in}
 
 -- the number stands in 01's table
@@ -32,7 +32,6 @@ weight [] = 0
 weight (literal d t ∷ ps) = 1 + length t + weight ps
 weight (field d e c n i ∷ ps) = 1 + length e + weight ps
 weight (spec n ∷ ps) = 1 + weight ps
-weight (bytes t ∷ ps) = 1 + length t + weight ps
 
 -- a move at i from a state of size w: past i, with at most four more for each byte; C is what holds where it calls, and E where it ends
 abbrev pub Ahead : {A : Type 0} → (A → ℕ) → ℕ → Type 0 → Type 0 → List ℕ → ℕ → Move A → Type 0
@@ -245,27 +244,23 @@ text-ahead kind s depth i text l = at-end (atEnd s i) refl
 -- A FIELD, which ends at its `}`
 field-at-end : (s : List ℕ) (i : ℕ) (f : Field) → atEnd s i ≡ true → caseOf s i f ≡ FieldCase.over
 unfolding caseOf fieldCase
-field-at-end s i (state e b o c d w p) h = rw h
+field-at-end s i (state e b o c d w) h = rw h
 
--- the size of a field's state: the expression, the spaces and the `=` twice, and the spec
-abbrev specWeight : Option (List Piece) → ℕ
-specWeight none = 0
-specWeight (some ps) = weight ps
-
+-- the size of a field's state: the expression, the spaces and the `=`, twice
 abbrev pub fieldSize : Field → ℕ
-fieldSize (state e b o c d w p) = 2 * (length e + w + (if d then 1 else 0)) + specWeight p
+fieldSize (state e b o c d w) = 2 * (length e + w + (if d then 1 else 0))
 
 add-size : (t : List ℕ) (b : Bool) (f : Field) → fieldSize (add t b f) ≡ fieldSize f + 2 * length t
 unfolding add
-add-size t b′ (state e b o c d w p) = omega (arith, length-append e t)
+add-size t b′ (state e b o c d w) = omega (arith, length-append e t)
 
 documented-size : (f : Field) → fieldSize (documented f) ≤ fieldSize f + 2
 unfolding documented
-documented-size (state e b o c d w p) = omega arith
+documented-size (state e b o c d w) = omega arith
 
 spaced-size : (f : Field) → fieldSize (spaced f) ≡ fieldSize f + 2
 unfolding spaced
-spaced-size (state e b o c d w p) = omega arith
+spaced-size (state e b o c d w) = omega arith
 
 module _ (s : List ℕ) (i : ℕ) (f : Field) (h : i < length s) where
   abbrev Goes : Move Field → Type 0
@@ -275,9 +270,9 @@ module _ (s : List ℕ) (i : ℕ) (f : Field) (h : i < length s) where
   with-part : (j : ℕ) (b : Bool) → (i < j) × (j ≤ length s) → Goes (goes j (add (part s i j) b f))
   with-part j b k = (k .0, k .1, omega (arith, add-size (part s i j) b f, part-short s i j))
 
-module _ (s : List ℕ) (i : ℕ) (h : i < length s) (e : List ℕ) (b : Bool) (o : List ℕ) (c : ℕ) (d : Bool) (w : ℕ) (p : Option (List Piece)) where
+module _ (s : List ℕ) (i : ℕ) (h : i < length s) (e : List ℕ) (b : Bool) (o : List ℕ) (c : ℕ) (d : Bool) (w : ℕ) where
   abbrev f : Field
-  f = state e b o c d w p
+  f = state e b o c d w
 
   conversion-ahead : Goes s i f h (conversionMove s i f)
   unfolding conversionMove
@@ -286,7 +281,7 @@ module _ (s : List ℕ) (i : ℕ) (h : i < length s) (e : List ℕ) (b : Bool) (
       a : ℕ
       a = next s i
 
-      go : (x y z t : Bool) → Goes s i f h (if x then stops emptyExpression a 0 0 else if y then stops unclosedLbrace a 0 0 else if z then stops invalidConversionFlag (next s a) 0 0 else if t then goes (next s a) (state e b o (code s a) d w p) else stops unclosedLbrace (next s a) 0 0)
+      go : (x y z t : Bool) → Goes s i f h (if x then stops emptyExpression a 0 0 else if y then stops unclosedLbrace a 0 0 else if z then stops invalidConversionFlag (next s a) 0 0 else if t then goes (next s a) (state e b o (code s a) d w) else stops unclosedLbrace (next s a) 0 0)
       go true y z t = (tt, on-by-one s i h .1)
       go false true z t = (tt, on-by-one s i h .1)
       go false false true t = (tt, on-by-two s i h .1)
@@ -294,24 +289,24 @@ module _ (s : List ℕ) (i : ℕ) (h : i < length s) (e : List ℕ) (b : Bool) (
       go false false false false = (tt, on-by-two s i h .1)
 
   -- a bracket goes into the expression
-  with-bracket : (o′ : List ℕ) → Goes s i f h (goes (next s i) (state (e ++ char s i) false o′ c d w p))
+  with-bracket : (o′ : List ℕ) → Goes s i f h (goes (next s i) (state (e ++ char s i) false o′ c d w))
   with-bracket o′ = let k = on-by-one s i h in (k .0, k .1, omega (arith, char-short s i e))
 
   open-ahead : Goes s i f h (openMove s i f)
   unfolding openMove
   open-ahead = go (ltb (length o) 64)
     where
-      go : (x : Bool) → Goes s i f h (if x then goes (next s i) (state (e ++ char s i) false (code s i ∷ o) c d w p) else stops tooManyBrackets (next s i) 0 0)
+      go : (x : Bool) → Goes s i f h (if x then goes (next s i) (state (e ++ char s i) false (code s i ∷ o) c d w) else stops tooManyBrackets (next s i) 0 0)
       go true = with-bracket (code s i ∷ o)
       go false = (tt, on-by-one s i h .1)
 
 close-ahead : (s : List ℕ) (i : ℕ) (f : Field) (h : i < length s) → Goes s i f h (closeMove s i f)
 unfolding closeMove
-close-ahead s i (state e b [] c d w p) h = (tt, on-by-one s i h .1)
-close-ahead s i (state e b (x ∷ o) c d w p) h = go (matching x (code s i))
+close-ahead s i (state e b [] c d w) h = (tt, on-by-one s i h .1)
+close-ahead s i (state e b (x ∷ o) c d w) h = go (matching x (code s i))
   where
-    go : (t : Bool) → Goes s i (state e b (x ∷ o) c d w p) h (if t then goes (next s i) (state (e ++ char s i) false o c d w p) else stops mismatchedDelimiter (next s i) x (code s i))
-    go true = with-bracket s i h e b (x ∷ o) c d w p o
+    go : (t : Bool) → Goes s i (state e b (x ∷ o) c d w) h (if t then goes (next s i) (state (e ++ char s i) false o c d w) else stops mismatchedDelimiter (next s i) x (code s i))
+    go true = with-bracket s i h e b (x ∷ o) c d w o
     go false = (tt, on-by-one s i h .1)
 
 quote-ahead : (s : List ℕ) (i : ℕ) (f : Field) (h : i < length s) → Goes s i f h (quoteMove s i f)
@@ -327,7 +322,7 @@ quote-ahead s i f h = go (atEnd s close) refl
 
 -- what a field's character does by its case, where there is one
 by-state : (s : List ℕ) (i : ℕ) (f : Field) (h : i < length s) → Goes s i f h (conversionMove s i f) × Goes s i f h (openMove s i f)
-by-state s i (state e b o c d w p) h = (conversion-ahead s i h e b o c d w p, open-ahead s i h e b o c d w p)
+by-state s i (state e b o c d w) h = (conversion-ahead s i h e b o c d w, open-ahead s i h e b o c d w)
 
 pub field-ahead : (s : List ℕ) (i : ℕ) (f : Field) → i ≤ length s → Ahead fieldSize (fieldSize f) (i < length s) (i < length s) s i (fieldMove s i f)
 unfolding fieldMove char
@@ -352,13 +347,21 @@ field-ahead s i f l = at-end (atEnd s i) refl
     at-end true e = rw (field-at-end s i f e, fieldMove) (tt, l)
     at-end false e = go (caseOf s i f) refl (inner-in s i e)
 
-pub finished-sound : (s : List ℕ) (depth from i j : ℕ) (f : Field) → i ≤ j → j ≤ length s → Sound s i (finished depth from j f)
+pub finished-sound : (s : List ℕ) (depth from i j : ℕ) (f : Field) (p : Option (List Piece)) → i ≤ j → j ≤ length s → Sound s i (finished depth from j f p)
 unfolding finished
-finished-sound s depth from i j (state e b o c d w p) h k = go b
+finished-sound s depth from i j (state e b o c d w) p h k = go b
   where
     go : (x : Bool) → Sound s i (if x then refused emptyExpression j 0 0 else got (selfDocumenting depth d e w ++ fieldPieces depth e (conversionOf d c p) from p) j)
     go true = (tt, k)
     go false = (h, k)
+
+pub specified-sound : (s : List ℕ) (depth from i j : ℕ) (f : Field) (ps : List Piece) → i ≤ j → j ≤ length s → Sound s i (specified s depth from j f ps)
+unfolding specified
+specified-sound s depth from i j f ps h k = go (atEnd s j)
+  where
+    go : (t : Bool) → Sound s i (if t then refused unclosedLbrace j 0 0 else finished depth from (next s j) f (some ps))
+    go true = (tt, k)
+    go false = finished-sound s depth from i (next s j) f (some ps) (omega (arith, next-from s j)) (next-in s j k)
 
 -- what was read from i on weighs at most four for each byte taken, and w
 abbrev pub Light : {A : Type 0} → (A → ℕ) → ℕ → ℕ → Read A → Type 0
@@ -370,16 +373,20 @@ weight-append [] qs = omega arith
 weight-append (literal d t ∷ ps) qs = omega (arith, weight-append ps qs)
 weight-append (field d e c n i ∷ ps) qs = omega (arith, weight-append ps qs)
 weight-append (spec n ∷ ps) qs = omega (arith, weight-append ps qs)
-weight-append (bytes t ∷ ps) qs = omega (arith, weight-append ps qs)
 
 pub filled-light : (depth : ℕ) (text : List ℕ) → weight (filled depth text) ≤ textSize text
 unfolding filled
 filled-light depth [] = omega arith
 filled-light depth (b ∷ text) = omega arith
 
-pub finished-light : (depth from i j : ℕ) (f : Field) → i < j → Light weight (fieldSize f) i (finished depth from j f)
+-- a spec's weight, if there is one
+abbrev specWeight : Option (List Piece) → ℕ
+specWeight none = 0
+specWeight (some ps) = weight ps
+
+pub finished-light : (depth from i j : ℕ) (f : Field) (p : Option (List Piece)) → i < j → Light weight (fieldSize f + specWeight p) i (finished depth from j f p)
 unfolding finished selfDocumenting fieldPieces
-finished-light depth from i j (state e b o c d w p) h = go b
+finished-light depth from i j (state e b o c d w) p h = go b
   where
     c′ : ℕ
     c′ = conversionOf d c p
@@ -390,6 +397,18 @@ finished-light depth from i j (state e b o c d w p) h = go b
     pieces false none = omega arith
     pieces false (some ps) = omega arith
 
-    go : (x : Bool) → Light weight (fieldSize (state e b o c d w p)) i (if x then refused emptyExpression j 0 0 else got (selfDocumenting depth d e w ++ fieldPieces depth e c′ from p) j)
+    go : (x : Bool) → Light weight (fieldSize (state e b o c d w) + specWeight p) i (if x then refused emptyExpression j 0 0 else got (selfDocumenting depth d e w ++ fieldPieces depth e c′ from p) j)
     go true = tt
     go false = pieces d p
+
+pub specified-light : (s : List ℕ) (depth from i j : ℕ) (f : Field) (ps : List Piece) → i < j → weight ps + 4 * i ≤ 4 * j → Light weight (fieldSize f) i (specified s depth from j f ps)
+unfolding specified
+specified-light s depth from i j f ps h l = go (atEnd s j) refl
+  where
+    less : (r : Read (List Piece)) → Light weight (fieldSize f + weight ps) j r → Light weight (fieldSize f) i r
+    less (got qs k) q = omega arith
+    less (refused n k a b) q = tt
+
+    go : (t : Bool) → atEnd s j ≡ t → Light weight (fieldSize f) i (if t then refused unclosedLbrace j 0 0 else finished depth from (next s j) f (some ps))
+    go true e = tt
+    go false e = less (finished depth from (next s j) f (some ps)) (finished-light depth from j (next s j) f (some ps) (next-past s j (inner-in s j e)))

@@ -35,7 +35,7 @@ module _ {A : Type 0} (role : A → Role) (both : A → A → A)
   touch-both-right a b c = rw kept
 
   -- a and b touch: gluing b, then a, is gluing both
-  glue-both : (a b : A) (zs : List A) → touching (role a) (role b) ≡ true → glue role both a (glue role both b zs) ≡ glue role both (both a b) zs
+  pub glue-both : (a b : A) (zs : List A) → touching (role a) (role b) ≡ true → glue role both a (glue role both b zs) ≡ glue role both (both a b) zs
   unfolding glue
   glue-both a b [] e = glue-true role both a b [] e
   glue-both a b (z ∷ zs) e = go (touching (role b) (role z)) refl

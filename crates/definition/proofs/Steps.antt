@@ -3,10 +3,11 @@ use mathlib.Core.Path.{_≡_, refl}
 use mathlib.Core.Bool.{Bool, true, false}
 use mathlib.Core.List.{List, [], _++_}
 use Prim.Native.Nat.{ℕ, suc, _+_}
+use mathlib.Core.Option.{none}
 use lib.ListN.{drop}
 use Rattle.definition.specs.Chars.{_is_, part, code, next}
 use Rattle.definition.specs.Escapes.{Read, got, refused}
-use Rattle.definition.specs.Body.{Piece, Move, goes, stops, calls, ends, stringMove, stringN, filled, Field, fresh, formatted, textMove, fieldMove, finished, plainRun, textN, fieldN, specN}
+use Rattle.definition.specs.Body.{Piece, Move, goes, stops, calls, ends, stringMove, stringN, filled, Field, fresh, textMove, fieldMove, finished, specified, plainRun, textN, fieldN, specN}
 
 module _ (n kind : ℕ) (s : List ℕ) (i : ℕ) (text : List ℕ) where
   pub string-goes : (j : ℕ) (text′ : List ℕ) → stringMove kind s i text ≡ goes j text′ → stringN (suc n) kind s i text ≡ stringN n kind s j text′
@@ -53,12 +54,12 @@ module _ (n kind : ℕ) (s : List ℕ) (depth from i : ℕ) (f : Field) where
   unfolding fieldN
   field-stops m j a b e = rw (e, fieldN)
 
-  pub field-ends : fieldMove s i f ≡ ends → fieldN (suc n) kind s depth from i f ≡ finished depth from (next s i) f
+  pub field-ends : fieldMove s i f ≡ ends → fieldN (suc n) kind s depth from i f ≡ finished depth from (next s i) f none
   unfolding fieldN
   field-ends e = rw (e, fieldN)
 
   pub field-got : (ps : List Piece) (j : ℕ) → fieldMove s i f ≡ calls → specN n kind s depth (next s i) ≡ got ps j
-      → fieldN (suc n) kind s depth from i f ≡ fieldN n kind s depth from j (formatted ps f)
+      → fieldN (suc n) kind s depth from i f ≡ specified s depth from j f ps
   unfolding fieldN
   field-got ps j e g = rw (e, g, fieldN)
 

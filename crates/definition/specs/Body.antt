@@ -14,7 +14,6 @@ pub data Piece : Type 0 where
   literal : (depth : ℕ) (text : List ℕ) → Piece
   field : (depth : ℕ) (expression : List ℕ) (conversion parts taken : ℕ) → Piece  -- taken: just after its `{`
   spec : (parts : ℕ) → Piece
-  bytes : (text : List ℕ) → Piece
 
 -- What a reader does at a character: goes on with a new state, refuses, calls for the next reader, or ends
 pub data Move (A : Type 0) : Type 0 where
@@ -97,12 +96,12 @@ filled depth [] = []
 filled depth (b ∷ text) = literal depth (b ∷ text) ∷ []
 
 -- A FIELD. Its state: the expression, whether that is blank so far, the open brackets (innermost first), the conversion,
--- whether a self-documenting `=` was met, the spaces kept apart after it, and the spec's pieces
+-- whether a self-documenting `=` was met, and the spaces kept apart after it
 pub data Field : Type 0 where
-  state : (expression : List ℕ) (blank : Bool) (brackets : List ℕ) (conversion : ℕ) (documented : Bool) (spaces : ℕ) (pieces : Option (List Piece)) → Field
+  state : (expression : List ℕ) (blank : Bool) (brackets : List ℕ) (conversion : ℕ) (documented : Bool) (spaces : ℕ) → Field
 
 unfoldable pub fresh : Field
-fresh = state [] true [] 0 false 0 none
+fresh = state [] true [] 0 false 0
 
 -- blank means only space and U+0009 to U+000D
 abbrev pub isBlank : ℕ → Bool
@@ -110,16 +109,13 @@ isBlank c = c is " " || inside (9 to 13) c
 
 -- more of the expression: its text, and whether it is blank
 unfoldable pub add : List ℕ → Bool → Field → Field
-add t blank (state e b o c d w p) = state (e ++ t) (b && blank) o c d w p
+add t blank (state e b o c d w) = state (e ++ t) (b && blank) o c d w
 
 unfoldable pub documented : Field → Field
-documented (state e b o c d w p) = state e b o c true w p
+documented (state e b o c d w) = state e b o c true w
 
 unfoldable pub spaced : Field → Field
-spaced (state e b o c d w p) = state e b o c d (suc w) p
-
-unfoldable pub formatted : List Piece → Field → Field
-formatted ps (state e b o c d w p) = state e b o c d w (some ps)
+spaced (state e b o c d w) = state e b o c d (suc w)
 
 pub data FieldCase : Type 0 where
   over pair converts documents formats opener closes closer quote space backslash stray plain : FieldCase
@@ -146,31 +142,31 @@ fieldCase s i out doc =
     if doc then stray else plain
 
 unfoldable pub caseOf : List ℕ → ℕ → Field → FieldCase
-caseOf s i (state e b o c d w p) = fieldCase s i (outside o) d
+caseOf s i (state e b o c d w) = fieldCase s i (outside o) d
 
 -- the `!` at i: not after a blank expression; then s, a or r; then `}` or `:` must follow
 unfoldable pub conversionMove : List ℕ → ℕ → Field → Move Field
-conversionMove s i (state e b o c d w p) =
+conversionMove s i (state e b o c d w) =
     let flag = next s i in
     let after = next s flag in
     if b then stops emptyExpression flag 0 0 else
     if atEnd s flag then stops unclosedLbrace flag 0 0 else
     if not (code s flag is "sar") then stops invalidConversionFlag after 0 0 else
-    if code s after is "}:" then goes after (state e b o (code s flag) d w p) else stops unclosedLbrace after 0 0
+    if code s after is "}:" then goes after (state e b o (code s flag) d w) else stops unclosedLbrace after 0 0
 
 -- the opening bracket at i: 64 may be open at once
 unfoldable pub openMove : List ℕ → ℕ → Field → Move Field
-openMove s i (state e b o c d w p) =
-    if ltb (length o) 64 then goes (next s i) (state (e ++ char s i) false (code s i ∷ o) c d w p) else stops tooManyBrackets (next s i) 0 0
+openMove s i (state e b o c d w) =
+    if ltb (length o) 64 then goes (next s i) (state (e ++ char s i) false (code s i ∷ o) c d w) else stops tooManyBrackets (next s i) 0 0
 
 abbrev pub matching : ℕ → ℕ → Bool
 matching a b = a is "(" && b is ")" || a is "[" && b is "]" || a is "{" && b is "}"
 
 -- the closing bracket at i must match the innermost open one by kind
 unfoldable pub closeMove : List ℕ → ℕ → Field → Move Field
-closeMove s i (state e b [] c d w p) = stops unmatched (next s i) (code s i) 0
-closeMove s i (state e b (a ∷ o) c d w p) =
-    if matching a (code s i) then goes (next s i) (state (e ++ char s i) false o c d w p) else stops mismatchedDelimiter (next s i) a (code s i)
+closeMove s i (state e b [] c d w) = stops unmatched (next s i) (code s i) 0
+closeMove s i (state e b (a ∷ o) c d w) =
+    if matching a (code s i) then goes (next s i) (state (e ++ char s i) false o c d w) else stops mismatchedDelimiter (next s i) a (code s i)
 
 -- the quote at i opens a run that ends at the same quote
 unfoldable pub quoteMove : List ℕ → ℕ → Field → Move Field
@@ -203,7 +199,6 @@ direct depth [] = 0
 direct depth (literal d t ∷ ps) = (if eqb d depth then 1 else 0) + direct depth ps
 direct depth (field d t c n i ∷ ps) = (if eqb d depth then 1 else 0) + direct depth ps
 direct depth (spec n ∷ ps) = direct depth ps
-direct depth (bytes t ∷ ps) = direct depth ps
 
 -- a self-documenting field has conversion r exactly if it has neither conversion nor spec
 unfoldable pub conversionOf : Bool → ℕ → Option (List Piece) → ℕ
@@ -221,10 +216,14 @@ unfoldable pub selfDocumenting : ℕ → Bool → List ℕ → ℕ → List Piec
 selfDocumenting depth false e w = []
 selfDocumenting depth true e w = literal depth (e ++ (61 ∷ [])) ∷ literal depth (replicate w 32) ∷ []
 
--- the `}` before j that ends the field which began at i
-unfoldable pub finished : ℕ → ℕ → ℕ → Field → Read (List Piece)
-finished depth i j (state e b o c d w p) =
+-- the `}` before j that ends the field which began at i, with its spec's pieces if it has a spec
+unfoldable pub finished : ℕ → ℕ → ℕ → Field → Option (List Piece) → Read (List Piece)
+finished depth i j (state e b o c d w) p =
     if b then refused emptyExpression j 0 0 else got (selfDocumenting depth d e w ++ fieldPieces depth e (conversionOf d c p) i p) j
+
+-- a field whose spec has ended at j, at its `}` or at the body's end
+unfoldable pub specified : List ℕ → ℕ → ℕ → ℕ → Field → List Piece → Read (List Piece)
+specified s depth i j f ps = if atEnd s j then refused unclosedLbrace j 0 0 else finished depth i (next s j) f (some ps)
 
 -- a spec's first piece: the bytes before the first brace
 unfoldable pub plainRun : List ℕ → ℕ
@@ -252,10 +251,10 @@ unfoldable mutual
         | goes j f′ ↦ fieldN n kind s depth from j f′
         | stops m j a b ↦ refused m j a b
         | calls ↦ elim (specN n kind s depth (next s i)) [
-          | got ps j ↦ fieldN n kind s depth from j (formatted ps f)
+          | got ps j ↦ specified s depth from j f ps
           | refused m j a b ↦ refused m j a b
         ]
-        | ends ↦ finished depth from (next s i) f
+        | ends ↦ finished depth from (next s i) f none
       ]
 
   pub specN : ℕ → ℕ → List ℕ → ℕ → ℕ → Read (List Piece)
@@ -270,11 +269,11 @@ abbrev pub enough : List ℕ → ℕ
 enough s = length s + length s + 2
 
 -- a string's or bytes' one piece, empty or not
-unfoldable pub alone : ℕ → Read (List ℕ) → Read (List Piece)
-alone kind (got t j) = got ((if isBytes kind then bytes t else literal 0 t) ∷ []) j
-alone kind (refused m j a b) = refused m j a b
+unfoldable pub alone : Read (List ℕ) → Read (List Piece)
+alone (got t j) = got (literal 0 t ∷ []) j
+alone (refused m j a b) = refused m j a b
 
 -- ONE LITERAL: the body s of a kind
 unfoldable pub readBody : ℕ → List ℕ → Read (List Piece)
 readBody kind s =
-    elim (isFString kind) [ true ↦ textN (enough s) kind s 0 0 [] [] | false ↦ alone kind (stringN (enough s) kind s 0 []) ]
+    elim (isFString kind) [ true ↦ textN (enough s) kind s 0 0 [] [] | false ↦ alone (stringN (enough s) kind s 0 []) ]

@@ -21,7 +21,7 @@ pub data Outcome (A : Type 0) : Type 0 where
 unfoldable pub readLiteral : List ℕ → ℕ → Literal → Outcome (List Item)
 readLiteral script i l =
     elim (readBody (l .kind) (body script l)) [
-      | got ps j ↦ accepts (map (itemOf (l .start) (l .end) (placeOf l 0)) ps)
+      | got ps j ↦ accepts (map (itemOf (l .kind) (l .start) (l .end) (placeOf l 0)) ps)
       | refused m j a b ↦ refuses (refusal m i (placeOf l j) a b)
     ]
 

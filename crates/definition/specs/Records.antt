@@ -3,8 +3,9 @@ use Prim.Native.Nat.{ℕ, zero, suc, _+_}
 use mathlib.Core.Bool.{Bool, true, false}
 use mathlib.Core.List.{List, [], _∷_, _++_, map}
 use lib.ListN.{length}
+use Rattle.definition.specs.Numbers.{isBytes}
 use Rattle.definition.specs.Chars.{if_then_else_}
-use Rattle.definition.specs.Body.{Piece, literal, field, spec, bytes}
+use Rattle.definition.specs.Body.{Piece, literal, field, spec}
 
 -- What a record is for joining: a top-level literal, a bytes record, or any other. It is not written
 pub data Role : Type 0 where
@@ -56,13 +57,12 @@ unfoldable pub item : Role → ℕ → List ℕ → ℕ → ℕ → ℕ → ℕ 
 item role kind text start end mode parts place =
     record { role = role; kind = kind; text = text; start = start; end = end; mode = mode; parts = parts; place = place }
 
--- a piece of the literal from start to end whose body begins at `base`; any word a kind has no use for is 0
-unfoldable pub itemOf : ℕ → ℕ → ℕ → Piece → Item
-itemOf start end base (literal zero t) = item top 1 t start end 0 0 0
-itemOf start end base (literal (suc d) t) = item inner 1 t start end 0 0 0
-itemOf start end base (field d e c n i) = item inner 2 e start end c n (base + i)
-itemOf start end base (spec n) = item inner 3 [] start end 0 n 0
-itemOf start end base (bytes t) = item raw 4 t start end 0 0 0
+-- a piece of a literal of a kind, from start to end, whose body begins at `base`; any word a record's kind has no use for is 0
+unfoldable pub itemOf : (kind start end base : ℕ) → Piece → Item
+itemOf kind start end base (literal zero t) = if isBytes kind then item raw 4 t start end 0 0 0 else item top 1 t start end 0 0 0
+itemOf kind start end base (literal (suc d) t) = item inner 1 t start end 0 0 0
+itemOf kind start end base (field d e c n i) = item inner 2 e start end c n (base + i)
+itemOf kind start end base (spec n) = item inner 3 [] start end 0 n 0
 
 -- Lists of things where those that touch become one
 module _ {A : Type 0} (role : A → Role) (both : A → A → A) where
