@@ -167,6 +167,10 @@ module _ (s : List ℕ) (i : ℕ) where
   unfolding width
   width-end h = rw (List·getD-eq-default s 256 h, past-bytes, width)
 
+  pub code-end : length s ≤ i → code s i ≡ noCode
+  unfolding code
+  code-end h = rw (le-leb _ _ h)
+
   pub width-in : i ≤ length s → i + width s i ≤ length s
   unfolding next
   width-in h =

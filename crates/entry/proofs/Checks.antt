@@ -1,0 +1,66 @@
+-- The checks one after the other. Assumes nothing.
+use mathlib.Core.Path.{_≡_, refl}
+use mathlib.Core.List.{List, [], _∷_}
+use mathlib.Core.Option.{Option, none, some}
+use Prim.Native.Nat.{ℕ, _*_, _%_, _≤_, _<_}
+use native.Mathlib.Omega.{arith}
+use borrow.Author.Tests.{lt-ltb, le-ltb}
+use lib.ListN.{length}
+use Rattle.definition.specs.Numbers.{emptyList, notSixes, tooManyLiterals}
+use Rattle.definition.specs.Entry.{Refusal, refusal, notEmpty, notMany, firstOf, entry}
+use Rattle.definition.specs.Reading.{accepts, refuses}
+use Rattle.entry.specs.Answers.{outcomeOf, laterChecks, checkNumbers}
+use Rattle.entry.specs.Literals.{literals}
+use Rattle.entry.proofs.Literals.{first-is, length-literals, sixes-some, sixes-none}
+
+-- what a check gave, by what it says
+pub passes : (n k : ℕ) (c : Option Refusal) → accepts k ≡ outcomeOf n c → c ≡ none
+unfolding outcomeOf
+passes n k none e = refl
+passes n k (some r) e = cc
+
+pub passes-all : (n k : ℕ) (c : Option Refusal) → accepts k ≡ outcomeOf n c → k ≡ n
+unfolding outcomeOf
+passes-all n k none e = cc
+passes-all n k (some r) e = cc
+
+pub refused : (n : ℕ) (r : Refusal) (c : Option Refusal) → refuses r ≡ outcomeOf n c → c ≡ some r
+unfolding outcomeOf
+refused n r none e = cc
+refused n r (some x) e = cc
+
+-- what the first that refuses says, and the last one
+pub first-says : (n : ℕ) (r : Refusal) → refuses r ≡ outcomeOf n (some r)
+unfolding outcomeOf
+first-says n r = refl
+
+pub last-says : (n : ℕ) (c : Option Refusal) → outcomeOf n c ≡ outcomeOf n (firstOf (c ∷ []))
+unfolding firstOf
+last-says n none = refl
+last-says n (some r) = refl
+
+-- flat numbers: 2; then by the literals' indexes, 1, 3 and the later checks
+pub checked-not-sixes : (script ns : List ℕ) → (length ns % 6 ≡ 0 → ⊥) → checkNumbers script ns ≡ refuses (refusal notSixes 0 0 0 0)
+unfolding checkNumbers
+checked-not-sixes script ns h = rw (sixes-none ns h, checkNumbers)
+
+module _ (script ns : List ℕ) (n : ℕ) (six : length ns ≡ n * 6) where
+  pub checked : checkNumbers script ns ≡ outcomeOf n (entry script (literals ns 0 n))
+  unfolding checkNumbers
+  checked = rw (sixes-some ns n six, checkNumbers, length-literals ns 0 n)
+
+  pub checked-none : n ≡ 0 → checkNumbers script ns ≡ refuses (refusal emptyList 0 0 0 0)
+  unfolding entry notEmpty firstOf outcomeOf literals
+  checked-none e = rw (checked, e)
+
+  not-empty : 0 < n → notEmpty (literals ns 0 n) ≡ none
+  unfolding notEmpty
+  not-empty h = rw (first-is ns n h)
+
+  pub checked-many : 1024 < n → checkNumbers script ns ≡ refuses (refusal tooManyLiterals 0 0 0 0)
+  unfolding entry notMany firstOf outcomeOf
+  checked-many h = rw (checked, not-empty (omega arith), length-literals ns 0 n, lt-ltb 1024 n h)
+
+  pub checked-few : 0 < n → n ≤ 1024 → checkNumbers script ns ≡ outcomeOf n (laterChecks script (literals ns 0 n))
+  unfolding entry notMany firstOf laterChecks
+  checked-few h few = rw (checked, not-empty h, length-literals ns 0 n, le-ltb 1024 n few)

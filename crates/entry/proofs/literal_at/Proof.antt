@@ -1,0 +1,25 @@
+-- `entry::literal_at` meets its contract. Assumes nothing.
+use borrow.Author.Needs.{needs}
+use Rattle.entry.specs.Answers.{described}
+use Rattle.entry.specs.Literals.{literalAt}
+use Rattle.entry.proofs.literal_at.Statement.{statement}
+use Rattle.entry.proofs.literal_at.Tie as tie
+
+pub literal-at-spec : {M : Type 1} → statement M
+unfolding described literalAt
+literal-at-spec =
+    tie.close
+    (tie.spec
+    (λ c. search needs)  -- mul-at
+    (λ c κs. search needs)  -- number-at-requires
+    (λ c. search needs)  -- add-number-at
+    (λ c κs. search needs)  -- number-at-requires-2
+    (λ c. search needs)  -- add-number-at-2
+    (λ c κs. search needs)  -- number-at-requires-3
+    (λ c. search needs)  -- add-number-at-3
+    (λ c κs. search needs)  -- number-at-requires-4
+    (λ c. search needs)  -- add-number-at-4
+    (λ c κs. search needs)  -- number-at-requires-5
+    (λ c. search needs)  -- add-number-at-5
+    (λ c κs. search needs)  -- number-at-requires-6
+    (λ c. rw (← c .number-at6 .ensures, ← c .before .number-at5 .ensures, ← c .before .before .number-at4 .ensures, ← c .before .before .before .number-at3 .ensures, ← c .before .before .before .before .number-at2 .ensures, ← c .before .before .before .before .before .number-at .ensures)))  -- returns

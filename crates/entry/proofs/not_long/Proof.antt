@@ -1,0 +1,17 @@
+-- `entry::not_long` meets its contract. Assumes nothing.
+use borrow.Author.Needs.{needs}
+use borrow.Author.Tests.{lt-ltb, le-ltb}
+use Rattle.definition.specs.Entry.{notLong}
+use Rattle.entry.specs.Answers.{outcomeOf}
+use Rattle.entry.proofs.not_long.Statement.{statement}
+use Rattle.entry.proofs.not_long.Tie as tie
+
+pub not-long-spec : {M : Type 1} → statement M
+unfolding notLong outcomeOf
+not-long-spec =
+    tie.close
+    (tie.spec
+    (λ c κs. search needs)  -- total-requires
+    (λ c κs. search needs)  -- refuse-requires
+    (λ c. rw (c .refuse .ensures, ← c .before .before .total .ensures, lt-ltb _ _ (c .before .if1 .taken)))  -- returns
+    (λ c. rw (← c .before .total .ensures, le-ltb _ _ (c .if1 .left))))  -- returns-2

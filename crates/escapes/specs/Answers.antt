@@ -1,0 +1,19 @@
+-- What an answer says, in the definition's terms.
+use Prim.Native.Nat.{ℕ}
+use mathlib.Core.List.{List}
+use lib.ListN.{getD}
+use Rattle.definition.specs.Chars.{ascii}
+use Rattle.definition.specs.Escapes.{Read, got, refused, Meaning, stands, stays, vanishes, held}
+use Rattle.escapes.specs.declared.Escaped.{Escaped}
+use Rattle.escapes.specs.declared.Escaped.the-variants.{Code, Kept, Gone, Refused}
+
+-- a code, the character kept, or nothing, and the bytes taken; or a refusal, with no details
+abbrev pub says : Escaped → Read Meaning
+says (Code c k) = got (stands c) (k .at)
+says (Kept k) = got stays (k .at)
+says (Gone k) = got vanishes (k .at)
+says (Refused r) = refused (r .number) (r .at) 0 0
+
+-- the bytes of the k-th held name
+abbrev pub heldName : ℕ → List ℕ
+heldName k = ascii (getD held k ("", 0) .0)
