@@ -11,3 +11,4 @@ pub mod Fuel
 pub mod Outcomes
 pub mod Whole
 pub mod Depths
+pub mod Prefix

@@ -1,0 +1,153 @@
+-- The turns of a field's head, one after the other: what the definition gives from here is what it gives from the start.
+-- Assumes nothing.
+use mathlib.Core.Path.{_≡_, refl, sym, subst, ap, _∙_}
+use mathlib.Core.Bool.{Bool, true, false}
+use mathlib.Core.List.{List, [], _++_}
+use Prim.Native.Nat.{ℕ, _+_, _*_, _^_, _≤_, _<_}
+use native.Mathlib.Omega.{arith}
+use lib.ListN.{length, length-append}
+use Rattle.definition.specs.Numbers.{emptyExpression}
+use Rattle.definition.specs.Chars.{if_then_else_, next}
+use Rattle.definition.specs.Escapes.{refused}
+use mathlib.Core.Option.{none}
+use Rattle.definition.specs.Body.{Move, goes, stops, calls, ends, Field, state, fresh, fieldMove, finished, fieldN, enough}
+use Rattle.definition.proofs.Moves.{Ahead, fieldSize, field-ahead}
+use Rattle.definition.proofs.Whole.{field-on, field-stop, field-end}
+use Rattle.buffers.specs.Over.{over}
+use Rattle.buffers.proofs.Over.{over-nil, over-append}
+use Rattle.strings.specs.declared.Refusal.{Refusal}
+use Rattle.strings.specs.declared.field.State.{State}
+use Rattle.strings.specs.declared.field.Head.{Head}
+use Rattle.strings.specs.declared.field.Opened.the-variants as opened
+use Rattle.strings.proofs.FieldLaws.{part-none}
+use Rattle.strings.specs.FieldTurns.{pending, Room, skippedTo, headAt, brackets, stateOf, headState, Went, Stopped, closedAs, HeadIs, OpenedIs}
+
+-- a blank expression is refused at its `}`
+abbrev blankOf : Field → Bool
+blankOf (state e b o c d w) = b
+
+blank-refused : (depth from j : ℕ) (f : Field) → blankOf f ≡ true → finished depth from j f none ≡ refused emptyExpression j 0 0
+unfolding finished
+blank-refused depth from j (state e b o c d w) h = rw h
+
+-- the head that began at `from` has come to the state f
+pub record Sofar (s : List ℕ) (from used : ℕ) (lent : List ℕ) (f : State) (places text : List ℕ) : Type 0 where
+  pub written : List ℕ
+  pub same : (kind depth : ℕ) → fieldN (enough s) kind s depth from from fresh ≡ fieldN (enough s) kind s depth from (f .at) (stateOf (written ++ pending s f) f places)
+  pub later : from ≤ f .at
+  pub run : f .run ≤ f .at
+  pub within : f .at ≤ length s
+  pub wrote : text ≡ over lent used written
+  pub grown : f .used ≡ used + length written
+  pub small : fieldSize (stateOf (written ++ pending s f) f places) + 4 * from ≤ 4 * f .at
+  pub deep : f .depth ≤ 64
+  pub full : length places ≡ 64
+
+-- the state after the `{`
+abbrev pub first : ℕ → ℕ → State
+first at used =
+    record { at = at; run = at; used = used; depth = 0; spaces = 0; conversion = 0; blank = true; documented = false }
+
+pub start : (s : List ℕ) (from used : ℕ) (lent places : List ℕ) → from ≤ length s → length places ≡ 64 → Sofar s from used lent (first from used) places lent
+unfolding fresh brackets
+start s from used lent places l k =
+    record {
+      written = [];
+      same = λ kind depth. rw part-none;
+      later = omega arith;
+      run = omega arith;
+      within = l;
+      wrote = sym (over-nil lent used);
+      grown = omega arith;
+      small = rw part-none (omega arith);
+      deep = omega arith;
+      full = k;
+    }
+
+module _ {s : List ℕ} {from used : ℕ} {lent : List ℕ} {f : State} {places text : List ℕ} (h : Sofar s from used lent f places text) where
+  -- the expression, and the definition's state here
+  abbrev expression : List ℕ
+  expression = h .written ++ pending s f
+
+  abbrev now : Field
+  now = stateOf expression f places
+
+  pub room : length s ≤ 1048576 → used ≤ 2 ^ 32 → Room s f
+  room l u =
+      record {
+        run = h .run;
+        within = h .within;
+        text = omega (arith, h .grown, h .small, h .within, length-append (h .written) (pending s f));
+        spaces = omega (arith, h .small, h .within);
+        deep = h .deep;
+      }
+
+  moved : (move : Move Field) → fieldMove s (f .at) now ≡ move → Ahead fieldSize (fieldSize now) (f .at < length s) (f .at < length s) s (f .at) move
+  moved move e = rw e at (field-ahead s (f .at) now (h .within))
+
+  module _ {g : State} {places′ text′ : List ℕ} (w : Went fieldMove s f g places places′ text text′) where
+    after : Field
+    after = stateOf ((h .written ++ w .added) ++ pending s g) g places′
+
+    further : Ahead fieldSize (fieldSize now) (f .at < length s) (f .at < length s) s (f .at) (goes (g .at) after)
+    unfolding after
+    further = moved _ (w .moves (h .written))
+
+    pub on : Sofar s from used lent g places′ text′
+    unfolding after
+    on =
+        record {
+          written = h .written ++ w .added;
+          same = λ kind depth. h .same kind depth ∙ field-on kind s depth from (f .at) now (g .at) after (further .1) (w .moves (h .written));
+          later = omega (arith, h .later, further .0);
+          run = w .run;
+          within = further .1;
+          wrote = w .wrote ∙ rw (h .wrote, h .grown) (over-append lent used (h .written) (w .added));
+          grown = omega (arith, w .grown, h .grown, length-append (h .written) (w .added));
+          small = omega (arith, further .2, h .small);
+          deep = w .deep;
+          full = w .full ∙ h .full;
+        }
+
+    pub less : (f .at < g .at) × (g .at ≤ length s)
+    less = (further .0, further .1)
+
+  pub refuses : (x : Refusal) → ((e : List ℕ) → fieldMove s (f .at) (stateOf e f places) ≡ stops (x .number) (x .taken) (x .a) (x .b)) → (kind depth : ℕ) → fieldN (enough s) kind s depth from from fresh ≡ refused (x .number) (x .taken) (x .a) (x .b)
+  refuses x m kind depth = h .same kind depth ∙ field-stop kind s depth from (f .at) now (x .number) (x .taken) (x .a) (x .b) (m expression)
+
+  module _ {move : Move Field} {b : Head} {text′ : List ℕ} (t : Stopped fieldMove move s f b places text text′) (there : f .at < length s) where
+    -- outside brackets there are none
+    out : now ≡ headState expression (headAt (skippedTo s f (next s (f .at))) (record { at = next s (f .at) }))
+    unfolding brackets
+    out = rw (t .out)
+
+    pub head : HeadIs move s from used b lent text′
+    head =
+        subst (λ (x : Head). HeadIs move s from used x lent text′) (sym (t .head))
+        record {
+          expression = expression;
+          place = f .at;
+          same = λ kind depth. rw out at (h .same kind depth);
+          moves = rw out at (t .moves expression);
+          there = there;
+          later = h .later;
+          after = refl;
+          wrote = t .wrote ∙ rw (h .wrote, h .grown) (over-append lent used (h .written) (pending s f));
+          grown = omega (arith, h .grown, length-append (h .written) (pending s f));
+          small = h .small;
+        }
+
+  pub formats : {b : Head} {text′ : List ℕ} → Stopped fieldMove calls s f b places text text′ → HeadIs calls s from used b lent text′
+  formats t = head t (moved calls (t .moves expression))
+
+  module _ {b : Head} {text′ : List ℕ} (t : Stopped fieldMove ends s f b places text text′) where
+    last : HeadIs ends s from used b lent text′
+    last = head t (moved ends (t .moves expression))
+
+    by-blank : (blank : Bool) → b .blank ≡ blank → OpenedIs s from used (if blank then opened.Refused (record { number = emptyExpression; taken = b .at .at; a = 0; b = 0 }) else opened.Closed b) lent text′
+    by-blank false e = record { head = last; full = e }
+    by-blank true e =
+        λ kind depth. last .same kind depth ∙ field-end kind s depth from (last .place) (headState (last .expression) b) (last .moves) ∙ blank-refused depth from (next s (last .place)) (headState (last .expression) b) e ∙ ap (λ (n : ℕ). refused emptyExpression n 0 0) (sym (last .after))
+
+    pub closes : OpenedIs s from used (closedAs b) lent text′
+    closes = by-blank (b .blank) refl

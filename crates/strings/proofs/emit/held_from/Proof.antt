@@ -1,0 +1,10 @@
+-- `strings::emit::held_from` meets its contract. Assumes nothing.
+use Rattle.strings.proofs.emit.held_from.Statement.{statement}
+use Rattle.strings.proofs.emit.held_from.Tie as tie
+
+pub held-from-spec : {M : Type 1} → statement M
+held-from-spec =
+    tie.close
+    (tie.spec
+    (λ c. rw (c .if1 .taken))  -- returns
+    (λ c. rw (c .if1 .left)))  -- returns-2

@@ -1,0 +1,16 @@
+-- `strings::emit::literal` meets its contract. Assumes nothing.
+use borrow.Author.Needs.{needs}
+use Rattle.strings.proofs.SinkLaws.{held-literal, inner-literal}
+use Rattle.strings.proofs.emit.literal.Statement.{statement}
+use Rattle.strings.proofs.emit.literal.Tie as tie
+
+pub literal-spec : {M : Type 1} → statement M
+literal-spec =
+    tie.close
+    (tie.spec
+    (λ c κs. search needs)  -- held-from-requires
+    (λ c. search needs)  -- add-t10
+    (λ c. let a = c .before .before .before .before .args in let h = c .before .held-from in λ t T l. rw (c .before .before .if1 .taken) (held-literal (a .fr) t _ T (a .k) (h .result) (a .to) l (h .ensures)))  -- returns
+    (λ c κs. search needs)  -- put-inner-requires
+    (λ c. search needs)  -- same-length
+    (λ c. let a = c .before .before .before .before .before .before .args in λ t T l. inner-literal (a .fr) (a .nested) t _ _ T (a .k) _ (c .before .before .before .before .if1 .left) (c .before .before .put-inner .ensures t T l)))  -- returns-2

@@ -1,0 +1,17 @@
+-- `strings::emit::put_field` meets its contract. Assumes nothing.
+use borrow.Author.Needs.{needs}
+use mathlib.Core.Path.{refl}
+use Rattle.strings.proofs.SinkLaws.{put-field}
+use Rattle.strings.proofs.emit.put_field.Statement.{statement}
+use Rattle.strings.proofs.emit.put_field.Tie as tie
+
+pub put-field-spec : {M : Type 1} → statement M
+put-field-spec =
+    tie.close
+    (tie.spec
+    (λ c. search needs)  -- cast-base
+    (λ c. search needs)  -- add-place
+    (λ c. search needs)  -- cast-place
+    (λ c κs. search needs)  -- put-inner-requires
+    (λ c. search needs)  -- same-length
+    (λ c. let a = c .before .before .before .before .before .before .args in λ depth t T l. put-field (a .fr) depth (a .conversion) (a .parts) (a .at) _ t _ _ T (a .k) _ refl (c .before .before .put-inner .ensures t T l)))  -- returns

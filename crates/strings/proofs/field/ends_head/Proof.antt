@@ -1,0 +1,12 @@
+-- `strings::field::ends_head` meets its contract. Assumes nothing.
+use borrow.Author.Tests.{ne-eqb}
+use Rattle.strings.proofs.field.ends_head.Statement.{statement}
+use Rattle.strings.proofs.field.ends_head.Tie as tie
+
+pub ends-head-spec : {M : Type 1} → statement M
+ends-head-spec =
+    tie.close
+    (tie.spec
+    (λ c. rw (c .match .keys1))  -- returns
+    (λ c. rw (c .match .keys2))  -- returns-2
+    (λ c. rw (ne-eqb _ _ (c .match .rest .0 .1), ne-eqb _ _ (c .match .rest .1))))  -- returns-3

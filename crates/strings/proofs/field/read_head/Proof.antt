@@ -1,0 +1,51 @@
+-- `strings::field::read_head` meets its contract. Assumes nothing.
+use borrow.Author.Needs.{needs}
+use native.Mathlib.Omega.{arith}
+use Prim.Native.Nat.{_-_}
+use mathlib.Core.Path.{_≡_, refl}
+use lib.ListN.{length}
+use Rattle.strings.proofs.FieldLoop.{Sofar, start, room, on, less, refuses, formats, closes}
+use Rattle.strings.proofs.field.read_head.Statement.{statement}
+use Rattle.strings.proofs.field.read_head.Tie as tie
+
+abbrev Inv-loop : tie.InvT-loop
+Inv-loop s text₀ used places₀ f₀ text places f = (length text ≡ length text₀) × Sofar s (f₀ .at) used text₀ f places text
+
+abbrev μ-loop : tie.MeasureT-loop
+μ-loop s text₀ used places₀ f₀ text places f = length s - f .at
+
+pub read-head-spec : {M : Type 1} → statement M
+read-head-spec =
+    tie.close
+    (tie.spec
+    Inv-loop
+    μ-loop
+    (λ c. (refl, start _ _ _ _ _ (c .before .before .pre .0) refl))  -- loop-holds
+    (λ c κs.
+    let p = c .before .before .before .before .before .pre in
+    let h = c .before .before .loop .inv .1 in
+    (room h (p .1) (p .2), h .full))  -- read-turn-requires
+    (λ c. search needs)  -- enum-known-g
+    (λ c.
+    let h = c .before .before .before .before .before .before .before .before .loop .inv .1 in
+    let l = less h (rw (c .before .g .given .1) at (c .before .before .before .before .before .read-turn .ensures)) in
+    omega arith)  -- loop-less
+    (λ c.
+    let h = c .before .before .before .before .before .before .before .before .loop .inv .1 in
+    (search needs, on h (rw (c .before .g .given .1) at (c .before .before .before .before .before .read-turn .ensures))))  -- loop-again
+    (λ c. search needs)  -- enum-known-h
+    (λ c. search needs)  -- same-length
+    (λ c.
+    let h = c .before .before .before .before .before .before .before .before .loop .inv .1 in
+    formats h (rw (c .before .h .given .1) at (c .before .before .before .before .before .read-turn .ensures)))  -- returns
+    (λ c. search needs)  -- enum-known-h-2
+    (λ c κs. search needs)  -- closed-requires
+    (λ c. search needs)  -- same-length-2
+    (λ c.
+    let h = c .before .before .before .before .before .before .before .before .before .loop .inv .1 in
+    rw (c .closed .ensures) (closes h (rw (c .before .before .h2 .given .1) at (c .before .before .before .before .before .before .read-turn .ensures))))  -- returns-2
+    (λ c. search needs)  -- enum-known-x
+    (λ c. search needs)  -- same-length-3
+    (λ c.
+    let h = c .before .before .before .before .before .before .before .before .loop .inv .1 in
+    refuses h _ (rw (c .before .x .given .1) at (c .before .before .before .before .before .read-turn .ensures))))  -- returns-3

@@ -1,0 +1,175 @@
+-- The cycle of `strings::fstring::parse_formatted_value`, `parse_fstring` and `parse_spec` meets its contracts. Assumes nothing.
+use borrow.Author.Needs.{needs}
+use native.Mathlib.Omega.{arith}
+use mathlib.Core.Path.{_≡_, refl, sym, _∙_}
+use Prim.Native.Nat.{suc, _+_, _-_}
+use native.Mathlib.Numerals.{add-one}
+use borrow.Author.Tests.{eq-eqb, ne-eqb}
+use Rattle.definition.proofs.CharLaws.{next-past, next-in}
+use Rattle.definition.proofs.Fuel.{first-in}
+use lib.ListN.{length}
+use Rattle.strings.proofs.FstringLaws.{gave, refuses, to-give, to-refuse, fits, small-head, spec-room, closed-field, unformatted-field, specified-field, Sofar, start, deep-result, run-ended, room-text, text-over, field-refused, field-read, field-further, kept, first-room, spec-plain, spec-braced, spec-refused, spec-fits}
+use Prim.Native.Nat.{ℕ, _<_}
+use borrow.Fn.Kinds.{In}
+use borrow.Fn.PlainCycle.{Measures, is, falls, and}
+use Rattle.strings.proofs.fstring.parse_formatted_value.Reads as parse-formatted-value
+use Rattle.strings.proofs.fstring.parse_formatted_value.Kinds as parse-formatted-value-kinds
+use Rattle.strings.proofs.fstring.+parse_formatted_value+parse_fstring+parse_spec.Lts-parse_formatted_value as parse-formatted-value-lts
+use Rattle.strings.proofs.fstring.parse_fstring.Reads as parse-fstring
+use Rattle.strings.proofs.fstring.parse_fstring.Kinds as parse-fstring-kinds
+use Rattle.strings.proofs.fstring.+parse_formatted_value+parse_fstring+parse_spec.Lts-parse_fstring as parse-fstring-lts
+use Rattle.strings.proofs.fstring.parse_spec.Reads as parse-spec
+use Rattle.strings.proofs.fstring.parse_spec.Kinds as parse-spec-kinds
+use Rattle.strings.proofs.fstring.+parse_formatted_value+parse_fstring+parse_spec.Lts-parse_spec as parse-spec-lts
+use Rattle.strings.proofs.emit.emit_field.Reads as emit-field-reads
+use Rattle.strings.proofs.emit.end_text.Reads as end-text-reads
+use Rattle.strings.proofs.emit.fill_spec.Reads as fill-spec-reads
+use Rattle.strings.proofs.emit.reserve.Reads as reserve-reads
+use Rattle.strings.proofs.field.read_head.Reads as read-head-reads
+use Rattle.strings.proofs.fstring.end_field.Reads as end-field-reads
+use Rattle.strings.proofs.fstring.read_first.Reads as read-first-reads
+use Rattle.strings.proofs.fstring.refuse.Reads as refuse-reads
+use Rattle.strings.proofs.text.text_run.Reads as text-run-reads
+use Rattle.utf8.proofs.Cursor.peek.Reads as peek-reads
+use Rattle.strings.proofs.fstring.+parse_formatted_value+parse_fstring+parse_spec.{
+  statement,
+}
+use Rattle.strings.proofs.fstring.+parse_formatted_value+parse_fstring+parse_spec.Tie.{
+  close,
+}
+
+abbrev μ-parse-formatted-value : Measures 3 parse-formatted-value-kinds.ps ℕ
+μ-parse-formatted-value κs a = (length (a .0 .now) - a .1 .0 .at) + (2 - a .1 .1 .0)
+
+abbrev μ-parse-fstring : Measures 3 parse-fstring-kinds.ps ℕ
+μ-parse-fstring κs a = (length (a .0 .now) - a .1 .0 .at) + (2 - a .1 .1 .0)
+
+abbrev μ-parse-spec : Measures 3 parse-spec-kinds.ps ℕ
+μ-parse-spec κs a = (length (a .0 .now) - a .1 .0 .at) + (2 - a .1 .1 .0)
+
+abbrev parse-formatted-value-at : ℕ → In 3 parse-formatted-value-kinds.ps
+parse-formatted-value-at t =
+    and
+    3
+    parse-formatted-value-kinds.ps
+    (is 3 parse-formatted-value-kinds.ps μ-parse-formatted-value t)
+    parse-formatted-value.Pre
+
+abbrev parse-formatted-value-below : ℕ → In 3 parse-formatted-value-kinds.ps
+parse-formatted-value-below t =
+    and
+    3
+    parse-formatted-value-kinds.ps
+    (falls 3 parse-formatted-value-kinds.ps _<_ μ-parse-formatted-value t)
+    parse-formatted-value.Pre
+
+abbrev parse-fstring-at : ℕ → In 3 parse-fstring-kinds.ps
+parse-fstring-at t =
+    and 3 parse-fstring-kinds.ps (is 3 parse-fstring-kinds.ps μ-parse-fstring t) parse-fstring.Pre
+
+abbrev parse-fstring-below : ℕ → In 3 parse-fstring-kinds.ps
+parse-fstring-below t =
+    and
+    3
+    parse-fstring-kinds.ps
+    (falls 3 parse-fstring-kinds.ps _<_ μ-parse-fstring t)
+    parse-fstring.Pre
+
+abbrev parse-spec-at : ℕ → In 3 parse-spec-kinds.ps
+parse-spec-at t =
+    and 3 parse-spec-kinds.ps (is 3 parse-spec-kinds.ps μ-parse-spec t) parse-spec.Pre
+
+abbrev parse-spec-below : ℕ → In 3 parse-spec-kinds.ps
+parse-spec-below t =
+    and 3 parse-spec-kinds.ps (falls 3 parse-spec-kinds.ps _<_ μ-parse-spec t) parse-spec.Pre
+
+abbrev parse-formatted-value-calls : ℕ → parse-formatted-value-lts.Claims
+parse-formatted-value-calls t = (read-head-reads.Asked, read-head-reads.Learnt, emit-field-reads.Asked, emit-field-reads.Learnt, parse-spec-below t, parse-spec.Post, end-field-reads.Asked, end-field-reads.Learnt)
+
+abbrev parse-fstring-calls : ℕ → parse-fstring-lts.Claims
+parse-fstring-calls t = (refuse-reads.Asked, refuse-reads.Learnt, text-run-reads.Asked, text-run-reads.Learnt, end-text-reads.Asked, end-text-reads.Learnt, parse-formatted-value-below t, parse-formatted-value.Post)
+
+abbrev parse-spec-calls : ℕ → parse-spec-lts.Claims
+parse-spec-calls t = (read-first-reads.Asked, read-first-reads.Learnt, reserve-reads.Asked, reserve-reads.Learnt, end-text-reads.Asked, end-text-reads.Learnt, peek-reads.Asked, peek-reads.Learnt, fill-spec-reads.Asked, fill-spec-reads.Learnt, parse-fstring-below t, parse-fstring.Post)
+
+abbrev parse-fstring-Inv-loop : parse-fstring-lts.InvT-loop
+parse-fstring-Inv-loop s nested fr words₀ text₀ cursor₀ sink₀ words text cursor sink = (length words ≡ length words₀) × (length text ≡ length text₀) × Sofar s (fr .kind) nested (cursor₀ .at) fr words₀ text₀ words text sink₀ (cursor .at) sink
+
+abbrev parse-fstring-μ-loop : parse-fstring-lts.MeasureT-loop
+parse-fstring-μ-loop s nested fr words₀ text₀ cursor₀ sink₀ words text cursor sink = length s - cursor .at
+
+pub +parse-formatted-value+parse-fstring+parse-spec-spec : {M : Type 1} → statement M
++parse-formatted-value+parse-fstring+parse-spec-spec =
+    close
+    μ-parse-formatted-value
+    μ-parse-fstring
+    μ-parse-spec
+    (λ t. parse-formatted-value-lts.spec (parse-formatted-value-calls t) (parse-formatted-value-at t) parse-formatted-value.Post
+    (λ c κs. search needs)  -- read-head-requires
+    (λ c. search needs)  -- enum-known-r
+    (λ c. search needs)  -- enum-known-h
+    (λ c κs. let R = (c .before .before .before .before .before .before .before .before .before .before .before .before .before .pre .1 .0) in let C = rw (c .before .before .before .before .h .given .1) at (c .before .before .before .before .before .before .before .before .read-head .ensures) in let S = small-head _ _ _ _ _ _ _ (C .head) in (fits _ _ _ _ R, (S .more, omega (arith, R .load, R .small, S .bounded), omega (arith, R .places, R .low))))  -- emit-field-requires
+    (λ c. search needs)  -- enum-known-h-2
+    (λ c κs. let R = (c .before .before .before .before .before .before .before .before .before .before .before .before .before .pre .1 .0) in let C = rw (c .before .before .before .before .h2 .given .1) at (c .before .before .before .before .before .before .before .before .read-head .ensures) in let S = small-head _ _ _ _ _ _ _ C in (fits _ _ _ _ R, (S .more, omega (arith, R .load, R .small, S .bounded), omega (arith, R .places, R .low))))  -- emit-field-requires-2
+    (λ c κs. let a = (c .before .before .before .before .before .before .before .before .before .before .before .before .before .before .before .before .before .before .before .before .args) in let R = (c .before .before .before .before .before .before .before .before .before .before .before .before .before .before .before .before .before .before .before .before .pre .1 .0) in let C = rw (c .before .before .before .before .before .before .before .before .before .before .before .h2 .given .1) at (c .before .before .before .before .before .before .before .before .before .before .before .before .before .before .before .read-head .ensures) in let m = (c .before .before .before .before .before .before .emit-field2 .ensures) (C .expression) (a .text .now) (C .grown) (C .wrote) in let q = spec-room _ _ _ _ _ _ _ _ _ _ _ _ _ C R m in let e = (c .before .before .before .before .before .before .before .before .before .before .before .before .before .before .before .before .before .before .before .before .pre .0) in (omega (arith, e, q .further, q .room .low), (q .room, ((c .before .before .before .before .before .before .before .before .before .before .before .before .before .before .before .before .before .before .before .before .pre .1 .1), q .free, q .strict))))  -- parse-spec-requires
+    (λ c. search needs)  -- enum-known-r-2
+    (λ c. search needs)  -- enum-known-next
+    (λ c κs. search needs)  -- end-field-requires
+    (λ c. search needs)  -- same-length
+    (λ c. let a = (c .before .before .before .before .before .before .before .before .before .before .args) in let E = rw (c .before .r .given .1) at (c .before .before .before .before .before .read-head .ensures) in to-refuse (λ l. l) _ _ _ _ _ _ _ _ _ (E (a .fr .kind) (a .nested)))  -- returns
+    (λ c. search needs)  -- same-length-2
+    (λ c. search needs)  -- same-length-3
+    (λ c. let a = (c .before .before .before .before .before .before .before .before .before .before .before .before .before .before .before .before .before .before .args) in let C = rw (c .before .before .before .before .before .before .before .before .before .h .given .1) at (c .before .before .before .before .before .before .before .before .before .before .before .before .before .read-head .ensures) in closed-field _ (a .nested) _ _ (a .fr) _ _ _ _ _ (a .k) _ _ C ((c .before .before .before .before .emit-field .ensures) (C .head .expression) (a .text .now) (C .head .grown) (C .head .wrote)))  -- returns-2
+    (λ c. let l0 = (c .before .before .before .before .text4 .given) in let l1 = (c .before .before .before .before .before .before .words3 .given) in let l2 = (c .before .before .before .before .before .before .before .before .before .before .before .text3 .given) in let l3 = (c .before .before .before .before .before .before .before .before .before .before .before .before .before .words2 .given) in let l4 = (c .before .before .before .before .before .before .before .before .before .before .before .before .before .before .before .before .before .before .before .before .before .before .text .given) in search needs)  -- same-length-4
+    (λ c. let l0 = (c .before .before .before .before .text4 .given) in let l1 = (c .before .before .before .before .before .before .words3 .given) in let l2 = (c .before .before .before .before .before .before .before .before .before .before .before .text3 .given) in let l3 = (c .before .before .before .before .before .before .before .before .before .before .before .before .before .words2 .given) in let l4 = (c .before .before .before .before .before .before .before .before .before .before .before .before .before .before .before .before .before .before .before .before .before .before .text .given) in search needs)  -- same-length-5
+    (λ c. let a = (c .before .before .before .before .before .before .before .before .before .before .before .before .before .before .before .before .before .before .before .before .before .before .before .before .before .before .before .before .args) in let C = rw (c .before .before .before .before .before .before .before .before .before .before .before .before .before .before .before .before .before .before .before .h2 .given .1) at (c .before .before .before .before .before .before .before .before .before .before .before .before .before .before .before .before .before .before .before .before .before .before .before .read-head .ensures) in let Q = rw (c .before .r2 .given .1) at (c .before .before .before .before .before .before .before .parse-spec .ensures) in let z = refuses _ _ _ _ _ _ _ _ _ _ Q in to-refuse (λ l. l) _ _ _ _ _ _ _ _ _ (unformatted-field _ _ _ _ _ _ _ _ C _ _ _ _ z))  -- returns-3
+    (λ c. let l0 = (c .before .before .before .before .before .text4 .given) in let l1 = (c .before .before .before .before .before .before .before .words3 .given) in let l2 = (c .before .before .before .before .before .before .before .before .before .before .before .before .text3 .given) in let l3 = (c .before .before .before .before .before .before .before .before .before .before .before .before .before .before .words2 .given) in let l4 = (c .before .before .before .before .before .before .before .before .before .before .before .before .before .before .before .before .before .before .before .before .before .before .before .text .given) in search needs)  -- same-length-6
+    (λ c. let l0 = (c .before .before .before .before .before .text4 .given) in let l1 = (c .before .before .before .before .before .before .before .words3 .given) in let l2 = (c .before .before .before .before .before .before .before .before .before .before .before .before .text3 .given) in let l3 = (c .before .before .before .before .before .before .before .before .before .before .before .before .before .before .words2 .given) in let l4 = (c .before .before .before .before .before .before .before .before .before .before .before .before .before .before .before .before .before .before .before .before .before .before .before .text .given) in search needs)  -- same-length-7
+    (λ c. let a = (c .before .before .before .before .before .before .before .before .before .before .before .before .before .before .before .before .before .before .before .before .before .before .before .before .before .before .before .before .before .args) in let C = rw (c .before .before .before .before .before .before .before .before .before .before .before .before .before .before .before .before .before .before .before .before .h2 .given .1) at (c .before .before .before .before .before .before .before .before .before .before .before .before .before .before .before .before .before .before .before .before .before .before .before .before .read-head .ensures) in let m = (c .before .before .before .before .before .before .before .before .before .before .before .before .before .before .before .emit-field2 .ensures) (C .expression) (a .text .now) (C .grown) (C .wrote) in let Q = rw (c .before .before .next .given .1) at (c .before .before .before .before .before .before .before .before .parse-spec .ensures) in specified-field (a .s .now) (a .nested) (a .at .at) _ (a .fr) _ _ _ _ _ _ _ (a .k) _ _ _ _ _ C m (gave _ _ _ _ _ _ _ _ _ _ _ Q) (c .end-field .ensures)))  -- returns-4
+    (λ t. parse-fstring-lts.spec (parse-fstring-calls t) (parse-fstring-at t) parse-fstring.Post
+    parse-fstring-Inv-loop
+    parse-fstring-μ-loop
+    (λ c κs. search needs)  -- refuse-requires
+    (λ c. let a = (c .before .before .before .before .before .args) in deep-result (a .s .now) (a .nested) (a .at .at) (a .fr) _ _ _ _ (a .k) _ (c .before .if1 .taken) (c .refuse .ensures))  -- returns
+    (λ c. (refl, refl, start _ _ _ _ _ _ _ _ (c .before .before .before .before .pre .1 .0)))  -- loop-holds
+    (λ c κs. let I = (c .before .loop .inv .2) in let R = I .room in (R .low, omega (arith, (c .before .before .if1 .left)), R .small, omega (arith, R .load)))  -- text-run-requires
+    (λ c. search needs)  -- enum-known-r
+    (λ c. let i0 = (c .before .before .before .before .before .before .before .loop .inv .0) in let i1 = (c .before .before .before .before .before .before .before .loop .inv .1) in let l0 = (c .before .before .before .before .text .given) in search needs)  -- same-length
+    (λ c. let i0 = (c .before .before .before .before .before .before .before .loop .inv .0) in let i1 = (c .before .before .before .before .before .before .before .loop .inv .1) in let l0 = (c .before .before .before .before .text .given) in search needs)  -- same-length-2
+    (λ c. let I = (c .before .before .before .before .before .before .before .loop .inv .2) in let E = rw (c .before .r .given .1) at (c .before .before .before .before .before .text-run .ensures) in to-refuse (λ l. l) _ _ _ _ _ _ _ _ _ (I .same ∙ E (I .pieces)))  -- returns-2
+    (λ c. search needs)  -- enum-known-next
+    (λ c κs. let I = (c .before .before .before .before .before .before .before .before .loop .inv .2) in let U = rw (c .before .before .next .given .1) at (c .before .before .before .before .before .before .text-run .ensures) in let R = I .room in let D = run-ended _ _ _ _ _ _ _ _ _ _ U in (fits _ _ _ _ R, (D .more, omega (arith, D .bounded, R .load, R .small))))  -- end-text-requires
+    (λ c. let i0 = (c .before .before .before .before .before .before .before .before .before .before .before .loop .inv .0) in let i1 = (c .before .before .before .before .before .before .before .before .before .before .before .loop .inv .1) in let l0 = (c .before .words .given) in let l1 = (c .before .before .before .before .before .before .before .before .text .given) in search needs)  -- same-length-3
+    (λ c. let i0 = (c .before .before .before .before .before .before .before .before .before .before .before .loop .inv .0) in let i1 = (c .before .before .before .before .before .before .before .before .before .before .before .loop .inv .1) in let l0 = (c .before .words .given) in let l1 = (c .before .before .before .before .before .before .before .before .text .given) in search needs)  -- same-length-4
+    (λ c. let I = (c .before .before .before .before .before .before .before .before .before .before .before .loop .inv .2) in let U = rw (c .before .before .before .before .before .next .given .1) at (c .before .before .before .before .before .before .before .before .before .text-run .ensures) in text-over _ _ _ _ _ _ _ _ _ _ _ I _ _ _ _ U _ _ (c .before .before .end-text .ensures) _ refl refl)  -- returns-3
+    (λ c. search needs)  -- enum-known-next-2
+    (λ c κs. let I = (c .before .before .before .before .before .before .before .before .loop .inv .2) in let U = rw (c .before .before .next2 .given .1) at (c .before .before .before .before .before .before .text-run .ensures) in let R = I .room in let D = run-ended _ _ _ _ _ _ _ _ _ _ (U .stops) in (fits _ _ _ _ R, (D .more, omega (arith, D .bounded, R .load, R .small))))  -- end-text-requires-2
+    (λ c κs. let a = (c .before .before .before .before .before .before .before .before .before .before .before .before .before .before .before .before .before .before .args) in let I = (c .before .before .before .before .before .before .before .before .before .before .before .before .before .loop .inv .2) in let U = rw (c .before .before .before .before .before .before .before .next2 .given .1) at (c .before .before .before .before .before .before .before .before .before .before .before .text-run .ensures) in let n = next-past (a .s .now) (U .brace) (U .there) in let v = U .stops .upto .ahead in let lo = next-in (a .s .now) (U .brace) (U .stops .upto .inside) in let w = U .after in (omega (arith, (c .before .before .before .before .before .before .before .before .before .before .before .before .before .before .before .before .before .before .pre .0), I .later, v, n, lo, w), (room-text _ _ _ _ _ _ _ _ _ _ _ I _ _ _ _ (U .stops) _ _ (c .before .before .before .before .end-text2 .ensures) _ (omega (arith, n, w)) (omega (arith, lo, w)), omega (arith, (c .before .before .before .before .before .before .before .before .before .before .before .before .before .before .if1 .left)))))  -- parse-formatted-value-requires
+    (λ c. search needs)  -- enum-known-r-2
+    (λ c. let i0 = (c .before .before .before .before .before .before .before .before .before .before .before .before .before .before .before .before .before .before .before .before .before .loop .inv .0) in let i1 = (c .before .before .before .before .before .before .before .before .before .before .before .before .before .before .before .before .before .before .before .before .before .loop .inv .1) in let l0 = (c .before .before .before .before .text2 .given) in let l1 = (c .before .before .before .before .before .before .words3 .given) in let l2 = (c .before .before .before .before .before .before .before .before .before .before .before .words2 .given) in let l3 = (c .before .before .before .before .before .before .before .before .before .before .before .before .before .before .before .before .before .before .text .given) in search needs)  -- same-length-5
+    (λ c. let i0 = (c .before .before .before .before .before .before .before .before .before .before .before .before .before .before .before .before .before .before .before .before .before .loop .inv .0) in let i1 = (c .before .before .before .before .before .before .before .before .before .before .before .before .before .before .before .before .before .before .before .before .before .loop .inv .1) in let l0 = (c .before .before .before .before .text2 .given) in let l1 = (c .before .before .before .before .before .before .words3 .given) in let l2 = (c .before .before .before .before .before .before .before .before .before .before .before .words2 .given) in let l3 = (c .before .before .before .before .before .before .before .before .before .before .before .before .before .before .before .before .before .before .text .given) in search needs)  -- same-length-6
+    (λ c. let I = (c .before .before .before .before .before .before .before .before .before .before .before .before .before .before .before .before .before .before .before .before .before .loop .inv .2) in let U = rw (c .before .before .before .before .before .before .before .before .before .before .before .before .before .before .before .next2 .given .1) at (c .before .before .before .before .before .before .before .before .before .before .before .before .before .before .before .before .before .before .before .text-run .ensures) in let Q = rw (c .before .r2 .given .1) at (c .before .before .before .before .before .before .before .parse-formatted-value .ensures) in let z = refuses _ _ _ _ _ _ _ _ _ _ Q in field-refused _ _ _ _ _ _ _ _ _ _ _ I _ _ _ _ (U .stops) _ _ (c .before .before .before .before .before .before .before .before .before .before .before .before .end-text2 .ensures) _ _ refl (U .there) (U .after) z _ _)  -- returns-4
+    (λ c. search needs)  -- enum-known-after
+    (λ c. let I = (c .before .before .before .before .before .before .before .before .before .before .before .before .before .before .before .before .before .before .before .before .before .loop .inv .2) in let U = rw (c .before .before .before .before .before .before .before .before .before .before .before .before .before .before .before .next2 .given .1) at (c .before .before .before .before .before .before .before .before .before .before .before .before .before .before .before .before .before .before .before .text-run .ensures) in let Q = rw (c .before .after .given .1) at (c .before .before .before .before .before .before .before .parse-formatted-value .ensures) in let G = gave _ _ _ _ _ _ _ _ _ _ _ Q in let w = field-further _ _ _ _ _ _ _ _ _ _ _ I _ _ _ _ (U .stops) _ _ (c .before .before .before .before .before .before .before .before .before .before .before .before .end-text2 .ensures) _ (U .there) (U .after) _ _ _ _ G in omega (arith, w .0, w .1))  -- loop-less
+    (λ c. let v0 = (c .before .before .before .before .before .before .before .before .before .before .before .words2 .given) in let v1 = (c .before .before .before .before .before .before .words3 .given) in let v2 = (c .before .before .before .before .before .before .before .before .before .before .before .before .before .before .before .before .before .before .text .given) in let v3 = (c .before .before .before .before .text2 .given) in let v4 = (c .before .before .before .before .before .before .before .before .before .before .before .before .before .before .before .before .before .before .before .before .before .loop .inv .0) in let v5 = (c .before .before .before .before .before .before .before .before .before .before .before .before .before .before .before .before .before .before .before .before .before .loop .inv .1) in let I = (c .before .before .before .before .before .before .before .before .before .before .before .before .before .before .before .before .before .before .before .before .before .loop .inv .2) in let U = rw (c .before .before .before .before .before .before .before .before .before .before .before .before .before .before .before .next2 .given .1) at (c .before .before .before .before .before .before .before .before .before .before .before .before .before .before .before .before .before .before .before .text-run .ensures) in let Q = rw (c .before .after .given .1) at (c .before .before .before .before .before .before .before .parse-formatted-value .ensures) in let G = gave _ _ _ _ _ _ _ _ _ _ _ Q in (search needs, search needs, field-read _ _ _ _ _ _ _ _ _ _ _ I _ _ _ _ (U .stops) _ _ (c .before .before .before .before .before .before .before .before .before .before .before .before .end-text2 .ensures) _ refl (U .there) (U .after) _ _ _ _ G)))  -- loop-again
+    (λ t. parse-spec-lts.spec (parse-spec-calls t) (parse-spec-at t) parse-spec.Post
+    (λ c κs. search needs)  -- read-first-requires
+    (λ c κs. let R = (c .before .before .before .before .before .before .before .before .before .pre .1 .0) in fits _ _ _ _ R)  -- reserve-requires
+    (λ c. let Z = (c .before .before .before .before .before .before .before .before .before .before .pre .1 .1) in let z = Z .0 in search needs)  -- add-end-text
+    (λ c κs. let a = (c .before .before .before .before .before .before .before .before .before .before .args) in let R = (c .before .before .before .before .before .before .before .before .before .before .pre .1 .0) in let K = kept (a .k) _ (c .reserve .ensures .0) (c .reserve .ensures .1) in let F = (c .before .before .before .before .before .read-first .ensures) in let lo = first-in (a .s .now) (a .at .at) (R .low) in (record { small = omega (arith, K .load, R .load); ordered = K .ordered (R .ordered) }, (omega (arith, K .used, F .0, F .1), omega (arith, F .0, F .1, R .load, R .small))))  -- end-text-requires
+    (λ c κs. search needs)  -- peek-requires
+    (λ c κs. let a = (c .before .before .before .before .before .before .before .before .before .before .before .before .before .before .before .before .args) in let R = (c .before .before .before .before .before .before .before .before .before .before .before .before .before .before .before .before .pre .1 .0) in let Z = (c .before .before .before .before .before .before .before .before .before .before .before .before .before .before .before .before .pre .1 .1) in let K = kept (a .k) _ (c .before .before .before .before .before .before .reserve .ensures .0) (c .before .before .before .before .before .before .reserve .ensures .1) in let F = (c .before .before .before .before .before .before .before .before .before .before .before .read-first .ensures) in let g = rw (add-one (a .nested)) at (c .before .before .before .before .before .end-text .ensures) in (fits _ _ _ _ R, fits _ _ _ _ (first-room (a .s .now) (a .nested) (a .at .at) (a .fr) _ _ _ _ (a .k) _ _ _ _ R (Z .2) K (F .0) (F .1) (F .2) g)))  -- fill-spec-requires
+    (λ c. search needs)  -- same-length
+    (λ c. search needs)  -- same-length-2
+    (λ c. let a = (c .before .before .before .before .before .before .before .before .before .before .before .before .before .before .before .before .before .before .before .args) in let R = (c .before .before .before .before .before .before .before .before .before .before .before .before .before .before .before .before .before .before .before .pre .1 .0) in let Z = (c .before .before .before .before .before .before .before .before .before .before .before .before .before .before .before .before .before .before .before .pre .1 .1) in let K = kept (a .k) _ (c .before .before .before .before .before .before .before .before .before .reserve .ensures .0) (c .before .before .before .before .before .before .before .before .before .reserve .ensures .1) in let F = (c .before .before .before .before .before .before .before .before .before .before .before .before .before .before .read-first .ensures) in let g = rw (add-one (a .nested)) at (c .before .before .before .before .before .before .before .before .end-text .ensures) in spec-plain (a .s .now) (a .nested) (a .at .at) (a .fr) _ _ _ _ (a .k) _ _ _ _ R (Z .2) K (F .0) (F .1) (F .2) g (Z .1) (c .before .before .before .before .before .before .before .before .before .reserve .ensures .0) (c .before .before .before .before .before .before .before .before .before .reserve .ensures .1) _ _ _ refl (ne-eqb _ _ (λ e. (c .before .before .before .before .if1 .taken) ((c .before .before .before .before .before .peek .ensures) ∙ e))) (c .before .before .fill-spec .ensures .0) (c .before .before .fill-spec .ensures .1))  -- returns
+    (λ c. let Z = (c .before .before .before .before .before .before .before .before .before .before .before .before .before .before .before .pre .1 .1) in let z = Z .0 in search needs)  -- add-parse-fstring
+    (λ c κs. let a = (c .before .before .before .before .before .before .before .before .before .before .before .before .before .before .before .before .before .args) in let R = (c .before .before .before .before .before .before .before .before .before .before .before .before .before .before .before .before .before .pre .1 .0) in let Z = (c .before .before .before .before .before .before .before .before .before .before .before .before .before .before .before .before .before .pre .1 .1) in let K = kept (a .k) _ (c .before .before .before .before .before .before .before .reserve .ensures .0) (c .before .before .before .before .before .before .before .reserve .ensures .1) in let F = (c .before .before .before .before .before .before .before .before .before .before .before .before .read-first .ensures) in let g = rw (add-one (a .nested)) at (c .before .before .before .before .before .before .end-text .ensures) in let lo = first-in (a .s .now) (a .at .at) (R .low) in let q = first-room (a .s .now) (a .nested) (a .at .at) (a .fr) _ _ _ _ (a .k) _ _ _ _ R (Z .2) K (F .0) (F .1) (F .2) g in (omega (arith, (c .before .before .before .before .before .before .before .before .before .before .before .before .before .before .before .before .before .pre .0), Z .0, F .0, q .low), (q, omega (arith, Z .0))))  -- parse-fstring-requires
+    (λ c. search needs)  -- enum-known-r
+    (λ c. search needs)  -- enum-known-next
+    (λ c κs. let a = (c .before .before .before .before .before .before .before .before .before .before .before .before .before .before .before .before .before .before .before .before .before .before .before .before .before .before .args) in let R = (c .before .before .before .before .before .before .before .before .before .before .before .before .before .before .before .before .before .before .before .before .before .before .before .before .before .before .pre .1 .0) in let Z = (c .before .before .before .before .before .before .before .before .before .before .before .before .before .before .before .before .before .before .before .before .before .before .before .before .before .before .pre .1 .1) in let K = kept (a .k) _ (c .before .before .before .before .before .before .before .before .before .before .before .before .before .before .before .before .reserve .ensures .0) (c .before .before .before .before .before .before .before .before .before .before .before .before .before .before .before .before .reserve .ensures .1) in let F = (c .before .before .before .before .before .before .before .before .before .before .before .before .before .before .before .before .before .before .before .before .before .read-first .ensures) in let g = rw (add-one (a .nested)) at (c .before .before .before .before .before .before .before .before .before .before .before .before .before .before .before .end-text .ensures) in let Q = rw (add-one (a .nested), (c .before .before .next .given .1)) at (c .before .before .before .before .before .before .before .before .parse-fstring .ensures) in let H = gave _ _ _ _ _ _ _ _ _ _ _ Q in (fits _ _ _ _ R, spec-fits (a .s .now) (a .nested) (a .at .at) (a .fr) _ _ _ _ (a .k) _ _ _ _ R (Z .2) K (F .0) (F .1) (F .2) g (Z .1) (c .before .before .before .before .before .before .before .before .before .before .before .before .before .before .before .before .reserve .ensures .0) (c .before .before .before .before .before .before .before .before .before .before .before .before .before .before .before .before .reserve .ensures .1) _ _ _ _ H))  -- fill-spec-requires-2
+    (λ c. let l0 = (c .before .before .before .before .text2 .given) in let l1 = (c .before .before .before .before .before .before .words3 .given) in let l2 = (c .before .before .before .before .before .before .before .before .before .before .before .before .before .words .given) in let l3 = (c .before .before .before .before .before .before .before .before .before .before .before .before .before .before .before .before .before .before .before .text .given) in search needs)  -- same-length-3
+    (λ c. let l0 = (c .before .before .before .before .text2 .given) in let l1 = (c .before .before .before .before .before .before .words3 .given) in let l2 = (c .before .before .before .before .before .before .before .before .before .before .before .before .before .words .given) in let l3 = (c .before .before .before .before .before .before .before .before .before .before .before .before .before .before .before .before .before .before .before .text .given) in search needs)  -- same-length-4
+    (λ c. let a = (c .before .before .before .before .before .before .before .before .before .before .before .before .before .before .before .before .before .before .before .before .before .before .before .before .before .args) in let R = (c .before .before .before .before .before .before .before .before .before .before .before .before .before .before .before .before .before .before .before .before .before .before .before .before .before .pre .1 .0) in let Z = (c .before .before .before .before .before .before .before .before .before .before .before .before .before .before .before .before .before .before .before .before .before .before .before .before .before .pre .1 .1) in let K = kept (a .k) _ (c .before .before .before .before .before .before .before .before .before .before .before .before .before .before .before .reserve .ensures .0) (c .before .before .before .before .before .before .before .before .before .before .before .before .before .before .before .reserve .ensures .1) in let F = (c .before .before .before .before .before .before .before .before .before .before .before .before .before .before .before .before .before .before .before .before .read-first .ensures) in let g = rw (add-one (a .nested)) at (c .before .before .before .before .before .before .before .before .before .before .before .before .before .before .end-text .ensures) in let Q = rw (add-one (a .nested), (c .before .r .given .1)) at (c .before .before .before .before .before .before .before .parse-fstring .ensures) in spec-refused (a .s .now) (a .nested) (a .at .at) (a .fr) _ _ _ _ (a .k) _ _ _ _ R (Z .2) K (F .0) (F .1) (F .2) g (Z .1) (c .before .before .before .before .before .before .before .before .before .before .before .before .before .before .before .reserve .ensures .0) (c .before .before .before .before .before .before .before .before .before .before .before .before .before .before .before .reserve .ensures .1) (eq-eqb _ _ (sym (c .before .before .before .before .before .before .before .before .before .before .before .peek .ensures) ∙ (c .before .before .before .before .before .before .before .before .before .before .if1 .left))) _ _ _ (refuses _ _ _ _ _ _ _ _ _ _ Q))  -- returns-2
+    (λ c. let l0 = (c .before .words4 .given) in let l1 = (c .before .before .before .before .before .before .before .before .text2 .given) in let l2 = (c .before .before .before .before .before .before .before .before .before .before .words3 .given) in let l3 = (c .before .before .before .before .before .before .before .before .before .before .before .before .before .before .before .before .before .words .given) in let l4 = (c .before .before .before .before .before .before .before .before .before .before .before .before .before .before .before .before .before .before .before .before .before .before .before .text .given) in search needs)  -- same-length-5
+    (λ c. let l0 = (c .before .words4 .given) in let l1 = (c .before .before .before .before .before .before .before .before .text2 .given) in let l2 = (c .before .before .before .before .before .before .before .before .before .before .words3 .given) in let l3 = (c .before .before .before .before .before .before .before .before .before .before .before .before .before .before .before .before .before .words .given) in let l4 = (c .before .before .before .before .before .before .before .before .before .before .before .before .before .before .before .before .before .before .before .before .before .before .before .text .given) in search needs)  -- same-length-6
+    (λ c. let a = (c .before .before .before .before .before .before .before .before .before .before .before .before .before .before .before .before .before .before .before .before .before .before .before .before .before .before .before .before .before .args) in let R = (c .before .before .before .before .before .before .before .before .before .before .before .before .before .before .before .before .before .before .before .before .before .before .before .before .before .before .before .before .before .pre .1 .0) in let Z = (c .before .before .before .before .before .before .before .before .before .before .before .before .before .before .before .before .before .before .before .before .before .before .before .before .before .before .before .before .before .pre .1 .1) in let K = kept (a .k) _ (c .before .before .before .before .before .before .before .before .before .before .before .before .before .before .before .before .before .before .before .reserve .ensures .0) (c .before .before .before .before .before .before .before .before .before .before .before .before .before .before .before .before .before .before .before .reserve .ensures .1) in let F = (c .before .before .before .before .before .before .before .before .before .before .before .before .before .before .before .before .before .before .before .before .before .before .before .before .read-first .ensures) in let g = rw (add-one (a .nested)) at (c .before .before .before .before .before .before .before .before .before .before .before .before .before .before .before .before .before .before .end-text .ensures) in let Q = rw (add-one (a .nested), (c .before .before .before .before .before .next .given .1)) at (c .before .before .before .before .before .before .before .before .before .before .before .parse-fstring .ensures) in spec-braced (a .s .now) (a .nested) (a .at .at) (a .fr) _ _ _ _ (a .k) _ _ _ _ R (Z .2) K (F .0) (F .1) (F .2) g (Z .1) (c .before .before .before .before .before .before .before .before .before .before .before .before .before .before .before .before .before .before .before .reserve .ensures .0) (c .before .before .before .before .before .before .before .before .before .before .before .before .before .before .before .before .before .before .before .reserve .ensures .1) (eq-eqb _ _ (sym (c .before .before .before .before .before .before .before .before .before .before .before .before .before .before .before .peek .ensures) ∙ (c .before .before .before .before .before .before .before .before .before .before .before .before .before .before .if1 .left))) _ _ _ _ _ _ (gave _ _ _ _ _ _ _ _ _ _ _ Q) (c .before .before .fill-spec2 .ensures .0) (c .before .before .fill-spec2 .ensures .1)))  -- returns-3

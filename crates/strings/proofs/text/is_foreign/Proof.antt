@@ -1,0 +1,12 @@
+-- `strings::text::is_foreign` meets its contract. Assumes nothing.
+use borrow.Author.Needs.{needs}
+use Rattle.strings.proofs.text.is_foreign.Statement.{statement}
+use Rattle.strings.proofs.text.is_foreign.Tie as tie
+
+pub is-foreign-spec : {M : Type 1} → statement M
+is-foreign-spec =
+    tie.close
+    (tie.spec
+    (λ c κs. search needs)  -- is-any-bytes-requires
+    (λ c. rw (← c .before .is-any-bytes .ensures, c .if1 .taken))  -- returns
+    (λ c. rw (← c .before .is-any-bytes .ensures, c .if1 .left)))  -- returns-2

@@ -1,0 +1,144 @@
+-- A field's head as the code reads it, in the definition's terms.
+use Prim.Native.Nat.{ℕ, zero, suc, _+_, _*_, _^_, _≤_, _<_}
+use mathlib.Core.Path.{_≡_}
+use mathlib.Core.Bool.{Bool, false}
+use mathlib.Core.List.{List, [], _∷_, _++_}
+use lib.ListN.{length, getD}
+use Rattle.definition.specs.Numbers.{emptyExpression}
+use Rattle.definition.specs.Chars.{if_then_else_, part, next}
+use Rattle.definition.specs.Escapes.{refused}
+use Rattle.definition.specs.Body.{Move, goes, stops, calls, ends, Field, state, fresh, FieldCase, pair, converts, documents, formats, opener, closes, closer, quote, space, backslash, stray, plain, fieldMove, fieldN, enough}
+use Rattle.definition.proofs.Moves.{fieldSize}
+use Rattle.buffers.specs.Over.{over}
+use Rattle.utf8.specs.declared.Cursor.{Cursor}
+use Rattle.utf8.proofs.Steps.{Stepped}
+use Rattle.strings.specs.declared.field.Head.{Head}
+use Rattle.strings.specs.declared.field.State.{State}
+use Rattle.strings.specs.declared.field.Class.{Class}
+use Rattle.strings.specs.declared.field.Class.the-variants as class
+use Rattle.strings.specs.declared.field.Turn.{Turn}
+use Rattle.strings.specs.declared.field.Turn.the-variants as turn
+use Rattle.strings.specs.declared.field.Opened.{Opened}
+use Rattle.strings.specs.declared.field.Opened.the-variants as opened
+
+-- the definition's case of a class
+abbrev pub caseIs : Class → FieldCase
+caseIs class.Pair = pair
+caseIs class.Converts = converts
+caseIs class.Documents = documents
+caseIs class.Formats = formats
+caseIs class.Opener = opener
+caseIs class.Closes = closes
+caseIs class.Closer = closer
+caseIs class.Quote = quote
+caseIs class.Space = space
+caseIs class.Backslash = backslash
+caseIs class.Stray = stray
+caseIs class.Plain = plain
+
+-- a character with no rule of its own
+abbrev pub plainCase : Bool → FieldCase
+plainCase documented = if documented then stray else plain
+
+-- of the expression, what is not written yet
+abbrev pub pending : List ℕ → State → List ℕ
+pending s f = part s (f .run) (f .at)
+
+-- a state is in the body, and what is still to come fits
+pub record Room (s : List ℕ) (f : State) : Type 0 where
+  pub run : f .run ≤ f .at
+  pub within : f .at ≤ length s
+  pub text : f .used + length s < 2 ^ 40
+  pub spaces : f .spaces + length s < 2 ^ 40
+  pub deep : f .depth ≤ 64
+
+-- and stands at a character
+pub record Fits (s : List ℕ) (f : State) (c : ℕ) (k : Cursor) : Type 0 where
+  pub room : Room s f
+  pub here : Stepped s (f .at) c k
+
+-- the state at another place, with the bytes up to there in the expression
+abbrev pub keptTo : State → ℕ → ℕ → Bool → State
+keptTo f to depth blank =
+    record { at = to; run = f .run; used = f .used; depth = depth; spaces = f .spaces; conversion = f .conversion; blank = blank; documented = f .documented }
+
+-- and without them, where what the expression has so far is written
+abbrev pub skippedTo : List ℕ → State → ℕ → State
+skippedTo s f to =
+    record { at = to; run = to; used = f .used + length (pending s f); depth = f .depth; spaces = f .spaces; conversion = f .conversion; blank = f .blank; documented = f .documented }
+
+-- the head of a state, with the cursor after it
+abbrev pub headAt : State → Cursor → Head
+headAt f k =
+    record { at = k; used = f .used; spaces = f .spaces; conversion = f .conversion; blank = f .blank; documented = f .documented }
+
+-- the open brackets, innermost first: the first n of the places
+unfoldable pub brackets : ℕ → List ℕ → List ℕ
+brackets zero places = []
+brackets (suc n) places = getD places n 0 ∷ brackets n places
+
+-- the definition's state, whose expression is e
+abbrev pub stateOf : List ℕ → State → List ℕ → Field
+stateOf e f places = state e (f .blank) (brackets (f .depth) places) (f .conversion) (f .documented) (f .spaces)
+
+-- and that of a head
+abbrev pub headState : List ℕ → Head → Field
+headState e h = state e (h .blank) [] (h .conversion) (h .documented) (h .spaces)
+
+-- a reader of the definition
+abbrev pub Mover : Type 0
+Mover = List ℕ → ℕ → Field → Move Field
+
+-- the head goes on at g; of the expression, `added` is written
+pub record Went (m : Mover) (s : List ℕ) (f g : State) (places places′ text text′ : List ℕ) : Type 0 where
+  pub added : List ℕ
+  pub moves : (e : List ℕ) → m s (f .at) (stateOf (e ++ pending s f) f places) ≡ goes (g .at) (stateOf ((e ++ added) ++ pending s g) g places′)
+  pub run : g .run ≤ g .at
+  pub wrote : text′ ≡ over text (f .used) added
+  pub grown : g .used ≡ f .used + length added
+  pub deep : g .depth ≤ 64
+  pub full : length places′ ≡ length places
+
+-- the head ends as h, with the expression written
+pub record Stopped (m : Mover) (move : Move Field) (s : List ℕ) (f : State) (h : Head) (places text text′ : List ℕ) : Type 0 where
+  pub moves : (e : List ℕ) → m s (f .at) (stateOf e f places) ≡ move
+  pub out : f .depth ≡ 0
+  pub head : h ≡ headAt (skippedTo s f (next s (f .at))) (record { at = next s (f .at) })
+  pub wrote : text′ ≡ over text (f .used) (pending s f)
+
+-- what a turn's answer says of a reader's move from the state f, of the places and of the text
+abbrev pub TurnIs : Mover → List ℕ → State → Turn → List ℕ → List ℕ → List ℕ → List ℕ → Type 0
+TurnIs m s f (turn.On g) places places′ text text′ = Went m s f g places places′ text text′
+TurnIs m s f (turn.Formats h) places places′ text text′ = Stopped m calls s f h places text text′
+TurnIs m s f (turn.Closes h) places places′ text text′ = Stopped m ends s f h places text text′
+TurnIs m s f (turn.Refused x) places places′ text text′ = (e : List ℕ) → m s (f .at) (stateOf e f places) ≡ stops (x .number) (x .taken) (x .a) (x .b)
+
+-- a head that a `}` ends: a blank expression is refused after it
+abbrev pub closedAs : Head → Opened
+closedAs h =
+    if h .blank then opened.Refused (record { number = emptyExpression; taken = h .at .at; a = 0; b = 0 }) else opened.Closed h
+
+-- the head h of the field that began at `from`: the definition comes to its end, and makes the move there
+pub record HeadIs (move : Move Field) (s : List ℕ) (from used : ℕ) (h : Head) (text text′ : List ℕ) : Type 0 where
+  pub expression : List ℕ
+  pub place : ℕ
+  pub same : (kind depth : ℕ) → fieldN (enough s) kind s depth from from fresh ≡ fieldN (enough s) kind s depth from place (headState expression h)
+  pub moves : fieldMove s place (headState expression h) ≡ move
+  pub there : place < length s
+  pub later : from ≤ place
+  pub after : h .at .at ≡ next s place
+  pub wrote : text′ ≡ over text used expression
+  pub grown : h .used ≡ used + length expression
+  pub small : fieldSize (headState expression h) + 4 * from ≤ 4 * place
+
+-- a `}` does not end a blank one
+pub record ClosedIs (s : List ℕ) (from used : ℕ) (h : Head) (text text′ : List ℕ) : Type 0 where
+  pub head : HeadIs ends s from used h text text′
+  pub full : h .blank ≡ false
+
+-- what the answer says of the field that began at `from`, and of the text
+abbrev pub OpenedIs : List ℕ → ℕ → ℕ → Opened → List ℕ → List ℕ → Type 0
+OpenedIs s from used (opened.Closed h) text text′ = ClosedIs s from used h text text′
+OpenedIs s from used (opened.Spec h) text text′ = HeadIs calls s from used h text text′
+OpenedIs s from used (opened.Refused x) text text′ =
+    (kind depth : ℕ) → fieldN (enough s) kind s depth from from fresh ≡ refused (x .number) (x .taken) (x .a) (x .b)

@@ -1,0 +1,45 @@
+-- What the readers of an f-string answer and write, by the definition's readings.
+use Prim.Native.Nat.{ℕ, suc, _+_, _-_, _*_, _≤_, _<_}
+use mathlib.Core.Path.{_≡_}
+use mathlib.Core.List.{List, [], _∷_, map}
+use mathlib.Core.Bool.{Bool}
+use lib.ListN.{length}
+use Rattle.definition.specs.Chars.{if_then_else_, atEnd, next}
+use Rattle.definition.specs.Numbers.{unclosedLbrace, emptyExpression}
+use Rattle.definition.specs.Escapes.{got, refused}
+use Rattle.definition.specs.Escapes as d
+use Rattle.definition.specs.Body.{Piece, spec, direct}
+use Rattle.strings.specs.declared.Refusal.{Refusal}
+use Rattle.strings.specs.declared.emit.Frame.{Frame}
+use Rattle.strings.specs.declared.emit.Sink.{Sink}
+use Rattle.strings.specs.declared.fstring.Read.{Read}
+use Rattle.strings.specs.declared.fstring.Read.the-variants.{Done, Refused}
+use Rattle.strings.specs.Sinks.{loadOf, Fits, Emits}
+
+-- the body fits, its places too, and all that is still to come
+pub record Room (s : List ℕ) (at : ℕ) (fr : Frame) (k : Sink) : Type 0 where
+  pub low : at ≤ length s
+  pub small : length s ≤ 1048576
+  pub places : fr .base + length s < 4294967296
+  pub load : loadOf k + 8 * (length s - at) ≤ 16777216
+  pub ordered : k .from ≤ k .used
+
+-- what is read and written is the definition's reading of pieces at a depth, of which `more` makes the records
+abbrev pub Written : (List Piece → List Piece) → d.Read (List Piece) → Frame → ℕ → List ℕ → List ℕ → List ℕ → List ℕ → Sink → Read → Type 0
+Written more (got ps j) fr depth words text words′ text′ k (Done at r) = (at .at ≡ j) × Emits fr depth (more ps) words text words′ text′ k r
+Written more (got ps j) fr depth words text words′ text′ k (Refused x) = ⊥
+Written more (refused n j a b) fr depth words text words′ text′ k (Done at r) = ⊥
+Written more (refused n j a b) fr depth words text words′ text′ k (Refused x) = x ≡ record { number = n; taken = j; a = a; b = b }
+
+abbrev pub ReadIs : d.Read (List Piece) → Frame → ℕ → List ℕ → List ℕ → List ℕ → List ℕ → Sink → Read → Type 0
+ReadIs = Written (λ ps. ps)
+
+-- a spec's record stands before its parts
+abbrev pub SpecIs : d.Read (List Piece) → Frame → ℕ → List ℕ → List ℕ → List ℕ → List ℕ → Sink → Read → Type 0
+SpecIs read fr depth = Written (λ ps. spec (direct (suc depth) ps) ∷ ps) read fr depth
+
+-- the end of a field after its spec
+abbrev pub fieldEnd : List ℕ → ℕ → Bool → Sink → Read
+fieldEnd s j blank k =
+    if atEnd s j then Refused (record { number = unclosedLbrace; taken = j; a = 0; b = 0 }) else
+    if blank then Refused (record { number = emptyExpression; taken = next s j; a = 0; b = 0 }) else Done (record { at = next s j }) k

@@ -1,0 +1,5 @@
+pub mod Emit
+pub mod Sinks
+pub mod Text
+pub mod FieldTurns
+pub mod Fstring
