@@ -1,0 +1,64 @@
+//! An outcome in document 01's terms, and the twelve numbers of the C interface.
+
+#[derive(Clone, Copy, Debug, PartialEq)]
+pub struct Refusal {
+    pub number: u32,
+    pub literal: u32,
+    pub place: u32,
+    pub details: [u32; 2],
+}
+
+impl Refusal {
+    pub fn new(number: u32, literal: usize, place: u32) -> Self {
+        Refusal { number, literal: literal as u32, place, details: [0, 0] }
+    }
+}
+
+#[derive(Clone, Copy, Debug, PartialEq)]
+pub enum Sort {
+    Plain,
+    Joined,
+    Bytes,
+}
+
+/// kind, text offset, text length, start, end, conversion or u mark, parts, place
+pub type Record = [u32; 8];
+
+#[derive(Clone, Debug, PartialEq)]
+pub struct Acceptance {
+    pub sort: Sort,
+    pub u_mark: bool,
+    pub first_start: u32,
+    pub last_end: u32,
+    pub records: Vec<Record>,
+    pub text: Vec<u8>,
+}
+
+pub type Outcome = Result<Acceptance, Refusal>;
+
+/// What the C interface answers with.
+pub type Numbers = [u32; 12];
+
+impl Refusal {
+    pub fn numbers(&self) -> Numbers {
+        let [a, b] = self.details;
+        let mut numbers = [0; 12];
+        numbers[..5].copy_from_slice(&[self.number, self.literal, self.place, a, b]);
+        numbers
+    }
+}
+
+impl Acceptance {
+    pub fn numbers(&self) -> Numbers {
+        let mut numbers = [0; 12];
+        numbers[1..7].copy_from_slice(&[
+            self.sort as u32,
+            u32::from(self.u_mark),
+            self.first_start,
+            self.last_end,
+            self.records.len() as u32,
+            self.text.len() as u32,
+        ]);
+        numbers
+    }
+}

@@ -1,0 +1,62 @@
+//! Answers questions from standard input, one line each.
+//!
+//!   ask rust    what the published Rust gives (1, 2, 4 and 6 stand for lists it cannot take)
+//!   ask rules   what document 01 expects, with room enough
+//!
+//! A question is the list's numbers and, last, the script in hexadecimal after a `|`:
+//!
+//!   1 0 2 3 0 6 | 6622 7b787d 22     (blanks between hexadecimal digits are passed over)
+//!
+//! The answer is `refused NUMBER LITERAL PLACE DETAIL DETAIL`, or
+//! `accepted SORT U_MARK FIRST_START LAST_END | WORDS | TEXT IN HEXADECIMAL`.
+
+use std::io::{self, BufRead, Write};
+use std::process::ExitCode;
+
+use oracle::answer::{Acceptance, Outcome};
+use oracle::rules;
+
+type Read = fn(&[u8], &[u32]) -> Outcome;
+
+fn main() -> ExitCode {
+    let read: Read = match std::env::args().nth(1).as_deref() {
+        Some("rust") => rules::reading_by_the_rust,
+        Some("rules") => rules::reading,
+        _ => {
+            eprintln!("usage: ask rust | ask rules");
+            return ExitCode::from(2);
+        }
+    };
+    let mut answers = io::stdout().lock();
+    for line in io::stdin().lock().lines() {
+        let line = line.expect("a readable line");
+        let (script, list) = question(&line).unwrap_or_else(|| panic!("not a question: {line}"));
+        writeln!(answers, "{}", answer(&read(&script, &list))).expect("a writable output");
+    }
+    ExitCode::SUCCESS
+}
+
+fn question(line: &str) -> Option<(Vec<u8>, Vec<u32>)> {
+    let (numbers, digits) = line.split_once('|')?;
+    let list = numbers.split_whitespace().map(str::parse).collect::<Result<_, _>>().ok()?;
+    let digits: Vec<u32> =
+        digits.chars().filter(|c| *c != ' ').map(|c| c.to_digit(16)).collect::<Option<_>>()?;
+    let script = digits.chunks(2).map(|pair| (pair[0] << 4 | pair[1]) as u8).collect();
+    Some((script, list))
+}
+
+fn answer(outcome: &Outcome) -> String {
+    match outcome {
+        Err(refusal) => format!("refused {}", spaced(&refusal.numbers()[..5])),
+        Ok(accepted) => {
+            let Acceptance { records, text, .. } = accepted;
+            let digits: String = text.iter().map(|byte| format!("{byte:02x}")).collect();
+            let head = spaced(&accepted.numbers()[1..5]);
+            format!("accepted {head} | {} | {digits}", spaced(records.as_flattened()))
+        }
+    }
+}
+
+fn spaced(numbers: &[u32]) -> String {
+    numbers.iter().map(u32::to_string).collect::<Vec<_>>().join(" ")
+}

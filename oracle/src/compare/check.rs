@@ -1,0 +1,152 @@
+//! One input against the reference, with room enough, just enough and too little.
+
+use std::fmt;
+use std::ops::Range;
+
+use inputs::{Case, FILL_BYTE, FILL_WORD};
+use oracle::answer::{Numbers, Outcome};
+use oracle::rules::{self, RECORD_WORDS};
+
+use crate::candidate;
+
+/// How many words and bytes stand before and behind the lent buffers.
+const AROUND: usize = 4;
+
+/// How many records and text bytes are printed.
+const RECORDS_SHOWN: usize = 40;
+const TEXT_SHOWN: usize = 2_000;
+
+/// Words and text bytes that are lent.
+type Room = (usize, usize);
+
+/// The numbers answered, and both buffers with what stands around them.
+#[derive(Clone, Default, PartialEq)]
+pub struct Answer {
+    numbers: Numbers,
+    words: Vec<u32>,
+    text: Vec<u8>,
+}
+
+impl Answer {
+    /// Lends filled buffers to a reading, and keeps what it answers and leaves in them.
+    fn take(&mut self, room: Room, read: impl FnOnce(&mut [u32], &mut [u8]) -> Numbers) {
+        self.words.clear();
+        self.words.resize(room.0 + 2 * AROUND, FILL_WORD);
+        self.text.clear();
+        self.text.resize(room.1 + 2 * AROUND, FILL_BYTE);
+        let (words, text) = (inside(&self.words), inside(&self.text));
+        self.numbers = read(&mut self.words[words], &mut self.text[text]);
+    }
+}
+
+/// Where in its surroundings a lent buffer lies.
+fn inside<T>(buffer: &[T]) -> Range<usize> {
+    AROUND..buffer.len() - AROUND
+}
+
+impl fmt::Display for Answer {
+    fn fmt(&self, f: &mut fmt::Formatter) -> fmt::Result {
+        let (words, text) = (&self.words[inside(&self.words)], &self.text[inside(&self.text)]);
+        writeln!(f, "{:?}", self.numbers)?;
+        for record in words.chunks(RECORD_WORDS).take(RECORDS_SHOWN) {
+            writeln!(f, "  {record:?}")?;
+        }
+        write!(f, "  \"{}\"", text[..text.len().min(TEXT_SHOWN)].escape_ascii())
+    }
+}
+
+pub struct Difference {
+    pub room: Room,
+    pub expected: Answer,
+    pub given: Answer,
+}
+
+impl Difference {
+    /// Where the answers first differ. A negative place, or one not below the room, is
+    /// outside of the buffer that was lent.
+    pub fn first(&self) -> String {
+        let (expected, given) = (&self.expected, &self.given);
+        let from_inside = |at: usize| at as isize - AROUND as isize;
+        if let Some(at) = first_unequal(&expected.numbers, &given.numbers) {
+            format!("number {at}")
+        } else if let Some(at) = first_unequal(&expected.words, &given.words) {
+            format!("word {}", from_inside(at))
+        } else {
+            let at = first_unequal(&expected.text, &given.text).expect("there is a difference");
+            format!("text byte {}", from_inside(at))
+        }
+    }
+}
+
+fn first_unequal<T: PartialEq>(one: &[T], other: &[T]) -> Option<usize> {
+    one.iter().zip(other).position(|(one, other)| one != other)
+}
+
+/// Compares, and counts what was compared.
+#[derive(Default)]
+pub struct Checker {
+    expected: Answer,
+    given: Answer,
+    calls: u64,
+    readings: [u64; 32],
+    short_of_room: [u64; 32],
+}
+
+impl Checker {
+    pub fn check(&mut self, case: &Case) -> Option<Difference> {
+        let outcome = rules::reading(&case.script, &case.list);
+        self.readings[outcome.as_ref().map_or_else(|refusal| refusal.number as usize, |_| 0)] += 1;
+        rooms(&outcome).into_iter().find_map(|room| self.check_with(case, &outcome, room))
+    }
+
+    fn check_with(&mut self, case: &Case, outcome: &Outcome, room: Room) -> Option<Difference> {
+        self.expected.take(room, |words, text| rules::lay_out(outcome, words, text));
+        self.given.take(room, |words, text| candidate::read(&case.script, &case.list, words, text));
+        self.calls += 1;
+        if let number @ (30 | 31) = self.expected.numbers[0] {
+            self.short_of_room[number as usize] += 1;
+        }
+        (self.expected != self.given).then(|| Difference {
+            room,
+            expected: self.expected.clone(),
+            given: self.given.clone(),
+        })
+    }
+
+    /// How many inputs were compared.
+    pub fn inputs(&self) -> u64 {
+        self.readings.iter().sum()
+    }
+
+    pub fn summary(&self) -> String {
+        let counts = |by_number: &[u64; 32]| {
+            let met = by_number.iter().enumerate().filter(|(_, count)| **count > 0);
+            met.map(|(number, count)| format!("{number}: {count}")).collect::<Vec<_>>().join(", ")
+        };
+        format!(
+            "compare: {} inputs in {} calls, no difference; inputs by number (0 accepted): {}; \
+             calls with too little room: {}",
+            self.inputs(),
+            self.calls,
+            counts(&self.readings),
+            counts(&self.short_of_room)
+        )
+    }
+}
+
+/// Rooms to try: for an acceptance more than needed, just enough, one word less than the
+/// records need, one byte less than the text, both, and none at all.
+fn rooms(outcome: &Outcome) -> Vec<Room> {
+    let Ok(accepted) = outcome else {
+        return vec![(11, 5), (0, 0)];
+    };
+    let (words, text) = (accepted.records.len() * RECORD_WORDS, accepted.text.len());
+    let mut rooms = vec![(words + 11, text + 3), (words, text)];
+    if words > 0 {
+        rooms.extend([(words - 1, text), (0, 0)]);
+    }
+    if text > 0 {
+        rooms.extend([(words, text - 1), (words - 1, text - 1)]);
+    }
+    rooms
+}

@@ -1,0 +1,40 @@
+//! Inputs of the comparison: enumerated ones, the same in every run, and random ones.
+
+mod case;
+mod damage;
+mod edges;
+mod escapes;
+mod grammar;
+mod lists;
+mod named;
+mod random;
+mod scalars;
+mod short;
+
+pub use case::{Case, FILL_BYTE, FILL_WORD};
+pub use random::Random;
+
+/// Every enumerated input, one family after the other.
+pub fn enumerated(visit: &mut dyn FnMut(&Case)) {
+    named::visit(visit);
+    edges::visit(visit);
+    escapes::visit(visit);
+    short::visit(visit);
+    scalars::visit(visit);
+}
+
+/// The named inputs, each of which a fixed list should have.
+pub fn named(visit: &mut dyn FnMut(&Case)) {
+    named::visit(visit);
+}
+
+/// Enumerated inputs at the edges, of which a fixed list should have some.
+pub fn edges(visit: &mut dyn FnMut(&Case)) {
+    edges::visit_small(visit);
+    escapes::visit_edges(visit);
+}
+
+/// A random list, sound or damaged.
+pub fn random(random: &mut Random) -> Case {
+    lists::list(random)
+}

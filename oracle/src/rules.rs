@@ -1,0 +1,306 @@
+//! Document 01's rules for what the Rust does not have, around what the Rust gives.
+//!
+//! * 1 to 6 are checked here, before the Rust is asked.
+//! * Blank is narrower than the Rust's `trim`. It matters only where the Rust refuses with
+//!   22 and a body has a wider blank. 01 then takes that character for any other, so the
+//!   Rust is asked again with ordinary characters in the places of the wider blanks, twice
+//!   with different ones: where the two texts differ, the blank is put back.
+//! * 28 is found by a scan of its own. The scan may assume that the Rust refuses nothing up
+//!   to the place it looks for, since an earlier refusal wins over 28.
+//! * 30 and 31 compare an acceptance with the room that is lent.
+
+use std::ops::Range;
+use std::str::Chars;
+
+use crate::answer::{Acceptance, Numbers, Outcome, Refusal};
+use crate::literal::{opening, Literal, StringKind};
+use crate::rust;
+
+pub const MAX_LITERALS: usize = 1_024;
+pub const MAX_BODY_BYTES: usize = 1_048_576;
+const MAX_OPEN_BRACKETS: usize = 64;
+/// Words of a record, and numbers of a literal.
+pub const RECORD_WORDS: usize = 8;
+pub const NUMBERS: usize = 6;
+
+/// What the call must return and leave in both lent buffers.
+pub fn expected(script: &[u8], list: &[u32], words: &mut [u32], text: &mut [u8]) -> Numbers {
+    lay_out(&reading(script, list), words, text)
+}
+
+/// What a list reads as where room does not matter.
+pub fn reading(script: &[u8], list: &[u32]) -> Outcome {
+    check_shape(list)?;
+    check_count(list)?;
+    let (literals, ranges) = descriptors(script, list)?;
+    check_size(&ranges)?;
+    let bodies = well_formed_bodies(script, &literals, &ranges)?;
+    let outcome = narrow_blank_reading(&literals, &bodies);
+    let Some(bracket) = first_65th_bracket(&literals, &bodies) else {
+        return outcome;
+    };
+    match outcome {
+        Err(refusal) if comes_before(&refusal, &bracket) => Err(refusal),
+        _ => Err(bracket),
+    }
+}
+
+/// What the Rust itself gives, on its domain or off it, for a list of sound literals.
+pub fn reading_by_the_rust(script: &[u8], list: &[u32]) -> Outcome {
+    check_shape(list)?;
+    let (literals, ranges) = descriptors(script, list)?;
+    rust::read(&literals, &well_formed_bodies(script, &literals, &ranges)?)
+}
+
+/// Answers with an outcome if there is room for it, and fills both buffers accordingly.
+pub fn lay_out(outcome: &Outcome, words: &mut [u32], text: &mut [u8]) -> Numbers {
+    match fitting(outcome, words.len(), text.len()) {
+        Ok(accepted) => {
+            let records = accepted.records.as_flattened();
+            words[..records.len()].copy_from_slice(records);
+            text[..accepted.text.len()].copy_from_slice(&accepted.text);
+            accepted.numbers()
+        }
+        Err(refusal) => {
+            words.fill(0);
+            text.fill(0);
+            refusal.numbers()
+        }
+    }
+}
+
+/// The outcome, or 30 or 31 for want of room.
+fn fitting(outcome: &Outcome, words: usize, text: usize) -> Result<&Acceptance, Refusal> {
+    let accepted = outcome.as_ref().map_err(|refusal| *refusal)?;
+    let needed = [accepted.records.len() as u32, accepted.text.len() as u32];
+    if words / RECORD_WORDS < accepted.records.len() {
+        Err(Refusal { details: needed, ..Refusal::new(30, 0, 0) })
+    } else if text < accepted.text.len() {
+        Err(Refusal { details: needed, ..Refusal::new(31, 0, 0) })
+    } else {
+        Ok(accepted)
+    }
+}
+
+/// The entry checks 1 and 2.
+fn check_shape(list: &[u32]) -> Result<(), Refusal> {
+    if list.is_empty() {
+        Err(Refusal::new(1, 0, 0))
+    } else if list.len() % NUMBERS != 0 {
+        Err(Refusal::new(2, 0, 0))
+    } else {
+        Ok(())
+    }
+}
+
+/// The entry check 3.
+fn check_count(list: &[u32]) -> Result<(), Refusal> {
+    if list.len() / NUMBERS > MAX_LITERALS {
+        return Err(Refusal::new(3, 0, 0));
+    }
+    Ok(())
+}
+
+/// The entry check 4: the literals and where their bodies lie.
+fn descriptors(script: &[u8], list: &[u32]) -> Result<(Vec<Literal>, Vec<Range<usize>>), Refusal> {
+    let mut literals: Vec<Literal> = Vec::new();
+    let mut ranges = Vec::new();
+    for numbers in list.chunks_exact(NUMBERS) {
+        let previous_end = literals.last().map_or(0, |literal| literal.end);
+        let (literal, range) =
+            descriptor(script, numbers, previous_end).ok_or(Refusal::new(4, literals.len(), 0))?;
+        literals.push(literal);
+        ranges.push(range);
+    }
+    Ok((literals, ranges))
+}
+
+/// One literal and where its body lies, unless its descriptor is bad.
+fn descriptor(
+    script: &[u8],
+    numbers: &[u32],
+    previous_end: u32,
+) -> Option<(Literal, Range<usize>)> {
+    let &[kind, flag, offset, length, start, end] = numbers else {
+        unreachable!("a descriptor is six numbers")
+    };
+    let kind = StringKind::of(kind)?;
+    let literal = Literal { kind, triple: flag == 1, start, end };
+    let body_end = u64::from(offset) + u64::from(length);
+    let close = u64::from(start) + u64::from(opening(kind, literal.triple)) + u64::from(length);
+    let good = flag <= 1
+        && body_end <= script.len() as u64
+        && start <= end
+        && previous_end <= start
+        && close <= u64::from(end);
+    good.then(|| (literal, offset as usize..body_end as usize))
+}
+
+/// The entry check 5.
+fn check_size(ranges: &[Range<usize>]) -> Result<(), Refusal> {
+    if ranges.iter().map(|range| range.len() as u64).sum::<u64>() > MAX_BODY_BYTES as u64 {
+        return Err(Refusal::new(5, 0, 0));
+    }
+    Ok(())
+}
+
+/// The entry check 6.
+fn well_formed_bodies(
+    script: &[u8],
+    literals: &[Literal],
+    ranges: &[Range<usize>],
+) -> Result<Vec<String>, Refusal> {
+    let body = |(index, range): (usize, &Range<usize>)| {
+        std::str::from_utf8(&script[range.clone()])
+            .map(str::to_owned)
+            .map_err(|error| Refusal::new(6, index, literals[index].place(error.valid_up_to())))
+    };
+    ranges.iter().enumerate().map(body).collect()
+}
+
+/// What the Rust gives if only space and U+0009 to U+000D are blank.
+fn narrow_blank_reading(literals: &[Literal], bodies: &[String]) -> Outcome {
+    let outcome = rust::read(literals, bodies);
+    let refused_as_blank = matches!(&outcome, Err(refusal) if refusal.number == 22);
+    if !refused_as_blank || !bodies.iter().any(|body| body.contains(is_wider_blank)) {
+        return outcome;
+    }
+    let [first, second] = [1, 2].map(|round| rust::read(literals, &without_blanks(bodies, round)));
+    let (mut accepted, other) = (first?, second?);
+    accepted.text = with_blanks(&accepted.text, &other.text);
+    Ok(accepted)
+}
+
+fn is_wider_blank(c: char) -> bool {
+    c.is_whitespace() && !matches!(c, ' ' | '\u{9}'..='\u{D}')
+}
+
+/// How far the ordinary characters of a round lie from the blanks they are put for: far
+/// enough to be no blanks, near enough to have as many UTF-8 bytes.
+fn shift(blank: char, round: u32) -> u32 {
+    round * if blank.len_utf8() == 2 { 0x200 } else { 0x4000 }
+}
+
+fn without_blanks(bodies: &[String], round: u32) -> Vec<String> {
+    let ordinary = |c: char| match is_wider_blank(c) {
+        true => char::from_u32(c as u32 + shift(c, round)).expect("below the surrogates"),
+        false => c,
+    };
+    bodies.iter().map(|body| body.chars().map(ordinary).collect()).collect()
+}
+
+fn with_blanks(first: &[u8], second: &[u8]) -> Vec<u8> {
+    let chars = |text| std::str::from_utf8(text).expect("an f-string's text").chars();
+    let restored = chars(first).zip(chars(second)).map(|(one, other)| match one == other {
+        true => one,
+        false => char::from_u32(one as u32 - shift(one, 1)).expect("a blank"),
+    });
+    restored.collect::<String>().into_bytes()
+}
+
+/// 28 for the first literal that has it, if every earlier character is read without refusal.
+fn first_65th_bracket(literals: &[Literal], bodies: &[String]) -> Option<Refusal> {
+    for (index, (literal, body)) in literals.iter().zip(bodies).enumerate() {
+        if !literal.kind.is_any_fstring() {
+            continue;
+        }
+        if let Err(taken) = Scan::new(body, literal.kind.is_raw()).text(0) {
+            return Some(Refusal::new(28, index, literal.place(taken)));
+        }
+    }
+    None
+}
+
+/// Whether the Rust refuses before the bracket is met. A body that ends right after the
+/// bracket gives 20 at the bracket's place, but the bracket was met first.
+fn comes_before(refusal: &Refusal, bracket: &Refusal) -> bool {
+    refusal.number == 7 || (refusal.literal, refusal.place) < (bracket.literal, bracket.place)
+}
+
+/// Looks for the 65th open bracket in a field of a body that is otherwise in order. Each
+/// step gives the bytes taken up to that bracket as its error.
+struct Scan<'a> {
+    rest: Chars<'a>,
+    length: usize,
+    raw: bool,
+}
+
+impl<'a> Scan<'a> {
+    fn new(body: &'a str, raw: bool) -> Self {
+        Scan { rest: body.chars(), length: body.len(), raw }
+    }
+
+    fn peek(&self) -> Option<char> {
+        self.rest.clone().next()
+    }
+
+    fn skip_past(&mut self, last: char) {
+        self.rest.find(|&c| c == last);
+    }
+
+    /// f-string text: to the end, or at depth 1 up to the `}` that ends it. Text at depth 2
+    /// is refused, so nothing after it counts.
+    fn text(&mut self, depth: u32) -> Result<(), usize> {
+        if depth == 2 {
+            return Ok(());
+        }
+        while let Some(c) = self.peek() {
+            if c == '}' && depth > 0 {
+                return Ok(());
+            }
+            self.rest.next();
+            match c {
+                '{' | '}' if depth == 0 && self.peek() == Some(c) => {
+                    self.rest.next();
+                }
+                '{' => self.field(depth)?,
+                '\\' if !self.raw => self.escape(),
+                _ => {}
+            }
+        }
+        Ok(())
+    }
+
+    /// What follows a backslash, as far as a brace in it would mislead.
+    fn escape(&mut self) {
+        match self.peek() {
+            Some('{' | '}') | None => {}
+            Some('N') => self.skip_past('}'),
+            Some(_) => {
+                self.rest.next();
+            }
+        }
+    }
+
+    fn field(&mut self, depth: u32) -> Result<(), usize> {
+        let mut open = 0;
+        while let Some(c) = self.rest.next() {
+            match c {
+                '!' | '=' | '<' | '>' if self.peek() == Some('=') => {
+                    self.rest.next();
+                }
+                '\'' | '"' => self.skip_past(c),
+                ':' if open == 0 => self.spec(depth)?,
+                '(' | '[' | '{' if open == MAX_OPEN_BRACKETS => {
+                    return Err(self.length - self.rest.as_str().len());
+                }
+                '(' | '[' | '{' => open += 1,
+                '}' if open == 0 => return Ok(()),
+                ')' | ']' | '}' if open > 0 => open -= 1,
+                _ => {}
+            }
+        }
+        Ok(())
+    }
+
+    fn spec(&mut self, depth: u32) -> Result<(), usize> {
+        while let Some(c) = self.peek() {
+            match c {
+                '{' => return self.text(depth + 1),
+                '}' => return Ok(()),
+                _ => self.rest.next(),
+            };
+        }
+        Ok(())
+    }
+}
