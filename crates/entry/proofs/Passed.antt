@@ -27,11 +27,11 @@ pub record Good (script : List ℕ) (l : Literal) : Type 0 where
   pub fits : l .start + opening l + l .size ≤ l .end
 
 -- nothing is left to show
-clash : {P : Type 0} → _≡_ {A = ℕ} 0 1 → P
+pub clash : {P : Type 0} → _≡_ {A = ℕ} 0 1 → P
 clash e = absurd (omega arith)
 
 -- tests that all failed
-both : (a b : Bool) → a || b ≡ false → (a ≡ false) × (b ≡ false)
+pub both : (a b : Bool) → a || b ≡ false → (a ≡ false) × (b ≡ false)
 both true b e = (cc, cc)
 both false b e = (refl, e)
 

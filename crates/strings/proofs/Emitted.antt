@@ -17,7 +17,7 @@ use Rattle.definition.proofs.Seam.{glue-true, glue-false, glue-both}
 use Rattle.definition.proofs.Laid.{itemRole, items-assoc}
 use Rattle.buffers.specs.Over.{over}
 use Rattle.buffers.proofs.Over.{over-nil, over-append, over-comm}
-use Rattle.strings.specs.Emit.{Whole, Out, hold, heldWords, closed, put, emit, emits, reserved, filledIn, bit}
+use Rattle.strings.specs.Emit.{Whole, Out, hold, heldWords, closed, put, emit, emits, reserved, filledIn, bit, Top, Tops}
 
 -- the state with the records of laid-out items written behind it, and nothing held
 unfoldable pub done : Whole → Out → List Item → Out
@@ -35,13 +35,6 @@ done w o xs =
 record Free (o : Out) : Type 0 where
   held : o .held ≡ false
   from : o .from ≡ 0
-
--- a top-level item, as the call's whole has it
-pub record Top (w : Whole) (role : Role) (x : Item) : Type 0 where
-  pub role-is : x .role ≡ role
-  pub kind : x .kind ≡ w .kind
-  pub parts : x .parts ≡ 0
-  pub place : x .place ≡ 0
 
 done-nil : (w : Whole) (o : Out) → Free o → o ≡ done w o []
 unfolding done laid texts allWords
@@ -161,11 +154,6 @@ glue-inner : (x : Item) (ys : List Item) → covers (x .role) ≡ false → glue
 unfolding glue
 glue-inner x [] e = refl
 glue-inner x (y ∷ ys) e = glue-false itemRole bothItems x y ys (inner-touches (x .role) (y .role) e)
-
--- every top-level item of a list is as the whole has it
-abbrev pub Tops : Whole → Role → List Item → Type 0
-Tops w role [] = Unit {0}
-Tops w role (x ∷ xs) = (covers (x .role) ≡ true → Top w role x) × Tops w role xs
 
 record Emitting (w : Whole) (role : Role) (xs : List Item) : Type 0 where
   free : (o : Out) → Free o → closed w (emits w xs o) ≡ done w o (merged xs)

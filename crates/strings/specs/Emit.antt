@@ -1,10 +1,11 @@
 -- What writing an item does to the buffers and the counters.
 use Prim.Native.Nat.{ℕ, _+_, _-_, _*_}
+use mathlib.Core.Path.{_≡_}
 use mathlib.Core.Bool.{Bool, true, false}
 use mathlib.Core.List.{List, [], _∷_}
 use lib.ListN.{length}
 use Rattle.definition.specs.Chars.{if_then_else_}
-use Rattle.definition.specs.Records.{Item, covers, wordsOf, recordAt}
+use Rattle.definition.specs.Records.{Role, Item, covers, wordsOf, recordAt}
 use Rattle.buffers.specs.Over.{over}
 
 -- What every top-level record of a call carries: its kind (1 literal, 4 bytes), the call's first start and last end, and its u mark
@@ -82,3 +83,15 @@ filledIn place ws o = record { words = over (o .words) (place * 8) ws; text = o 
 abbrev pub bit : Bool → ℕ
 bit true = 1
 bit false = 0
+
+-- a top-level item, as the call's whole has it
+pub record Top (w : Whole) (role : Role) (x : Item) : Type 0 where
+  pub role-is : x .role ≡ role
+  pub kind : x .kind ≡ w .kind
+  pub parts : x .parts ≡ 0
+  pub place : x .place ≡ 0
+
+-- every top-level item of a list is as the whole has it
+abbrev pub Tops : Whole → Role → List Item → Type 0
+Tops w role [] = Unit {0}
+Tops w role (x ∷ xs) = (covers (x .role) ≡ true → Top w role x) × Tops w role xs

@@ -3,3 +3,4 @@ pub mod Sinks
 pub mod Text
 pub mod FieldTurns
 pub mod Fstring
+pub mod Strings

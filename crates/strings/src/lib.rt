@@ -1,8 +1,41 @@
-// String literals: their bodies read to records and text.
+// String literals read to records and one text: the first refusal, or all records in order.
 mod emit;
 mod field;
 mod fstring;
 mod text;
+
+use emit::Frame;
+use emit::Sink;
+use emit::Whole;
+use emit::close_held;
+use emit::literal;
+use entry::Checked;
+use entry::Class;
+use entry::Literal;
+use fstring::Read;
+use fstring::parse_fstring;
+use text::Text;
+use text::parse_string;
+use utf8::Cursor;
+ghost use mathlib.Core.Path.{_≡_};
+ghost use mathlib.Core.Bool.{true};
+ghost use mathlib.Core.List.{List};
+ghost use Prim.Native.Nat.{ℕ, _<_};
+ghost use lib.ListN.{length};
+ghost use Rattle.definition.specs.Numbers.{isFString, isBytes, isUnicode};
+ghost use Rattle.definition.specs.Chars.{if_then_else_};
+ghost use Rattle.definition.specs.Records.{Role, covers, Item};
+ghost use Rattle.definition.specs.Entry.{body, anyOf};
+ghost use Rattle.definition.specs.Body.{readBody};
+ghost use Rattle.definition.specs.Reading.{accepts, readFrom, sortOf, sortNumber, answered, roomed, called, readNumbers, zeros};
+ghost use Rattle.entry.specs.Answers.{described};
+ghost use Rattle.entry.specs.Literals.{literals};
+ghost use Rattle.entry.proofs.Passed.{Passed};
+ghost use Rattle.strings.specs.declared.Outcome.the-variants.{Refused};
+ghost use Rattle.strings.specs.Emit.{Tops};
+ghost use Rattle.strings.specs.Sinks.{Fits, wholeOf};
+ghost use Rattle.strings.specs.Fstring.{Room as BodyRoom};
+ghost use Rattle.strings.specs.Strings.{CallIs, wholeFor, Room, frameOf, BodyIs, Wrote, ListIs, shortOf};
 
 // Why a body is refused: the number, the bytes taken at its place, two details.
 pub(crate) struct Refusal {
@@ -10,4 +43,250 @@ pub(crate) struct Refusal {
     pub(crate) taken: usize,
     pub(crate) a: u32,
     pub(crate) b: u32,
+}
+
+// An acceptance: its sort (0 plain, 1 joined, 2 bytes), u mark, first start, last end, and how many records and text bytes it has.
+pub struct Answer {
+    pub sort: u32,
+    pub mark: u32,
+    pub start: u32,
+    pub end: u32,
+    pub records: u32,
+    pub text: u32,
+}
+
+pub enum Outcome {
+    Accepted(Answer),
+    Refused(entry::Refusal),
+}
+
+// A list that was read and written; or the first refusal.
+pub(crate) enum Listed {
+    Done(Sink),
+    Refused(entry::Refusal),
+}
+
+const TOO_FEW_RECORD_PLACES: u32 = 30;
+
+const TOO_LITTLE_TEXT_ROOM: u32 = 31;
+
+// Whether a kind is an f-string's.
+fn is_any_fstring(kind: u32) -> bool
+    ensures { λ r. ⌜ r ≡ isFString kind ⌝ }
+{
+    match kind {
+        1 => true,
+        4 => true,
+        _ => false,
+    }
+}
+
+// A literal's body, read and written.
+fn read_body(s: &[u8], fr: Frame, words: &mut [u32], text: &mut [u8], k: Sink) -> Read
+    requires { ⌜ BodyRoom (now s) 0 fr k ⌝ }
+    ensures { λ r. ⌜ BodyIs (readBody (fr .kind) (now (s .entry))) fr (now (words .entry)) (now (text .entry)) (now (words .exit)) (now (text .exit)) k r ⌝ }
+{
+    if is_any_fstring(fr.kind) {
+        return parse_fstring(s, Cursor { at: 0 }, 0, fr, words, text, k);
+    }
+    match parse_string(s, fr.kind, text, k.used) {
+        Text::Refused(r) => Read::Refused(r),
+        Text::Done(used) => Read::Done(Cursor { at: s.len() }, literal(words, fr, k, used, 0)),
+    }
+}
+
+// A literal of the script, read and written.
+fn read_literal(
+    script: &[u8],
+    l: Literal,
+    whole: Whole,
+    words: &mut [u32],
+    text: &mut [u8],
+    k: Sink,
+) -> Read
+    requires { ⌜ Room (now script) l k ⌝ }
+    ensures { λ r. ⌜ BodyIs (readBody (l .kind) (body (now (script .entry)) (described l))) (frameOf l whole) (now (words .entry)) (now (text .entry)) (now (words .exit)) (now (text .exit)) k r ⌝ }
+{
+    let from = l.offset as usize;
+    let to = from + l.size as usize;
+    let base = l.start + entry::opening(l);
+    let fr = Frame {
+        kind: l.kind,
+        start: l.start,
+        end: l.end,
+        base,
+        whole,
+    };
+    read_body(&script[from..to], fr, words, text, k)
+}
+
+// All literals in order, read and written: the first refusal ends it.
+fn read_list(
+    script: &[u8],
+    numbers: &[u32],
+    count: u32,
+    whole: Whole,
+    words: &mut [u32],
+    text: &mut [u8],
+) -> Listed
+    requires { ⌜ Passed (now script) (now numbers) count ⌝ }
+    ensures { λ r. ⌜ ListIs (readFrom (now (script .entry)) 0 (literals (now (numbers .entry)) 0 count)) (wholeOf whole) (now (words .entry)) (now (text .entry)) (now (words .exit)) (now (text .exit)) r ⌝ }
+{
+    let mut sink = Sink {
+        count: 0,
+        used: 0,
+        held: false,
+        from: 0,
+        parts: 0,
+    };
+    let mut i: u32 = 0;
+    while i < count {
+        let l = entry::literal_at(numbers, i);
+        match read_literal(script, l, whole, words, text, sink) {
+            Read::Refused(x) => {
+                let place = entry::place(l, x.taken as u32) as u32;
+                return Listed::Refused(entry::Refusal {
+                    number: x.number,
+                    literal: i,
+                    place,
+                    a: x.a,
+                    b: x.b,
+                });
+            }
+            Read::Done(_, next) => {
+                sink = next;
+            }
+        }
+        i += 1;
+    }
+    Listed::Done(sink)
+}
+
+// The kind of a top-level record: 4 in bytes, else 1.
+fn kind_of(numbers: &[u32], count: u32) -> u32
+    ensures { λ r. ⌜ r ≡ (if anyOf isBytes (literals (now (numbers .entry)) 0 count) then 4 else 1) ⌝ }
+{
+    if entry::any_of(Class::Bytes, numbers, count) {
+        return 4;
+    }
+    1
+}
+
+// The u mark of a first kind.
+fn u_mark(kind: u32) -> u32
+    ensures { λ r. ⌜ r ≡ (if isUnicode kind then 1 else 0) ⌝ }
+{
+    if kind == 6 {
+        return 1;
+    }
+    0
+}
+
+// What every top-level record of the literals carries.
+fn whole_of(numbers: &[u32], count: u32) -> Whole
+    requires { ⌜ 0 < count ⌝ }
+    ensures { λ r. ⌜ wholeOf r ≡ wholeFor (literals (now (numbers .entry)) 0 count) ⌝ }
+{
+    let first = entry::literal_at(numbers, 0);
+    let last = entry::literal_at(numbers, count - 1);
+    Whole {
+        kind: kind_of(numbers, count),
+        start: first.start,
+        end: last.end,
+        mark: u_mark(first.kind),
+    }
+}
+
+// A refusal: both buffers are filled with zeros.
+fn refuse(words: &mut [u32], text: &mut [u8], r: entry::Refusal) -> Outcome
+    ensures { λ x. ⌜ (x ≡ Refused r) × (now (words .exit) ≡ zeros (now (words .entry))) × (now (text .exit) ≡ zeros (now (text .entry))) ⌝ }
+{
+    buffers::fill_words(words, 0);
+    buffers::fill(text, 0);
+    Outcome::Refused(r)
+}
+
+// The sort of an answer.
+fn sort_of(numbers: &[u32], count: u32) -> u32
+    ensures { λ r. ⌜ r ≡ sortNumber (sortOf (literals (now (numbers .entry)) 0 count)) ⌝ }
+{
+    if entry::any_of(Class::FStrings, numbers, count) {
+        return 1;
+    }
+    if entry::any_of(Class::Bytes, numbers, count) {
+        return 2;
+    }
+    0
+}
+
+// A refusal for want of room, with what is needed.
+fn short(number: u32, records: u32, used: u32) -> entry::Refusal
+    ensures { λ r. ⌜ r ≡ shortOf number records used ⌝ }
+{
+    entry::Refusal {
+        number,
+        literal: 0,
+        place: 0,
+        a: records,
+        b: used,
+    }
+}
+
+// The answer, if both buffers have room for what it needs.
+fn finish(
+    numbers: &[u32],
+    count: u32,
+    whole: Whole,
+    words: &mut [u32],
+    text: &mut [u8],
+    sink: Sink,
+) -> Outcome
+    requires { ⌜ Fits sink ⌝ }
+    ensures { λ r. ⌜ ((role : Role) (xs : List Item) (words₀ text₀ : List ℕ) → covers role ≡ true → Tops (wholeOf whole) role xs → wholeOf whole ≡ wholeFor (literals (now (numbers .entry)) 0 count) → Wrote (wholeOf whole) xs words₀ text₀ (now (words .entry)) (now (text .entry)) sink → CallIs (called (roomed (length words₀) (length text₀) (answered (literals (now (numbers .entry)) 0 count) (accepts xs))) words₀ text₀) (now (words .exit)) (now (text .exit)) r) ⌝ }
+{
+    let k = close_held(words, whole, sink);
+    let records = k.count as u32;
+    let used = k.used as u32;
+    if words.len() / 8 < k.count {
+        return refuse(words, text, short(TOO_FEW_RECORD_PLACES, records, used));
+    }
+    if text.len() < k.used {
+        return refuse(words, text, short(TOO_LITTLE_TEXT_ROOM, records, used));
+    }
+    Outcome::Accepted(Answer {
+        sort: sort_of(numbers, count),
+        mark: whole.mark,
+        start: whole.start,
+        end: whole.end,
+        records,
+        text: used,
+    })
+}
+
+// The literals that passed the checks, read.
+fn read_all(
+    script: &[u8],
+    numbers: &[u32],
+    count: u32,
+    words: &mut [u32],
+    text: &mut [u8],
+) -> Outcome
+    requires { ⌜ Passed (now script) (now numbers) count ⌝ }
+    ensures { λ r. ⌜ CallIs (readNumbers (now (script .entry)) (now (numbers .entry)) (now (words .entry)) (now (text .entry))) (now (words .exit)) (now (text .exit)) r ⌝ }
+{
+    let whole = whole_of(numbers, count);
+    match read_list(script, numbers, count, whole, words, text) {
+        Listed::Refused(r) => refuse(words, text, r),
+        Listed::Done(sink) => finish(numbers, count, whole, words, text, sink),
+    }
+}
+
+// Reads the literals whose numbers are listed, six for each, from a script into both buffers.
+pub fn parse_strings(script: &[u8], numbers: &[u32], words: &mut [u32], text: &mut [u8]) -> Outcome
+    ensures { λ r. ⌜ CallIs (readNumbers (now (script .entry)) (now (numbers .entry)) (now (words .entry)) (now (text .entry))) (now (words .exit)) (now (text .exit)) r ⌝ }
+{
+    match entry::check(script, numbers) {
+        Checked::Refused(r) => refuse(words, text, r),
+        Checked::Passed(count) => read_all(script, numbers, count, words, text),
+    }
 }

@@ -1,0 +1,220 @@
+-- What a call answers and leaves, once all items are emitted and closed. Assumes nothing.
+use mathlib.Core.Path.{_≡_, refl, sym, _∙_, ap, ap₂, subst}
+use mathlib.Core.Bool.{true, false}
+use mathlib.Core.List.{List, [], _∷_, map}
+use Prim.Native.Nat.{ℕ, suc, _+_, _*_, _/_, _≤_, _<_}
+use native.Mathlib.Omega.{arith}
+use borrow.Author.Tests.{lt-ltb, le-ltb}
+use lib.Dec.{ltb}
+use lib.ListN.{length, replicate}
+use Rattle.definition.specs.Records.{Role, covers, Item, Record, Answer, Sort, answerOf, merged, texts, laid, cover, wordsOf}
+use Rattle.definition.specs.Entry.{Literal, refusal, firstStart, anyOf}
+use Rattle.definition.specs.Numbers.{isBytes, isFString}
+use Rattle.definition.specs.Reading.{accepts, refuses, readFrom, sortOf, sortNumber, uMark, lastEnd, answered, roomed, Call, called, readNumbers, wordsAfter, textAfter, allWords, numbers, zeros}
+use Rattle.definition.specs.Reading as o
+use Rattle.buffers.specs.Over.{over}
+use Rattle.buffers.proofs.Over.{length-over, over-front}
+use Rattle.entry.specs.Literals.{literals}
+use Rattle.entry.specs.declared.Refusal.{Refusal}
+use Rattle.entry.proofs.Passed.{Passed, passed-reads}
+use Rattle.strings.specs.declared.Outcome.{Outcome}
+use Rattle.strings.specs.declared.Outcome.the-variants.{Accepted, Refused}
+use Rattle.strings.specs.declared.emit.Whole.{Whole}
+use Rattle.strings.specs.declared.emit.Sink.{Sink}
+use Rattle.strings.specs.Emit as e
+use Rattle.strings.specs.Emit.{closed, Tops}
+use Rattle.strings.specs.Sinks.{outOf, wholeOf}
+use Rattle.strings.specs.Strings.{says, CallIs, wholeFor, roleFor, empty, Wrote, All}
+use Rattle.strings.proofs.Emitted.{done, emitted}
+use Rattle.strings.proofs.TopLaws.{tops-read, covers-role}
+
+-- the sort of literals, by what they have
+pub sort-joined : (ls : List Literal) → anyOf isFString ls ≡ true → sortNumber (sortOf ls) ≡ 1
+unfolding sortOf sortNumber
+sort-joined ls h = rw h
+
+pub sort-bytes : (ls : List Literal) → anyOf isFString ls ≡ false → anyOf isBytes ls ≡ true → sortNumber (sortOf ls) ≡ 2
+unfolding sortOf sortNumber
+sort-bytes ls h g = rw (h, g)
+
+pub sort-plain : (ls : List Literal) → anyOf isFString ls ≡ false → anyOf isBytes ls ≡ false → sortNumber (sortOf ls) ≡ 0
+unfolding sortOf sortNumber
+sort-plain ls h g = rw (h, g)
+
+-- how many records there are, and words of them
+length-laid : (f : Record → Record) (n : ℕ) (xs : List Item) → length (map f (laid n xs)) ≡ length xs
+unfolding laid
+length-laid f n [] = refl
+length-laid f n (x ∷ xs) = ap suc (length-laid f (n + length (x .text)) xs)
+
+length-words : (rs : List Record) → length (allWords rs) ≡ length rs * 8
+unfolding allWords wordsOf
+length-words [] = refl
+length-words (r ∷ rs) = omega (arith, length-words rs)
+
+-- laid out over empty buffers
+count-done : (w : e.Whole) (words text : List ℕ) (xs : List Item) → done w (empty words text) xs .count ≡ length xs
+unfolding done
+count-done w words text xs = omega arith
+
+used-done : (w : e.Whole) (words text : List ℕ) (xs : List Item) → done w (empty words text) xs .used ≡ length (texts xs)
+unfolding done
+used-done w words text xs = omega arith
+
+words-done : (w : e.Whole) (words text : List ℕ) (xs : List Item) → done w (empty words text) xs .words ≡ over words 0 (allWords (map (cover (w .start) (w .end) (w .mark)) (laid 0 xs)))
+unfolding done
+words-done w words text xs = refl
+
+text-done : (w : e.Whole) (words text : List ℕ) (xs : List Item) → done w (empty words text) xs .text ≡ over text 0 (texts xs)
+unfolding done
+text-done w words text xs = refl
+
+-- an answer that lies over both buffers, with its counters
+record Landed (x : Answer) (words₀ text₀ words text : List ℕ) (k : Sink) : Type 0 where
+  count : k .count ≡ length (x .records)
+  used : k .used ≡ length (x .text)
+  words-are : words ≡ over words₀ 0 (allWords (x .records))
+  text-is : text ≡ over text₀ 0 (x .text)
+
+landed : (w : Whole) (s : Sort) (role : Role) (xs : List Item) (words₀ text₀ words text words′ : List ℕ) (k r : Sink)
+    → covers role ≡ true → Tops (wholeOf w) role xs → Wrote (wholeOf w) xs words₀ text₀ words text k
+    → ((T : List ℕ) → outOf r words′ T ≡ closed (wholeOf w) (outOf k words T))
+    → Landed (answerOf s (w .mark) (w .start) (w .end) xs) words₀ text₀ words′ text r
+unfolding answerOf
+landed w s role xs words₀ text₀ words text words′ k r c t h e =
+    record {
+      count = ap (λ o. o .count) z ∙ count-done (wholeOf w) words₀ text₀ (merged xs) ∙ sym (length-laid (cover (w .start) (w .end) (w .mark)) 0 (merged xs));
+      used = ap (λ o. o .used) z ∙ used-done (wholeOf w) words₀ text₀ (merged xs);
+      words-are = ap (λ o. o .words) z ∙ words-done (wholeOf w) words₀ text₀ (merged xs);
+      text-is = ap (λ o. o .text) z ∙ text-done (wholeOf w) words₀ text₀ (merged xs);
+    }
+  where
+    z : outOf r words′ text ≡ done (wholeOf w) (empty words₀ text₀) (merged xs)
+    z = e text ∙ ap (closed (wholeOf w)) (h .out) ∙ emitted (wholeOf w) role xs (empty words₀ text₀) c t refl refl
+
+-- the answer of literals and their items
+abbrev answerFor : List Literal → List Item → Answer
+answerFor ls xs = answerOf (sortOf ls) (uMark ls) (firstStart ls) (lastEnd 0 ls) xs
+
+landed-for : (w : Whole) (ls : List Literal) (role : Role) (xs : List Item) (words₀ text₀ words text words′ : List ℕ) (k r : Sink)
+    → covers role ≡ true → Tops (wholeOf w) role xs → wholeOf w ≡ wholeFor ls → Wrote (wholeOf w) xs words₀ text₀ words text k
+    → ((T : List ℕ) → outOf r words′ T ≡ closed (wholeOf w) (outOf k words T))
+    → Landed (answerFor ls xs) words₀ text₀ words′ text r
+landed-for w ls role xs words₀ text₀ words text words′ k r c t p h z =
+    subst (λ (v : e.Whole). Landed (answerOf (sortOf ls) (v .mark) (v .start) (v .end) xs) words₀ text₀ words′ text r) p
+    (landed w (sortOf ls) role xs words₀ text₀ words text words′ k r c t h z)
+
+-- both buffers keep their lengths
+same-words : {x : Answer} {words₀ text₀ words text : List ℕ} {k : Sink} → Landed x words₀ text₀ words text k → length words ≡ length words₀
+same-words {x} {words₀} h = ap length (h .words-are) ∙ length-over words₀ 0 (allWords (x .records))
+
+same-text : {x : Answer} {words₀ text₀ words text : List ℕ} {k : Sink} → Landed x words₀ text₀ words text k → length text ≡ length text₀
+same-text {x} {words₀} {text₀} h = ap length (h .text-is) ∙ length-over text₀ 0 (x .text)
+
+-- THE THREE ANSWERS
+too-few : (x : Answer) (words₀ text₀ words text W T : List ℕ) (k : Sink) (r : Outcome) → Landed x words₀ text₀ words text k
+    → length words / 8 < k .count → says r ≡ 30 ∷ 0 ∷ 0 ∷ k .count ∷ k .used ∷ [] → W ≡ zeros words → T ≡ zeros text
+    → CallIs (called (roomed (length words₀) (length text₀) (accepts x)) words₀ text₀) W T r
+unfolding called roomed wordsAfter textAfter numbers refusal
+too-few x words₀ text₀ words text W T k r h l s p q =
+    rw test
+    (record {
+      answer = s ∙ ap₂ (λ m n. 30 ∷ 0 ∷ 0 ∷ m ∷ n ∷ []) (h .count) (h .used);
+      words = p ∙ ap (λ n. replicate n 0) (same-words h);
+      text = q ∙ ap (λ n. replicate n 0) (same-text h);
+    })
+  where
+    test : ltb (length words₀ / 8) (length (x .records)) ≡ true
+    test = lt-ltb (length words₀ / 8) (length (x .records)) (rw (← same-words h, ← h .count) l)
+
+too-little : (x : Answer) (words₀ text₀ words text W T : List ℕ) (k : Sink) (r : Outcome) → Landed x words₀ text₀ words text k
+    → k .count ≤ length words / 8 → length text < k .used → says r ≡ 31 ∷ 0 ∷ 0 ∷ k .count ∷ k .used ∷ [] → W ≡ zeros words → T ≡ zeros text
+    → CallIs (called (roomed (length words₀) (length text₀) (accepts x)) words₀ text₀) W T r
+unfolding called roomed wordsAfter textAfter numbers refusal
+too-little x words₀ text₀ words text W T k r h g l s p q =
+    rw (enough, test)
+    (record {
+      answer = s ∙ ap₂ (λ m n. 31 ∷ 0 ∷ 0 ∷ m ∷ n ∷ []) (h .count) (h .used);
+      words = p ∙ ap (λ n. replicate n 0) (same-words h);
+      text = q ∙ ap (λ n. replicate n 0) (same-text h);
+    })
+  where
+    enough : ltb (length words₀ / 8) (length (x .records)) ≡ false
+    enough = le-ltb (length words₀ / 8) (length (x .records)) (rw (← same-words h, ← h .count) g)
+
+    test : ltb (length text₀) (length (x .text)) ≡ true
+    test = lt-ltb (length text₀) (length (x .text)) (rw (← same-text h, ← h .used) l)
+
+accepted : (x : Answer) (words₀ text₀ words text : List ℕ) (k : Sink) (r : Outcome) → Landed x words₀ text₀ words text k
+    → k .count ≤ length words / 8 → k .used ≤ length text → says r ≡ 0 ∷ sortNumber (x .sort) ∷ x .uMark ∷ x .start ∷ x .end ∷ k .count ∷ k .used ∷ []
+    → CallIs (called (roomed (length words₀) (length text₀) (accepts x)) words₀ text₀) words text r
+unfolding called roomed wordsAfter textAfter numbers
+accepted x words₀ text₀ words text k r h g l s =
+    rw (enough, fits)
+    (record {
+      answer = s ∙ ap₂ (λ m n. 0 ∷ sortNumber (x .sort) ∷ x .uMark ∷ x .start ∷ x .end ∷ m ∷ n ∷ []) (h .count) (h .used);
+      words = h .words-are ∙ over-front words₀ (allWords (x .records)) (omega (arith, length-words (x .records), same-words h, h .count));
+      text = h .text-is ∙ over-front text₀ (x .text) (omega (arith, same-text h, h .used));
+    })
+  where
+    enough : ltb (length words₀ / 8) (length (x .records)) ≡ false
+    enough = le-ltb (length words₀ / 8) (length (x .records)) (rw (← same-words h, ← h .count) g)
+
+    fits : ltb (length text₀) (length (x .text)) ≡ false
+    fits = le-ltb (length text₀) (length (x .text)) (rw (← same-text h, ← h .used) l)
+
+-- what the end of a call owes
+abbrev pub Finished : Whole → List Literal → List ℕ → List ℕ → Sink → List ℕ → List ℕ → Outcome → Type 0
+Finished w ls words text k W T r =
+    (role : Role) (xs : List Item) (words₀ text₀ : List ℕ) → covers role ≡ true → Tops (wholeOf w) role xs → wholeOf w ≡ wholeFor ls → Wrote (wholeOf w) xs words₀ text₀ words text k
+    → CallIs (called (roomed (length words₀) (length text₀) (answered ls (accepts xs))) words₀ text₀) W T r
+
+module _ (w : Whole) (ls : List Literal) (words text words′ : List ℕ) (k a : Sink) (closing : (T : List ℕ) → outOf a words′ T ≡ closed (wholeOf w) (outOf k words T)) where
+  pub finish-places : (W T : List ℕ) (r : Outcome) → length words′ / 8 < a .count → says r ≡ 30 ∷ 0 ∷ 0 ∷ a .count ∷ a .used ∷ [] → W ≡ zeros words′ → T ≡ zeros text
+      → Finished w ls words text k W T r
+  unfolding answered
+  finish-places W T r l s p q role xs words₀ text₀ c t e h =
+      too-few (answerFor ls xs) words₀ text₀ words′ text W T a r (landed-for w ls role xs words₀ text₀ words text words′ k a c t e h closing) l s p q
+
+  pub finish-room : (W T : List ℕ) (r : Outcome) → a .count ≤ length words′ / 8 → length text < a .used → says r ≡ 31 ∷ 0 ∷ 0 ∷ a .count ∷ a .used ∷ [] → W ≡ zeros words′ → T ≡ zeros text
+      → Finished w ls words text k W T r
+  unfolding answered
+  finish-room W T r g l s p q role xs words₀ text₀ c t e h =
+      too-little (answerFor ls xs) words₀ text₀ words′ text W T a r (landed-for w ls role xs words₀ text₀ words text words′ k a c t e h closing) g l s p q
+
+  pub finish-accepted : (n : ℕ) → n ≡ sortNumber (sortOf ls) → a .count ≤ length words′ / 8 → a .used ≤ length text
+      → Finished w ls words text k words′ text (Accepted (record { sort = n; mark = w .mark; start = w .start; end = w .end; records = a .count; text = a .used }))
+  unfolding answered answerOf
+  finish-accepted n s g l role xs words₀ text₀ c t p h =
+      accepted (answerFor ls xs) words₀ text₀ words′ text a (Accepted (record { sort = n; mark = w .mark; start = w .start; end = w .end; records = a .count; text = a .used }))
+      (landed-for w ls role xs words₀ text₀ words text words′ k a c t p h closing) g l
+      (ap₂ (λ (m : ℕ) (v : e.Whole). 0 ∷ m ∷ v .mark ∷ v .start ∷ v .end ∷ a .count ∷ a .used ∷ []) s p)
+
+-- the definition's refusal of a refusal
+abbrev why : Refusal → o.Outcome Answer
+why x = refuses (refusal (x .number) (x .literal) (x .place) (x .a) (x .b))
+
+-- A REFUSED CALL: it is answered, and both buffers are zeros
+module _ (words text words₁ text₁ words′ text′ : List ℕ) (x : Refusal) (r : Outcome) where
+  pub refused-call : (call : Call) → call ≡ called (why x) words text → length words₁ ≡ length words → length text₁ ≡ length text
+      → (r ≡ Refused x) × (words′ ≡ zeros words₁) × (text′ ≡ zeros text₁)
+      → CallIs call words′ text′ r
+  unfolding called wordsAfter textAfter numbers refusal
+  refused-call call e lw lt h =
+      rw e
+      record { answer = rw (h .0) refl; words = h .1 ∙ ap (λ n. replicate n 0) lw; text = h .2 ∙ ap (λ n. replicate n 0) lt }
+
+-- LITERALS THAT PASSED THE CHECKS
+module _ (script ns : List ℕ) (n : ℕ) (words text : List ℕ) (P : Passed script ns n) where
+  abbrev ls : List Literal
+  ls = literals ns 0 n
+
+  pub refused-list : (x : Refusal) → readFrom script 0 ls ≡ refuses (refusal (x .number) (x .literal) (x .place) (x .a) (x .b)) → readNumbers script ns words text ≡ called (why x) words text
+  unfolding answered roomed
+  refused-list x e = passed-reads script ns words text n P ∙ rw (e, answered, roomed)
+
+  pub accepted-call : (w : Whole) (words₁ text₁ words′ text′ : List ℕ) (k : Sink) (r : Outcome) → wholeOf w ≡ wholeFor ls → All (readFrom script 0 ls) (wholeOf w) words text words₁ text₁ k
+      → Finished w ls words₁ text₁ k words′ text′ r → CallIs (readNumbers script ns words text) words′ text′ r
+  accepted-call w words₁ text₁ words′ text′ k r e A f =
+      rw (passed-reads script ns words text n P, A .reads)
+      (f (roleFor ls) (A .items) words text (covers-role ls) (subst (λ v. Tops v (roleFor ls) (A .items)) (sym e) (tops-read script 0 ls (A .items) (P .unmixed) (A .reads))) e (A .wrote))

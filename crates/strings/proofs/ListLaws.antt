@@ -1,0 +1,196 @@
+-- A list of literals is read one body after the other. Assumes nothing.
+use mathlib.Core.Path.{_≡_, refl, sym, _∙_, ap, ap₂}
+use mathlib.Core.Bool.{Bool, true, false}
+use mathlib.Core.List.{List, [], _∷_, _++_, map, append-nil, append-assoc}
+use Prim.Native.Nat.{ℕ, zero, suc, _+_, _-_, _*_, _≤_, _<_}
+use native.Mathlib.Nat.{add-zero, sub-zero}
+use native.Mathlib.Omega.{arith}
+use lib.ListN.{length}
+use Rattle.definition.specs.Numbers.{isFString}
+use Rattle.definition.specs.Escapes.{got, refused}
+use Rattle.definition.specs.Escapes as d
+use Rattle.definition.specs.Body.{Piece, literal, textN, stringN, enough, alone, readBody}
+use Rattle.definition.specs.Records.{Item, itemOf}
+use Rattle.definition.specs.Entry.{Literal, refusal, opening, placeOf, body, total}
+use Rattle.definition.specs.Reading.{accepts, refuses, andThen, readLiteral, readFrom}
+use Rattle.definition.specs.Reading as o
+use Rattle.definition.proofs.Moves.{weight}
+use Rattle.definition.proofs.Fuel.{Reading, string-reading, body-reading}
+use Rattle.buffers.specs.Over.{over}
+use Rattle.entry.specs.Answers.{described}
+use Rattle.entry.specs.Literals.{literalAt, literals}
+use Rattle.entry.specs.declared.Literal.{Literal as Descriptor}
+use Rattle.entry.proofs.Literals.{total-turn}
+use Rattle.entry.proofs.Passed.{clash, Passed, Good, length-body, read-turn, read-end}
+use Rattle.strings.specs.declared.Refusal.{Refusal}
+use Rattle.strings.specs.declared.emit.Whole.{Whole}
+use Rattle.strings.specs.declared.emit.Frame.{Frame}
+use Rattle.strings.specs.declared.emit.Sink.{Sink}
+use Rattle.strings.specs.declared.fstring.Read.{Read}
+use Rattle.strings.specs.declared.fstring.Read.the-variants.{Done, Refused}
+use Rattle.strings.specs.declared.text.Text.the-variants as string
+use Rattle.strings.specs.Emit as e
+use Rattle.strings.specs.Emit.{emits}
+use Rattle.strings.specs.Sinks.{loadOf, outOf, wholeOf, Emits}
+use Rattle.strings.specs.Text.{StringIs}
+use Rattle.strings.specs.Fstring.{ReadIs}
+use Rattle.strings.specs.Strings.{Room, frameOf, empty, Gave, BodyIs, All, ListIs}
+use Rattle.strings.proofs.Emitted.{emits-append}
+use Rattle.strings.proofs.SinkLaws.{grown}
+use Rattle.strings.proofs.FstringLaws.{gave, refuses as written-refuses}
+
+-- AN F-STRING'S BODY
+pub fstring-body : (fr : Frame) (s words text words′ text′ : List ℕ) (k : Sink) (r : Read) → isFString (fr .kind) ≡ true
+    → ReadIs (textN (enough s) (fr .kind) s 0 0 [] []) fr 0 words text words′ text′ k r → BodyIs (readBody (fr .kind) s) fr words text words′ text′ k r
+unfolding readBody
+fstring-body fr s words text words′ text′ k (Done at r) e h =
+    let g = gave (λ l. l) fr 0 words text words′ text′ k (textN (enough s) (fr .kind) s 0 0 [] []) at r h in
+    record { pieces = g .pieces; end = at .at; reads = rw (e, readBody) (g .reads); emits = g .emits }
+fstring-body fr s words text words′ text′ k (Refused x) e h =
+    rw (e, readBody) (written-refuses (λ l. l) fr 0 words text words′ text′ k (textN (enough s) (fr .kind) s 0 0 [] []) x h)
+
+-- ANY OTHER BODY: its text is read and written up to `to`
+pub record Content (s : List ℕ) (read : d.Read (List ℕ)) (used : ℕ) (text text′ : List ℕ) (to : ℕ) : Type 0 where
+  pub content : List ℕ
+  pub end : ℕ
+  pub reads : read ≡ got content end
+  pub up : to ≡ used + length content
+  pub wrote : text′ ≡ over text used content
+  pub short : length content ≤ 2 * length s
+
+pub content-of : (kind : ℕ) (s : List ℕ) (used : ℕ) (text text′ : List ℕ) (to : ℕ) → StringIs (stringN (enough s) kind s 0 []) used text text′ (string.Done to)
+    → Content s (stringN (enough s) kind s 0 []) used text text′ to
+content-of kind s used text text′ to h =
+    go (stringN (enough s) kind s 0 []) h (string-reading (enough s) kind s 0 [] (omega arith) (omega arith))
+  where
+    go : (r : d.Read (List ℕ)) → StringIs r used text text′ (string.Done to) → Reading (λ t. length t + length t) 0 s 0 r → Content s r used text text′ to
+    go (got t j) h p = record { content = t; end = j; reads = refl; up = (let y = h .0 in cc); wrote = h .1; short = omega (arith, p .0 .1, p .1) }
+    go (refused n j a b) h p = clash cc
+
+pub not-read : (r : d.Read (List ℕ)) (used : ℕ) (text text′ : List ℕ) (x : Refusal) → StringIs r used text text′ (string.Refused x) → r ≡ refused (x .number) (x .taken) (x .a) (x .b)
+not-read (got t j) used text text′ x h = clash (let y = h .0 in cc)
+not-read (refused n j a b) used text text′ x h = let y : x ≡ record { number = n; taken = j; a = a; b = b } = cc in rw y refl
+
+pub string-refuses : (kind : ℕ) (s : List ℕ) (n j a b : ℕ) → isFString kind ≡ false → stringN (enough s) kind s 0 [] ≡ refused n j a b → readBody kind s ≡ refused n j a b
+unfolding readBody alone
+string-refuses kind s n j a b e h = rw (e, readBody, h)
+
+pub string-body : (fr : Frame) (s words text words′ text′ : List ℕ) (k r : Sink) (to : ℕ) → isFString (fr .kind) ≡ false
+    → (c : Content s (stringN (enough s) (fr .kind) s 0 []) (k .used) text text′ to)
+    → Emits fr 0 (literal 0 (c .content) ∷ []) words text words′ (over text (k .used) (c .content)) k r → Gave (readBody (fr .kind) s) fr words text words′ text′ k r
+unfolding readBody alone
+string-body fr s words text words′ text′ k r to e c h =
+    record { pieces = literal 0 (c .content) ∷ []; end = c .end; reads = rw (e, readBody, c .reads); emits = rw (c .wrote) h }
+
+-- a body's refusal stands in the body
+pub taken-in : (kind : ℕ) (s : List ℕ) (n j a b : ℕ) → readBody kind s ≡ refused n j a b → j ≤ length s
+taken-in kind s n j a b h = let p = rw h at (body-reading kind s) in p .0 .1
+
+-- THE LIST: what is read and written before literal i
+pub record Listing (script ns : List ℕ) (n : ℕ) (w : e.Whole) (words text words′ text′ : List ℕ) (i : ℕ) (k : Sink) : Type 0 where
+  pub items : List Item
+  pub within : i ≤ n
+  pub same : readFrom script 0 (literals ns 0 n) ≡ andThen (accepts items) (readFrom script i (literals ns i (n - i)))
+  pub out : outOf k words′ text′ ≡ emits w items (empty words text)
+  pub short : total (literals ns i (n - i)) ≤ 1048576
+  pub load : loadOf k + 8 * total (literals ns i (n - i)) + 2 * (n - i) ≤ 8390656
+  pub ordered : k .from ≤ k .used
+
+and-none : (x : o.Outcome (List Item)) → andThen (accepts []) x ≡ x
+unfolding andThen
+and-none (accepts xs) = refl
+and-none (refuses r) = refl
+
+and-both : (xs ys : List Item) (x : o.Outcome (List Item)) → andThen (accepts xs) (andThen (accepts ys) x) ≡ andThen (accepts (xs ++ ys)) x
+unfolding andThen
+and-both xs ys (accepts zs) = ap accepts (sym (append-assoc xs ys zs))
+and-both xs ys (refuses r) = refl
+
+module _ (script ns : List ℕ) (n : ℕ) (w : Whole) (words text : List ℕ) (P : Passed script ns n) where
+  pub before-all : Listing script ns n (wholeOf w) words text words text 0 (record { count = 0; used = 0; held = false; from = 0; parts = 0 })
+  unfolding emits
+  before-all =
+      record {
+        items = [];
+        within = omega arith;
+        same = rw sub-zero (sym (and-none (readFrom script 0 (literals ns 0 n))));
+        out = refl;
+        short = rw sub-zero (P .short);
+        load = rw sub-zero (omega (arith, P .short, P .few));
+        ordered = omega arith;
+      }
+
+  module _ (words′ text′ : List ℕ) (i : ℕ) (k : Sink) (L : Listing script ns n (wholeOf w) words text words′ text′ i k) where
+    pub after-all : n ≤ i → All (readFrom script 0 (literals ns 0 n)) (wholeOf w) words text words′ text′ k
+    unfolding andThen
+    after-all h =
+        record {
+          items = L .items;
+          reads = L .same ∙ rw (read-end script ns n i h) (ap accepts (append-nil (L .items)));
+          wrote = record { out = L .out; fits = record { small = omega (arith, L .load); ordered = L .ordered } };
+        }
+
+    module _ (h : i < n) (l : Descriptor) (q : described l ≡ literalAt ns i) (b : l .end < 4294967296) where
+      good : Good script (described l)
+      good = rw q (P .good i h)
+
+      size : length (body script (described l)) ≡ l .size
+      unfolding described
+      size = length-body script (described l) good
+
+      rest : total (literals ns i (n - i)) ≡ l .size + total (literals ns (i + 1) (n - (i + 1)))
+      unfolding described
+      rest = total-turn ns n i h ∙ ap (λ x. x .size + total (literals ns (i + 1) (n - (i + 1)))) (sym q)
+
+      pub room : Room script l k
+      unfolding described
+      room =
+          record {
+            inside = good .inside;
+            small = omega (arith, L .short, rest);
+            places = omega (arith, good .fits);
+            load = omega (arith, L .load, rest);
+            ordered = L .ordered;
+          }
+
+      -- the refusal of this literal
+      module _ (m j a c : ℕ) (R : readBody (l .kind) (body script (described l)) ≡ refused m j a c) where
+        pub taken-small : j ≤ l .size
+        taken-small = omega (arith, taken-in (l .kind) (body script (described l)) m j a c R, size)
+
+        pub place-small : placeOf (described l) j < 4294967296
+        unfolding described placeOf
+        place-small = omega (arith, taken-small, good .fits)
+
+        refuses-here : readLiteral script i (described l) ≡ refuses (refusal m i (placeOf (described l) j) a c)
+        unfolding readLiteral described
+        refuses-here = rw (R, readLiteral)
+
+        pub refuses-all : readFrom script 0 (literals ns 0 n) ≡ refuses (refusal m i (placeOf (described l) j) a c)
+        unfolding andThen
+        refuses-all = L .same ∙ rw (read-turn script ns n i h, ← q, refuses-here)
+
+      -- its pieces
+      module _ (words″ text″ : List ℕ) (r : Sink) (G : Gave (readBody (l .kind) (body script (described l))) (frameOf l w) words′ text′ words″ text″ k r) where
+        abbrev these : List Item
+        these = map (itemOf (l .kind) (l .start) (l .end) (l .start + opening (described l))) (G .pieces)
+
+        accepts-here : readLiteral script i (described l) ≡ accepts these
+        unfolding readLiteral described placeOf
+        accepts-here = rw (G .reads, readLiteral, add-zero)
+
+        light : weight (G .pieces) ≤ 1 + 4 * l .size
+        light = let p = rw (G .reads) at (body-reading (l .kind) (body script (described l))) in omega (arith, p .0 .1, p .1, size)
+
+        pub next-literal : Listing script ns n (wholeOf w) words text words″ text″ (i + 1) r
+        next-literal =
+            let g = grown (frameOf l w) 0 (G .pieces) words′ text′ words″ text″ k r (G .emits) in
+            record {
+              items = L .items ++ these;
+              within = omega arith;
+              same = L .same ∙ rw (read-turn script ns n i h, ← q, accepts-here) (and-both (L .items) these (readFrom script (i + 1) (literals ns (i + 1) (n - (i + 1)))));
+              out = G .emits .out ∙ ap (emits (wholeOf w) these) (L .out) ∙ sym (emits-append (wholeOf w) (L .items) these (empty words text));
+              short = omega (arith, L .short, rest);
+              load = omega (arith, g .load, light, L .load, rest);
+              ordered = g .ordered (L .ordered);
+            }

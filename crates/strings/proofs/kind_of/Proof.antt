@@ -1,0 +1,13 @@
+-- `strings::kind_of` meets its contract. Assumes nothing.
+use borrow.Author.Needs.{needs}
+use mathlib.Core.Path.{sym, _∙_}
+use Rattle.strings.proofs.kind_of.Statement.{statement}
+use Rattle.strings.proofs.kind_of.Tie as tie
+
+pub kind-of-spec : {M : Type 1} → statement M
+kind-of-spec =
+    tie.close
+    (tie.spec
+    (λ c κs. search needs)  -- any-of-requires
+    (λ c. rw (sym (c .before .any-of .ensures) ∙ c .if1 .taken))  -- returns
+    (λ c. rw (sym (c .before .any-of .ensures) ∙ c .if1 .left)))  -- returns-2

@@ -1,0 +1,95 @@
+-- What a call over a list of literals answers and leaves, by the definition's reading.
+use Prim.Native.Nat.{ℕ, _+_, _*_, _≤_, _<_}
+use mathlib.Core.Path.{_≡_}
+use mathlib.Core.Bool.{false}
+use mathlib.Core.List.{List, [], _∷_}
+use lib.ListN.{length}
+use Rattle.definition.specs.Numbers.{isBytes}
+use Rattle.definition.specs.Chars.{if_then_else_}
+use Rattle.definition.specs.Escapes.{got, refused}
+use Rattle.definition.specs.Escapes as d
+use Rattle.definition.specs.Body.{Piece}
+use Rattle.definition.specs.Records.{Role, top, raw, Item}
+use Rattle.definition.specs.Entry.{Literal, refusal, opening, anyOf, firstStart}
+use Rattle.definition.specs.Reading.{accepts, refuses, uMark, lastEnd, Call, numbers}
+use Rattle.definition.specs.Reading as lists
+use Rattle.entry.specs.Answers.{described}
+use Rattle.entry.specs.declared.Literal.{Literal as Descriptor}
+use Rattle.entry.specs.declared.Refusal.{Refusal as Why}
+use Rattle.strings.specs.declared.Outcome.{Outcome}
+use Rattle.strings.specs.declared.Outcome.the-variants.{Accepted, Refused}
+use Rattle.strings.specs.declared.Listed.{Listed}
+use Rattle.strings.specs.declared.Listed.the-variants as listed
+use Rattle.strings.specs.declared.emit.Whole.{Whole}
+use Rattle.strings.specs.declared.emit.Frame.{Frame}
+use Rattle.strings.specs.declared.emit.Sink.{Sink}
+use Rattle.strings.specs.declared.fstring.Read.{Read}
+use Rattle.strings.specs.declared.fstring.Read.the-variants as read
+use Rattle.strings.specs.Emit as e
+use Rattle.strings.specs.Emit.{Out, emits}
+use Rattle.strings.specs.Sinks.{loadOf, outOf, Fits, Emits}
+
+-- the paper's numbers of an answer
+abbrev pub says : Outcome → List ℕ
+says (Accepted x) = 0 ∷ x .sort ∷ x .mark ∷ x .start ∷ x .end ∷ x .records ∷ x .text ∷ []
+says (Refused r) = r .number ∷ r .literal ∷ r .place ∷ r .a ∷ r .b ∷ []
+
+-- a refusal for want of room
+abbrev pub shortOf : ℕ → ℕ → ℕ → Why
+shortOf number records used = record { number = number; literal = 0; place = 0; a = records; b = used }
+
+-- a call of the definition: what is answered, and both buffers afterwards
+pub record CallIs (call : Call) (words′ text′ : List ℕ) (r : Outcome) : Type 0 where
+  pub answer : says r ≡ numbers (call .outcome)
+  pub words : words′ ≡ call .words
+  pub text : text′ ≡ call .text
+
+-- what every top-level record of literals carries
+abbrev pub wholeFor : List Literal → e.Whole
+wholeFor ls = record { kind = if anyOf isBytes ls then 4 else 1; start = firstStart ls; end = lastEnd 0 ls; mark = uMark ls }
+
+-- the role of every top-level record of literals
+abbrev pub roleFor : List Literal → Role
+roleFor ls = if anyOf isBytes ls then raw else top
+
+-- nothing is written yet
+abbrev pub empty : List ℕ → List ℕ → Out
+empty words text = record { words = words; text = text; count = 0; used = 0; held = false; from = 0 }
+
+-- the body of a good literal lies in the script, and all that is still to come fits
+pub record Room (script : List ℕ) (l : Descriptor) (k : Sink) : Type 0 where
+  pub inside : l .offset + l .size ≤ length script
+  pub small : l .size ≤ 1048576
+  pub places : l .start + opening (described l) + l .size < 4294967296
+  pub load : loadOf k + 8 * l .size ≤ 16777216
+  pub ordered : k .from ≤ k .used
+
+-- where a literal stands
+abbrev pub frameOf : Descriptor → Whole → Frame
+frameOf l w = record { kind = l .kind; start = l .start; end = l .end; base = l .start + opening (described l); whole = w }
+
+-- a body that is read: its pieces are emitted
+pub record Gave (body : d.Read (List Piece)) (fr : Frame) (words text words′ text′ : List ℕ) (k r : Sink) : Type 0 where
+  pub pieces : List Piece
+  pub end : ℕ
+  pub reads : body ≡ got pieces end
+  pub emits : Emits fr 0 pieces words text words′ text′ k r
+
+abbrev pub BodyIs : d.Read (List Piece) → Frame → List ℕ → List ℕ → List ℕ → List ℕ → Sink → Read → Type 0
+BodyIs body fr words text words′ text′ k (read.Done at r) = Gave body fr words text words′ text′ k r
+BodyIs body fr words text words′ text′ k (read.Refused x) = body ≡ refused (x .number) (x .taken) (x .a) (x .b)
+
+-- items that are emitted into empty buffers: the counters and buffers afterwards
+pub record Wrote (w : e.Whole) (xs : List Item) (words text words′ text′ : List ℕ) (r : Sink) : Type 0 where
+  pub out : outOf r words′ text′ ≡ emits w xs (empty words text)
+  pub fits : Fits r
+
+-- literals that are read: their items are emitted
+pub record All (reading : lists.Outcome (List Item)) (w : e.Whole) (words text words′ text′ : List ℕ) (r : Sink) : Type 0 where
+  pub items : List Item
+  pub reads : reading ≡ accepts items
+  pub wrote : Wrote w items words text words′ text′ r
+
+abbrev pub ListIs : lists.Outcome (List Item) → e.Whole → List ℕ → List ℕ → List ℕ → List ℕ → Listed → Type 0
+ListIs reading w words text words′ text′ (listed.Done r) = All reading w words text words′ text′ r
+ListIs reading w words text words′ text′ (listed.Refused x) = reading ≡ refuses (refusal (x .number) (x .literal) (x .place) (x .a) (x .b))
