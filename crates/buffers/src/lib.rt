@@ -170,7 +170,7 @@ pub fn fill(text: &mut [u8], byte: u8)
 pub fn fill_words(words: &mut [u32], word: u32)
     ensures { λ _. ⌜ now (words .exit) ≡ replicate (length (now (words .entry))) word ⌝ }
 {
-    let mut i = 0;
+    let mut i: usize = 0;
     while i < words.len() {
         words[i] = word;
         i += 1;

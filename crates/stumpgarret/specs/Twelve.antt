@@ -1,0 +1,16 @@
+-- The twelve numbers of an answer, and what a call over the C interface leaves.
+use Prim.Native.Nat.{ℕ, _-_}
+use mathlib.Core.Path.{_≡_}
+use mathlib.Core.List.{List, _++_}
+use lib.ListN.{length, replicate}
+use Rattle.definition.specs.Reading.{Call, numbers}
+
+-- a list of numbers, and zeros up to twelve
+unfoldable pub twelve : List ℕ → List ℕ
+twelve ns = ns ++ replicate (12 - length ns) 0
+
+-- a call of the definition: the twelve numbers, and both buffers afterwards
+pub record CallIs (call : Call) (answer words text : List ℕ) : Type 0 where
+  pub numbered : answer ≡ twelve (numbers (call .outcome))
+  pub words-left : words ≡ call .words
+  pub text-left : text ≡ call .text

@@ -1,0 +1,44 @@
+// The C interface: flat numbers in, twelve numbers out.
+use strings::Outcome;
+use strings::parse_strings;
+ghost use mathlib.Core.Path.{_≡_};
+ghost use Rattle.definition.specs.Reading.{readNumbers};
+ghost use Rattle.strings.specs.Strings.{says};
+ghost use Rattle.stumpgarret.specs.Twelve.{twelve, CallIs};
+
+// An outcome's numbers, and zeros up to twelve.
+fn twelve(o: Outcome) -> [u32; 12]
+    ensures { λ r. ⌜ r ≡ twelve (says o) ⌝ }
+{
+    match o {
+        Outcome::Accepted(x) => [
+            0,
+            x.sort,
+            x.mark,
+            x.start,
+            x.end,
+            x.records,
+            x.text,
+            0,
+            0,
+            0,
+            0,
+            0,
+        ],
+        Outcome::Refused(r) => [r.number, r.literal, r.place, r.a, r.b, 0, 0, 0, 0, 0, 0, 0],
+    }
+}
+
+// Reads the literals whose numbers are listed, six for each, from a script into both buffers, and answers in twelve numbers.
+#[no_mangle]
+pub extern "C" fn stumpgarret_read(
+    script: &[u8],
+    literals: &[u32],
+    words: &mut [u32],
+    text: &mut [u8],
+    answer: &mut [u32; 12],
+)
+    ensures { λ _. ⌜ CallIs (readNumbers (now (script .entry)) (now (literals .entry)) (now (words .entry)) (now (text .entry))) (now (answer .exit)) (now (words .exit)) (now (text .exit)) ⌝ }
+{
+    *answer = twelve(parse_strings(script, literals, words, text));
+}
