@@ -7,7 +7,7 @@ use native.Mathlib.Nat.{suc-add, add-suc, add-zero, zero-sub, sub-zero, suc-sub-
 use native.Mathlib.Numerals.{add-one}
 use native.Mathlib.Omega.{arith, min-cases}
 use lib.ListN.{length, take, drop, set, getD, replicate, length-set, length-take, length-replicate, take-append-drop}
-use lib.Seq.{set-out, set-comm, take-all, take-nil, drop-nil, take-suc, length-take-le}
+use lib.Seq.{set-out, set-comm, take-nil, drop-nil, take-suc, length-take-le}
 use borrow.Rule.Slice.PartMut.{putMid, midOf}
 use Rattle.definition.specs.Chars.{part}
 use Rattle.buffers.specs.Over.{over}
@@ -146,9 +146,6 @@ over-before b p xs i j h = take-before b p xs i (j - i) (omega arith)
 
 pub over-part : (b : List ℕ) (p : ℕ) (xs : List ℕ) → part (over b p xs) p (p + length xs) ≡ take (length b - p) xs
 over-part b p xs = rw add-sub-cancel-left (take-written b p xs)
-
-pub over-part-fits : (b : List ℕ) (p : ℕ) (xs : List ℕ) → p + length xs ≤ length b → part (over b p xs) p (p + length xs) ≡ xs
-over-part-fits b p xs h = over-part b p xs ∙ take-all (length b - p) xs (omega arith)
 
 -- a run that stands at p, as much of it as found room, copied behind itself is the run written there
 pub over-again : (t : List ℕ) (p : ℕ) (xs : List ℕ) (q : ℕ) → p + length xs ≤ q → part t p (p + length xs) ≡ take (length t - p) xs → over t q (part t p (min (p + length xs) q)) ≡ over t q xs

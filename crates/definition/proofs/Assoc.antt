@@ -7,7 +7,7 @@ use native.Mathlib.Nat.{add-assoc}
 use lib.ListN.{length, length-append}
 use Rattle.definition.specs.Chars.{if_then_else_}
 use Rattle.definition.specs.Records.{Role, covers, Record, cover, Sort, plain, joined, bytesOnly, Answer}
-use Rattle.definition.specs.Join.{bothRecords, raise, seamed, seam, joinSort, join}
+use Rattle.definition.specs.Join.{bothRecords, raise, seamed, joinSort, join}
 use Rattle.definition.proofs.Seam.{seam-assoc, map-seam}
 
 joinSort-assoc : (a b c : Sort) → joinSort (joinSort a b) c ≡ joinSort a (joinSort b c)

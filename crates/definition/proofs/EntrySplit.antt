@@ -1,9 +1,9 @@
 -- A list that passes the entry checks passes them in two non-empty parts. Assumes nothing.
 use mathlib.Core.Path.{_≡_, refl, sym, _∙_, ap, ap₂}
 use mathlib.Core.Bool.{Bool, true, false, _&&_, _||_, not, true≢false, false≢true}
-use mathlib.Core.List.{List, [], _∷_, _++_, map}
+use mathlib.Core.List.{List, [], _∷_, _++_}
 use mathlib.Core.Option.{Option, none, some}
-use Prim.Native.Nat.{ℕ, zero, suc, _+_, _≤_, _<_, zero-le}
+use Prim.Native.Nat.{ℕ, suc, _+_, _≤_, zero-le}
 use native.Mathlib.Nat.{add-assoc}
 use native.Mathlib.Omega.{arith}
 use lib.Dec.{ltb}
@@ -11,7 +11,7 @@ use lib.ListN.{length, length-append}
 use borrow.Author.Tests.{ltb-false, le-ltb}
 use Rattle.definition.specs.Numbers.{isBytes, isFString, badDescriptor, notUtf8}
 use Rattle.definition.specs.Chars.{if_then_else_}
-use Rattle.definition.specs.Records.{Sort, plain, joined, bytesOnly}
+use Rattle.definition.specs.Records.{plain, joined, bytesOnly}
 use Rattle.definition.specs.Entry.{Literal, Refusal, refusal, notEmpty, notMany, firstBad, bad, placeOf, allGood, total, notLong, formed, illFormed, allUtf8, anyOf, firstStart, notMixed, firstOf, entry}
 use Rattle.definition.specs.Reading.{sortOf}
 use Rattle.definition.specs.Join.{joinSort}

@@ -1,11 +1,11 @@
 -- With moves enough a reading is sound, and how many there are does not matter. Assumes nothing.
 use mathlib.Core.Path.{_≡_, refl, sym, _∙_}
 use mathlib.Core.Bool.{Bool, true, false}
-use mathlib.Core.List.{List, [], _∷_, _++_}
+use mathlib.Core.List.{List, [], _++_}
 use mathlib.Core.Option.{none}
 use Prim.Native.Nat.{ℕ, zero, suc, _+_, _-_, _*_, _≤_, _<_}
 use native.Mathlib.Omega.{arith}
-use lib.ListN.{length, drop}
+use lib.ListN.{length}
 use Rattle.definition.specs.Numbers.{isFString}
 use Rattle.definition.specs.Chars.{_is_, part, code, next}
 use Rattle.definition.specs.Escapes.{Read, got, refused}

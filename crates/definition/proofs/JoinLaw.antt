@@ -11,7 +11,7 @@ use Rattle.definition.specs.Body.{Piece, readBody}
 use Rattle.definition.specs.Records.{Item, Answer, answerOf}
 use Rattle.definition.specs.Entry.{Literal, oneMore, sixes, body, refusal, firstStart, entry}
 use Rattle.definition.specs.Reading.{Outcome, accepts, refuses, readLiteral, andThen, readFrom, sortOf, uMark, lastEnd, answered, read, roomed, called, readInto, readNumbers}
-use Rattle.definition.specs.Join.{joinSort, join, shifted, joinOutcomes, Enough}
+use Rattle.definition.specs.Join.{shifted, joinOutcomes, Enough}
 use Rattle.definition.proofs.Laid.{answer-append}
 use Rattle.definition.proofs.EntrySplit.{entry-left, entry-right, sort-append}
 

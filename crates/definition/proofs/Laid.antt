@@ -2,10 +2,10 @@
 use mathlib.Core.Path.{_≡_, refl, sym, _∙_, ap, ap₂}
 use mathlib.Core.Bool.{Bool, true, false}
 use mathlib.Core.List.{List, [], _∷_, _++_, map, append-assoc, append-nil}
-use Prim.Native.Nat.{ℕ, zero, suc, _+_}
+use Prim.Native.Nat.{ℕ, _+_}
 use native.Mathlib.Nat.{add-assoc, add-zero, zero-add}
 use lib.ListN.{length, length-append}
-use Rattle.definition.specs.Records.{Role, touching, Item, Record, glue, merge, bothItems, merged, texts, recordAt, laid, cover, Sort, Answer, answerOf}
+use Rattle.definition.specs.Records.{Role, touching, Item, Record, glue, merge, bothItems, merged, texts, recordAt, laid, cover, Sort, answerOf}
 use Rattle.definition.specs.Join.{bothRecords, raise, seam, seamed, joinSort, join}
 use Rattle.definition.proofs.Seam.{glue-true, glue-false, merge-append}
 use Rattle.definition.proofs.Assoc.{roleOf, textAt, cover-seamed, cover-cover, cover-raise}

@@ -1,6 +1,6 @@
 -- Things that touch become one: merging a list in two parts, and the seam's associativity. Assumes nothing.
-use mathlib.Core.Path.{_≡_, refl, sym, _∙_, ap, ap₂, subst}
-use mathlib.Core.Bool.{Bool, true, false, true≢false, false≢true}
+use mathlib.Core.Path.{_≡_, refl, sym, _∙_, ap}
+use mathlib.Core.Bool.{Bool, true, false, false≢true}
 use mathlib.Core.List.{List, [], _∷_, _++_, map}
 use Rattle.definition.specs.Records.{Role, top, raw, inner, touching, glue, merge}
 use Rattle.definition.specs.Join.{seam}

@@ -1,13 +1,13 @@
 -- What a reader does at each move: the equations that a proof about it goes by. Assumes nothing.
-use mathlib.Core.Path.{_≡_, refl}
-use mathlib.Core.Bool.{Bool, true, false}
+use mathlib.Core.Path.{_≡_}
+use mathlib.Core.Bool.{true, false}
 use mathlib.Core.List.{List, [], _++_}
 use Prim.Native.Nat.{ℕ, suc, _+_}
 use mathlib.Core.Option.{none}
 use lib.ListN.{drop}
 use Rattle.definition.specs.Chars.{_is_, part, code, next}
-use Rattle.definition.specs.Escapes.{Read, got, refused}
-use Rattle.definition.specs.Body.{Piece, Move, goes, stops, calls, ends, stringMove, stringN, filled, Field, fresh, textMove, fieldMove, finished, specified, plainRun, textN, fieldN, specN}
+use Rattle.definition.specs.Escapes.{got, refused}
+use Rattle.definition.specs.Body.{Piece, goes, stops, calls, ends, stringMove, stringN, filled, Field, fresh, textMove, fieldMove, finished, specified, plainRun, textN, fieldN, specN}
 
 module _ (n kind : ℕ) (s : List ℕ) (i : ℕ) (text : List ℕ) where
   pub string-goes : (j : ℕ) (text′ : List ℕ) → stringMove kind s i text ≡ goes j text′ → stringN (suc n) kind s i text ≡ stringN n kind s j text′

@@ -1,5 +1,5 @@
 -- The readers over a whole body, with the one number of moves that serves every place in it: what a proof of code cites. Assumes nothing.
-use mathlib.Core.Path.{_≡_, refl, _∙_, ap}
+use mathlib.Core.Path.{_≡_, _∙_, ap}
 use mathlib.Core.Bool.{true, false}
 use mathlib.Core.List.{List, [], _++_}
 use mathlib.Core.Option.{none}
@@ -7,8 +7,8 @@ use Prim.Native.Nat.{ℕ, suc, _+_, _≤_, _<_}
 use native.Mathlib.Omega.{arith}
 use lib.ListN.{length}
 use Rattle.definition.specs.Chars.{_is_, code, next}
-use Rattle.definition.specs.Escapes.{Read, got, refused}
-use Rattle.definition.specs.Body.{Piece, Move, goes, stops, calls, ends, stringMove, stringN, filled, Field, fresh, textMove, fieldMove, finished, specified, plainRun, textN, fieldN, specN, enough}
+use Rattle.definition.specs.Escapes.{got, refused}
+use Rattle.definition.specs.Body.{Piece, goes, stops, calls, ends, stringMove, stringN, filled, Field, fresh, textMove, fieldMove, finished, specified, textN, fieldN, specN, enough}
 use Rattle.definition.proofs.CharLaws.{next-in, next-past}
 use Rattle.definition.proofs.Steps.{string-goes, string-stops, string-ends, text-goes, text-stops, text-ends, text-got, text-refused, field-goes, field-stops, field-ends, field-got, field-refused, firstEnd, firstPiece, spec-calls, spec-ends}
 use Rattle.definition.proofs.Fuel.{first-in, string-fuel, text-fuel, field-fuel, spec-fuel}

@@ -1,14 +1,13 @@
 -- A whole list: its reading, the room it needs, and what the two buffers hold afterwards (parse_strings).
-use Prim.Native.Nat.{ℕ, suc, _+_, _/_, _≤_}
-use mathlib.Core.Bool.{Bool, true, false}
+use Prim.Native.Nat.{ℕ, suc, _+_, _/_}
 use mathlib.Core.List.{List, [], _∷_, _++_, map}
-use mathlib.Core.Option.{Option, none, some}
+use mathlib.Core.Option.{none, some}
 use lib.Dec.{ltb}
 use lib.ListN.{length, drop, replicate}
 use Rattle.definition.specs.Numbers.{isFString, isBytes, isUnicode, notSixes, tooFewRecordPlaces, tooLittleTextRoom}
 use Rattle.definition.specs.Chars.{if_then_else_}
-use Rattle.definition.specs.Escapes.{Read, got, refused}
-use Rattle.definition.specs.Body.{Piece, readBody}
+use Rattle.definition.specs.Escapes.{got, refused}
+use Rattle.definition.specs.Body.{readBody}
 use Rattle.definition.specs.Records.{Item, itemOf, Record, wordsOf, Sort, plain, joined, bytesOnly, Answer, answerOf}
 use Rattle.definition.specs.Entry.{Literal, sixes, placeOf, body, Refusal, refusal, anyOf, firstStart, entry}
 

@@ -1,19 +1,19 @@
 -- Emitting items one by one, and closing what is held, is laying them out. Assumes nothing.
 use mathlib.Core.Path.{_≡_, refl, sym, _∙_, ap, ap₂}
 use mathlib.Core.Bool.{Bool, true, false, true≢false, false≢true}
-use mathlib.Core.List.{List, [], _∷_, _++_, map, append-nil}
+use mathlib.Core.List.{List, [], _∷_, _++_, map}
 use Prim.Native.Nat.{ℕ, zero, suc, _+_, _-_, _*_, _≤_, _<_}
-use native.Mathlib.Nat.{add-assoc, add-zero}
+use native.Mathlib.Nat.{add-zero}
 use native.Mathlib.Omega.{arith}
 use lib.ListN.{length, length-append}
 use Rattle.definition.specs.Chars.{if_then_else_}
-use Rattle.definition.specs.Records.{Role, top, raw, inner, touching, covers, Item, Record, item, itemOf, wordsOf, glue, merge, bothItems, merged, texts, recordAt, laid, cover}
+use Rattle.definition.specs.Records.{Role, top, raw, inner, touching, covers, Item, item, itemOf, wordsOf, glue, merge, bothItems, merged, texts, recordAt, laid, cover}
 use Rattle.definition.specs.Reading.{allWords}
 use Rattle.definition.specs.Numbers.{isBytes}
 use Rattle.definition.specs.Body.{Piece, literal, field, spec, direct}
 use Rattle.definition.proofs.Moves.{weight}
 use lib.Dec.{eqb}
-use Rattle.definition.proofs.Seam.{glue-true, glue-false, glue-both}
+use Rattle.definition.proofs.Seam.{glue-false, glue-both}
 use Rattle.definition.proofs.Laid.{itemRole, items-assoc}
 use Rattle.buffers.specs.Over.{over}
 use Rattle.buffers.proofs.Over.{over-nil, over-append, over-comm}

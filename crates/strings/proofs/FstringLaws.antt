@@ -1,20 +1,19 @@
 -- The readers of an f-string: what each does to the counters and buffers is the definition's reading, emitted. Assumes nothing.
-use mathlib.Core.Path.{_≡_, refl, sym, _∙_, ap, ap₂, subst}
-use mathlib.Core.Bool.{Bool, true, false, _||_}
+use mathlib.Core.Path.{_≡_, refl, sym, _∙_, ap, subst}
+use mathlib.Core.Bool.{Bool, true, false}
 use mathlib.Core.Option.{Option, none, some}
 use mathlib.Core.List.{List, [], _∷_, _++_, map, map-append, append-assoc}
-use Prim.Native.Nat.{ℕ, zero, suc, _+_, _-_, _*_, _≤_, _<_}
+use Prim.Native.Nat.{ℕ, suc, _+_, _-_, _*_, _≤_, _<_}
 use native.Mathlib.Numerals.{add-one}
 use native.Mathlib.Omega.{arith}
-use lib.Dec.{eqb}
 use borrow.Author.Tests.{le-leb}
 use lib.ListN.{length, drop, getD, drop-of-length-le, length-append, length-replicate, length-take, length-drop}
 use lib.Seq.{drop-cons}
-use Rattle.definition.specs.Chars.{if_then_else_, _is_, part, atEnd, code, next, before}
+use Rattle.definition.specs.Chars.{_is_, part, atEnd, code, next, before}
 use Rattle.definition.specs.Numbers.{unclosedLbrace, emptyExpression, expressionNestedTooDeeply}
 use Rattle.definition.specs.Escapes as d
 use Rattle.definition.specs.Escapes.{got, refused}
-use Rattle.definition.specs.Body.{Piece, literal, field, spec, filled, plainRun, direct, Field, state, fresh, Move, calls, ends, textCase, textMove, fieldMove, textN, fieldN, specN, enough, conversionOf, fieldPieces, selfDocumenting, finished, specified}
+use Rattle.definition.specs.Body.{Piece, field, spec, filled, plainRun, direct, Field, fresh, Move, calls, ends, textCase, textMove, textN, fieldN, specN, enough, conversionOf, fieldPieces, selfDocumenting, finished, specified}
 use Rattle.definition.specs.Records.{Item, item, itemOf, covers, wordsOf, recordAt}
 use Rattle.utf8.specs.declared.Cursor.{Cursor}
 use Rattle.buffers.specs.Over.{over}
@@ -25,13 +24,13 @@ use Rattle.strings.specs.declared.field.Head.{Head}
 use Rattle.strings.specs.declared.fstring.Read.{Read}
 use Rattle.strings.specs.declared.fstring.Read.the-variants.{Done, Refused}
 use Rattle.strings.specs.Emit as E
-use Rattle.strings.specs.Emit.{Out, bit, emits, reserved, filledIn}
+use Rattle.strings.specs.Emit.{bit, emits, reserved, filledIn}
 use Rattle.strings.specs.Sinks.{wholeOf, outOf, loadOf, Fits, Emits, converted, specWords}
 use Rattle.strings.specs.Fstring.{Room, Written, ReadIs, SpecIs, fieldEnd}
 use Rattle.strings.proofs.Emitted.{spec-last, emits-append, put-free}
 use Rattle.definition.proofs.Moves.{weight, fieldSize, filled-light, part-short}
 use Rattle.definition.proofs.CharLaws.{next-past, next-in, next-from}
-use Rattle.strings.specs.Text.{StopsBy, OpensBefore}
+use Rattle.strings.specs.Text.{StopsBy}
 use Rattle.strings.proofs.SinkLaws.{emits-both, grown}
 use Rattle.definition.proofs.Steps.{firstEnd, firstPiece}
 use Rattle.definition.proofs.Whole.{text-stop, text-end, text-field, text-field-stop, field-end, field-spec, field-spec-stop, spec-text, spec-end}

@@ -1,17 +1,17 @@
 -- A list of literals is read one body after the other. Assumes nothing.
-use mathlib.Core.Path.{_≡_, refl, sym, _∙_, ap, ap₂}
-use mathlib.Core.Bool.{Bool, true, false}
+use mathlib.Core.Path.{_≡_, refl, sym, _∙_, ap}
+use mathlib.Core.Bool.{true, false}
 use mathlib.Core.List.{List, [], _∷_, _++_, map, append-nil, append-assoc}
-use Prim.Native.Nat.{ℕ, zero, suc, _+_, _-_, _*_, _≤_, _<_}
+use Prim.Native.Nat.{ℕ, _+_, _-_, _*_, _≤_, _<_}
 use native.Mathlib.Nat.{add-zero, sub-zero}
 use native.Mathlib.Omega.{arith}
 use lib.ListN.{length}
 use Rattle.definition.specs.Numbers.{isFString}
 use Rattle.definition.specs.Escapes.{got, refused}
 use Rattle.definition.specs.Escapes as d
-use Rattle.definition.specs.Body.{Piece, literal, textN, stringN, enough, alone, readBody}
+use Rattle.definition.specs.Body.{literal, textN, stringN, enough, alone, readBody}
 use Rattle.definition.specs.Records.{Item, itemOf}
-use Rattle.definition.specs.Entry.{Literal, refusal, opening, placeOf, body, total}
+use Rattle.definition.specs.Entry.{refusal, opening, placeOf, body, total}
 use Rattle.definition.specs.Reading.{accepts, refuses, andThen, readLiteral, readFrom}
 use Rattle.definition.specs.Reading as o
 use Rattle.definition.proofs.Moves.{weight}
@@ -34,7 +34,7 @@ use Rattle.strings.specs.Emit.{emits}
 use Rattle.strings.specs.Sinks.{loadOf, outOf, wholeOf, Emits}
 use Rattle.strings.specs.Text.{StringIs}
 use Rattle.strings.specs.Fstring.{ReadIs}
-use Rattle.strings.specs.Strings.{Room, frameOf, empty, Gave, BodyIs, All, ListIs}
+use Rattle.strings.specs.Strings.{Room, frameOf, empty, Gave, BodyIs, All}
 use Rattle.strings.proofs.Emitted.{emits-append}
 use Rattle.strings.proofs.SinkLaws.{grown}
 use Rattle.strings.proofs.FstringLaws.{gave, refuses as written-refuses}

@@ -2,7 +2,7 @@
 use mathlib.Core.Path.{_≡_, refl, sym, _∙_, ap, ap₂}
 use mathlib.Core.Bool.{Bool, true, false}
 use mathlib.Core.List.{List, [], _∷_, _++_, map, map-append, append-assoc}
-use Prim.Native.Nat.{ℕ, zero, suc, _+_, _-_, _*_, _≤_, _<_, min}
+use Prim.Native.Nat.{ℕ, zero, suc, _+_, _-_, _*_, _≤_, min}
 use native.Mathlib.Omega.{arith}
 use lib.ListN.{length, length-append, take, replicate, length-replicate}
 use Rattle.definition.specs.Records.{Item, item, itemOf, inner, raw, top, covers, wordsOf, recordAt}
@@ -18,7 +18,7 @@ use Rattle.strings.specs.declared.emit.Frame.{Frame}
 use Rattle.strings.specs.declared.emit.Sink.{Sink}
 use Rattle.strings.specs.Emit as e
 use Rattle.strings.specs.Emit.{Out, hold, put, closed, heldWords, emit, emits}
-use Rattle.strings.specs.Sinks.{wholeOf, outOf, loadOf, Fits, Writes, Emits, documentation, Documents, UpTo, converted}
+use Rattle.strings.specs.Sinks.{wholeOf, outOf, loadOf, Writes, Emits, documentation, Documents, UpTo, converted}
 use Rattle.strings.proofs.Emitted.{closed-free, emits-append, emit-used, load-emits, ordered-emits, direct-light}
 use Rattle.definition.proofs.Moves.{weight}
 

@@ -1,7 +1,7 @@
 -- What the readers of an f-string answer and write, by the definition's readings.
 use Prim.Native.Nat.{ℕ, suc, _+_, _-_, _*_, _≤_, _<_}
 use mathlib.Core.Path.{_≡_}
-use mathlib.Core.List.{List, [], _∷_, map}
+use mathlib.Core.List.{List, _∷_}
 use mathlib.Core.Bool.{Bool}
 use lib.ListN.{length}
 use Rattle.definition.specs.Chars.{if_then_else_, atEnd, next}
@@ -9,12 +9,11 @@ use Rattle.definition.specs.Numbers.{unclosedLbrace, emptyExpression}
 use Rattle.definition.specs.Escapes.{got, refused}
 use Rattle.definition.specs.Escapes as d
 use Rattle.definition.specs.Body.{Piece, spec, direct}
-use Rattle.strings.specs.declared.Refusal.{Refusal}
 use Rattle.strings.specs.declared.emit.Frame.{Frame}
 use Rattle.strings.specs.declared.emit.Sink.{Sink}
 use Rattle.strings.specs.declared.fstring.Read.{Read}
 use Rattle.strings.specs.declared.fstring.Read.the-variants.{Done, Refused}
-use Rattle.strings.specs.Sinks.{loadOf, Fits, Emits}
+use Rattle.strings.specs.Sinks.{loadOf, Emits}
 
 -- the body fits, its places too, and all that is still to come
 pub record Room (s : List ℕ) (at : ℕ) (fr : Frame) (k : Sink) : Type 0 where

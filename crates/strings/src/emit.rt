@@ -14,7 +14,7 @@ ghost use Rattle.buffers.specs.Over.{over};
 ghost use Rattle.strings.specs.Emit.{closed, reserved, filledIn};
 ghost use Rattle.strings.specs.Sinks.{loadOf, Fits, outOf, wholeOf, Writes, Emits, Documents, UpTo, converted, specWords};
 ghost use Rattle.definition.specs.Chars.{if_then_else_};
-ghost use Rattle.definition.specs.Body.{literal as aLiteral, field as aField, filled, selfDocumenting, conversionOf};
+ghost use Rattle.definition.specs.Body.{literal as aLiteral, field as aField, filled, selfDocumenting};
 
 // What every top-level record of a call carries: its kind, the call's first start and last end, and its u mark.
 pub(crate) struct Whole {

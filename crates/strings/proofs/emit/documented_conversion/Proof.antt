@@ -1,5 +1,4 @@
 -- `strings::emit::documented_conversion` meets its contract. Assumes nothing.
-use borrow.Author.Needs.{needs}
 use borrow.Author.Tests.{eq-eqb, ne-eqb}
 use Rattle.strings.proofs.emit.documented_conversion.Statement.{statement}
 use Rattle.strings.proofs.emit.documented_conversion.Tie as tie

@@ -1,6 +1,6 @@
 -- `strings::emit::fill_spec` meets its contract. Assumes nothing.
 use borrow.Author.Needs.{needs}
-use mathlib.Core.Path.{refl, ap}
+use mathlib.Core.Path.{refl}
 use Rattle.strings.specs.Emit.{filledIn}
 use Rattle.strings.proofs.emit.fill_spec.Statement.{statement}
 use Rattle.strings.proofs.emit.fill_spec.Tie as tie

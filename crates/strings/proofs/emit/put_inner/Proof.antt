@@ -1,6 +1,5 @@
 -- `strings::emit::put_inner` meets its contract. Assumes nothing.
 use borrow.Author.Needs.{needs}
-use native.Mathlib.Omega.{arith}
 use Rattle.strings.proofs.SinkLaws.{after-closed, put-writes}
 use Rattle.strings.proofs.emit.put_inner.Statement.{statement}
 use Rattle.strings.proofs.emit.put_inner.Tie as tie

@@ -2,13 +2,13 @@
 use borrow.Author.Needs.{needs}
 use native.Mathlib.Omega.{arith}
 use mathlib.Core.Path.{_≡_, refl, sym, _∙_}
-use Prim.Native.Nat.{suc, _+_, _-_}
+use Prim.Native.Nat.{_+_, _-_}
 use native.Mathlib.Numerals.{add-one}
 use borrow.Author.Tests.{eq-eqb, ne-eqb}
 use Rattle.definition.proofs.CharLaws.{next-past, next-in}
 use Rattle.definition.proofs.Fuel.{first-in}
 use lib.ListN.{length}
-use Rattle.strings.proofs.FstringLaws.{gave, refuses, to-give, to-refuse, fits, small-head, spec-room, closed-field, unformatted-field, specified-field, Sofar, start, deep-result, run-ended, room-text, text-over, field-refused, field-read, field-further, kept, first-room, spec-plain, spec-braced, spec-refused, spec-fits}
+use Rattle.strings.proofs.FstringLaws.{gave, refuses, to-refuse, fits, small-head, spec-room, closed-field, unformatted-field, specified-field, Sofar, start, deep-result, run-ended, room-text, text-over, field-refused, field-read, field-further, kept, first-room, spec-plain, spec-braced, spec-refused, spec-fits}
 use Prim.Native.Nat.{ℕ, _<_}
 use borrow.Fn.Kinds.{In}
 use borrow.Fn.PlainCycle.{Measures, is, falls, and}
