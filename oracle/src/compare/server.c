@@ -1,0 +1,104 @@
+/* Answers readings over a pipe, little-endian on both ends. What is lent to the library
+   stands between 16 filled bytes on each side. A changed byte there, or in the script or
+   the list, ends the program with status 3.
+
+   Request: u32 list length, u32 script bytes, u32 words lent, u32 text bytes lent,
+   the list, the script, the words and the text as they are before the call.
+   Answer: 12 u32, the words, the text after the call. */
+#include <stdint.h>
+#include <stdio.h>
+#include <stdlib.h>
+#include <string.h>
+
+void stumpgarret_read(const uint8_t *, size_t, const uint32_t *, size_t, uint32_t *, size_t,
+                      uint8_t *, size_t, uint32_t *);
+
+enum { GUARD = 16, FILL = 0x5A };
+
+static void *lend(size_t size)
+{
+    uint8_t *whole = malloc(size + 2 * GUARD);
+    if (!whole) {
+        fputs("server: no memory\n", stderr);
+        exit(4);
+    }
+    memset(whole, FILL, GUARD);
+    memset(whole + GUARD + size, FILL, GUARD);
+    return whole + GUARD;
+}
+
+static void give_back(void *lent, size_t size, const char *name)
+{
+    uint8_t *whole = (uint8_t *)lent - GUARD;
+    for (int i = 0; i < GUARD; i++)
+        if (whole[i] != FILL || whole[GUARD + size + i] != FILL) {
+            fprintf(stderr, "server: changed outside of %s (%zu bytes), guard byte %d\n", name,
+                    size, i);
+            exit(3);
+        }
+    free(whole);
+}
+
+static void take(void *to, size_t size)
+{
+    if (size && fread(to, 1, size, stdin) != size) {
+        fputs("server: request cut short\n", stderr);
+        exit(5);
+    }
+}
+
+static void put(const void *from, size_t size)
+{
+    if (size && fwrite(from, 1, size, stdout) != size)
+        exit(6);
+}
+
+static void unchanged(const void *now, const void *before, size_t size, const char *name)
+{
+    if (size && memcmp(now, before, size)) {
+        fprintf(stderr, "server: %s changed\n", name);
+        exit(3);
+    }
+}
+
+int main(void)
+{
+    setvbuf(stdin, NULL, _IOFBF, 1 << 16);
+    setvbuf(stdout, NULL, _IOFBF, 1 << 20);
+    uint32_t size[4];
+    size_t got;
+    while ((got = fread(size, 1, sizeof size, stdin)) == sizeof size) {
+        size_t list_size = 4 * (size_t)size[0], words_size = 4 * (size_t)size[2];
+        uint32_t *list = lend(list_size), *words = lend(words_size);
+        uint8_t *script = lend(size[1]), *text = lend(size[3]);
+        take(list, list_size);
+        take(script, size[1]);
+        take(words, words_size);
+        take(text, size[3]);
+        void *list_before = lend(list_size), *script_before = lend(size[1]);
+        memcpy(list_before, list, list_size);
+        memcpy(script_before, script, size[1]);
+        uint32_t *answer = lend(48);
+        memset(answer, 0xFF, 48);
+        stumpgarret_read(script, size[1], list, size[0], words, size[2], text, size[3], answer);
+        put(answer, 48);
+        put(words, words_size);
+        put(text, size[3]);
+        if (fflush(stdout))
+            exit(6);
+        unchanged(list, list_before, list_size, "the list");
+        unchanged(script, script_before, size[1], "the script");
+        give_back(list_before, list_size, "a copy of the list");
+        give_back(script_before, size[1], "a copy of the script");
+        give_back(answer, 48, "the answer");
+        give_back(text, size[3], "the text");
+        give_back(words, words_size, "the words");
+        give_back(script, size[1], "the script");
+        give_back(list, list_size, "the list");
+    }
+    if (got) {
+        fputs("server: request cut short\n", stderr);
+        exit(5);
+    }
+    return 0;
+}
