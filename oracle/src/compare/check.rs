@@ -1,16 +1,12 @@
 //! One input against the reference, with room enough, just enough and too little.
 
 use std::fmt;
-use std::ops::Range;
 
 use inputs::{Case, FILL_BYTE, FILL_WORD};
 use oracle::answer::{Numbers, Outcome};
 use oracle::rules::{self, RECORD_WORDS};
 
 use crate::candidate;
-
-/// How many words and bytes stand before and behind the lent buffers.
-const AROUND: usize = 4;
 
 /// How many records and text bytes are printed.
 const RECORDS_SHOWN: usize = 40;
@@ -19,7 +15,7 @@ const TEXT_SHOWN: usize = 2_000;
 /// Words and text bytes that are lent.
 type Room = (usize, usize);
 
-/// The numbers answered, and both buffers with what stands around them.
+/// The numbers answered, and both buffers. What stands around them is watched by server.c.
 #[derive(Clone, Default, PartialEq)]
 pub struct Answer {
     numbers: Numbers,
@@ -31,27 +27,20 @@ impl Answer {
     /// Lends filled buffers to a reading, and keeps what it answers and leaves in them.
     fn take(&mut self, room: Room, read: impl FnOnce(&mut [u32], &mut [u8]) -> Numbers) {
         self.words.clear();
-        self.words.resize(room.0 + 2 * AROUND, FILL_WORD);
+        self.words.resize(room.0, FILL_WORD);
         self.text.clear();
-        self.text.resize(room.1 + 2 * AROUND, FILL_BYTE);
-        let (words, text) = (inside(&self.words), inside(&self.text));
-        self.numbers = read(&mut self.words[words], &mut self.text[text]);
+        self.text.resize(room.1, FILL_BYTE);
+        self.numbers = read(&mut self.words, &mut self.text);
     }
-}
-
-/// Where in its surroundings a lent buffer lies.
-fn inside<T>(buffer: &[T]) -> Range<usize> {
-    AROUND..buffer.len() - AROUND
 }
 
 impl fmt::Display for Answer {
     fn fmt(&self, f: &mut fmt::Formatter) -> fmt::Result {
-        let (words, text) = (&self.words[inside(&self.words)], &self.text[inside(&self.text)]);
         writeln!(f, "{:?}", self.numbers)?;
-        for record in words.chunks(RECORD_WORDS).take(RECORDS_SHOWN) {
+        for record in self.words.chunks(RECORD_WORDS).take(RECORDS_SHOWN) {
             writeln!(f, "  {record:?}")?;
         }
-        write!(f, "  \"{}\"", text[..text.len().min(TEXT_SHOWN)].escape_ascii())
+        write!(f, "  \"{}\"", self.text[..self.text.len().min(TEXT_SHOWN)].escape_ascii())
     }
 }
 
@@ -62,18 +51,16 @@ pub struct Difference {
 }
 
 impl Difference {
-    /// Where the answers first differ. A negative place, or one not below the room, is
-    /// outside of the buffer that was lent.
+    /// Where the answers first differ.
     pub fn first(&self) -> String {
         let (expected, given) = (&self.expected, &self.given);
-        let from_inside = |at: usize| at as isize - AROUND as isize;
         if let Some(at) = first_unequal(&expected.numbers, &given.numbers) {
             format!("number {at}")
         } else if let Some(at) = first_unequal(&expected.words, &given.words) {
-            format!("word {}", from_inside(at))
+            format!("word {at}")
         } else {
             let at = first_unequal(&expected.text, &given.text).expect("there is a difference");
-            format!("text byte {}", from_inside(at))
+            format!("text byte {at}")
         }
     }
 }
