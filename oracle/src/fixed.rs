@@ -1,34 +1,27 @@
-//! Writes the fixed list of answers to standard output: inputs with what document 01
-//! expects of each, for a replay without the Rust at hand.
+//! Writes the fixed list of answers, for a replay without the Rust at hand.
 //!
-//! All numbers are 32 bits, least byte first, and nothing is padded. The file is
+//!   fixed cases     the inputs, as crates/cases takes them
+//!   fixed answers   what document 01 expects of each, as crates/cases writes it
 //!
-//!   8 bytes   "STUMPGR1"
-//!   number    cases
-//!   numbers   most list numbers, script bytes, words and text bytes that a case has
-//!
-//! and then each case:
-//!
-//!   numbers   list numbers, script bytes, words lent, text bytes lent
-//!   numbers   the list
-//!   bytes     the script
-//!   numbers   the twelve that are answered
-//!   numbers   the words after the call, all that are lent
-//!   bytes     the text after the call, all that is lent
-//!
-//! Before the call every word is A5A5A5A5 and every text byte A5 (hexadecimal).
+//! Before a call every word is A5A5A5A5 and every text byte A5 (hexadecimal).
 
 use std::collections::BTreeMap;
-use std::io::{self, Write};
+use std::fmt::{Display, Write as _};
+use std::io::{self, Write as _};
+use std::process::ExitCode;
 
 use inputs::{Case, Random, FILL_BYTE, FILL_WORD};
 use oracle::answer::Numbers;
 use oracle::rules::{self, RECORD_WORDS};
 
-const MAGIC: &[u8; 8] = b"STUMPGR1";
 const SEED: u64 = 1;
 const CASES: usize = 2_300;
-const MOST_BYTES: usize = 1_000_000;
+
+/// What crates/cases has room for: bytes of all inputs, and of one input list numbers, words
+/// and bytes.
+const MOST_BYTES: usize = 1_048_640;
+const MOST_NUMBERS: usize = 8_192;
+const MOST_WORDS: usize = 65_536;
 
 /// How many inputs at the edges there may be of each first kind and number: small ones, and
 /// those whose list numbers and script bytes are more than LARGE together.
@@ -50,11 +43,18 @@ struct Answered {
     text: Vec<u8>,
 }
 
-fn main() -> io::Result<()> {
-    let cases = cases();
-    let file = encoded(&cases);
-    check_coverage(&cases, file.len());
-    io::stdout().write_all(&file)
+fn main() -> ExitCode {
+    let argument = std::env::args().nth(1);
+    let file = match argument.as_deref() {
+        Some("cases") => inputs_file(&cases()),
+        Some("answers") => answers_file(&cases()).into_bytes(),
+        _ => {
+            eprintln!("usage: fixed cases | fixed answers");
+            return ExitCode::from(2);
+        }
+    };
+    io::stdout().write_all(&file).expect("standard output takes it");
+    ExitCode::SUCCESS
 }
 
 /// The named inputs, a share of those at the edges, then random ones.
@@ -118,28 +118,46 @@ fn answered(case: Case, index: usize) -> Answered {
     Answered { case, numbers, words, text }
 }
 
-fn encoded(cases: &[Answered]) -> Vec<u8> {
-    let most = |size: fn(&Answered) -> usize| cases.iter().map(size).max().unwrap_or(0);
-    let mut file = MAGIC.to_vec();
-    put_sizes(
-        &mut file,
-        &[
-            cases.len(),
-            most(|case| case.case.list.len()),
-            most(|case| case.case.script.len()),
-            most(|case| case.words.len()),
-            most(|case| case.text.len()),
-        ],
-    );
-    for Answered { case, numbers, words, text } in cases {
-        put_sizes(&mut file, &[case.list.len(), case.script.len(), words.len(), text.len()]);
+/// Each script is one piece that stands there once.
+fn inputs_file(cases: &[Answered]) -> Vec<u8> {
+    let mut file = Vec::new();
+    put_sizes(&mut file, &[cases.len()]);
+    for Answered { case, words, text, .. } in cases {
+        put_sizes(&mut file, &[case.list.len(), 1, words.len(), text.len()]);
         put(&mut file, &case.list);
+        put_sizes(&mut file, &[1, case.script.len()]);
         file.extend_from_slice(&case.script);
-        put(&mut file, numbers);
-        put(&mut file, words);
-        file.extend_from_slice(text);
+        let bytes = case.script.len().max(text.len());
+        assert!(
+            case.list.len() <= MOST_NUMBERS && words.len() <= MOST_WORDS && bytes <= MOST_BYTES
+        );
+    }
+    assert!(file.len() <= MOST_BYTES, "{} bytes", file.len());
+    check_coverage(cases, file.len());
+    file
+}
+
+fn answers_file(cases: &[Answered]) -> String {
+    let mut file = String::new();
+    for Answered { numbers, words, text, .. } in cases {
+        put_line(&mut file, "answer", numbers);
+        put_line(&mut file, "words", words);
+        put_line(&mut file, "text", text);
     }
     file
+}
+
+/// Equal elements that stand together are written once, with their count.
+fn put_line<Element: Display + PartialEq>(file: &mut String, name: &str, elements: &[Element]) {
+    file.push_str(name);
+    for run in elements.chunk_by(PartialEq::eq) {
+        let written = match run.len() {
+            1 => write!(file, " {}", run[0]),
+            count => write!(file, " {count}*{}", run[0]),
+        };
+        written.expect("a string takes it");
+    }
+    file.push('\n');
 }
 
 fn put_sizes(file: &mut Vec<u8>, sizes: &[usize]) {
@@ -162,7 +180,6 @@ fn check_coverage(cases: &[Answered], bytes: usize) {
     }
     assert!(by_number.keys().copied().eq(NUMBERS), "numbers missing: {by_number:?}");
     assert!(by_kind.keys().copied().eq(0..7), "kinds missing: {by_kind:?}");
-    assert!(bytes < MOST_BYTES, "{bytes} bytes");
     eprintln!("fixed: {} cases, {bytes} bytes; by number: {by_number:?}", cases.len());
     eprintln!("fixed: literals of each kind in accepted cases: {by_kind:?}");
 }

@@ -7,7 +7,13 @@ use std::cell::RefCell;
 use std::io::{BufReader, Read, Write};
 use std::process::{Child, ChildStdin, ChildStdout, Command, Stdio};
 
-use oracle::answer::Numbers;
+use inputs::{FILL_BYTE, FILL_WORD};
+
+use crate::check::{Answer, Room};
+
+/// Requests that go together, and their answers, are less than a pipe holds, so that neither
+/// end waits for the other to read.
+const PIPE: usize = 1 << 15;
 
 struct Server {
     // Kept, so that its end can be told.
@@ -44,42 +50,64 @@ impl Server {
         command
     }
 
-    fn read(&mut self, script: &[u8], list: &[u32], words: &mut [u32], text: &mut [u8]) -> Numbers {
-        let bytes = &mut self.bytes;
-        bytes.clear();
-        for size in [list.len(), script.len(), words.len(), text.len()] {
-            bytes.extend(u32::try_from(size).expect("sizes fit 32 bits").to_le_bytes());
+    /// Puts a request behind those that are to go, with both buffers filled.
+    fn ask(&mut self, script: &[u8], list: &[u32], (words, text): Room) {
+        for size in [list.len(), script.len(), words, text] {
+            self.bytes.extend(u32::try_from(size).expect("sizes fit 32 bits").to_le_bytes());
         }
-        bytes.extend(list.iter().flat_map(|word| word.to_le_bytes()));
-        bytes.extend(script);
-        bytes.extend(words.iter().flat_map(|word| word.to_le_bytes()));
-        bytes.extend(&*text);
-        // The server takes the whole request before it answers, so neither end waits for
-        // the other to read.
-        if let Err(error) = self.requests.write_all(bytes) {
+        self.bytes.extend(list.iter().flat_map(|word| word.to_le_bytes()));
+        self.bytes.extend(script);
+        self.bytes.extend((0..words).flat_map(|_| FILL_WORD.to_le_bytes()));
+        self.bytes.extend((0..text).map(|_| FILL_BYTE));
+    }
+
+    fn send(&mut self) {
+        if let Err(error) = self.requests.write_all(&self.bytes) {
             self.ended(error);
         }
-        bytes.clear();
-        bytes.resize(48 + 4 * words.len() + text.len(), 0);
-        if let Err(error) = self.answers.read_exact(bytes) {
+        self.bytes.clear();
+    }
+
+    fn answer(&mut self, (words, text): Room) -> Answer {
+        let mut bytes = vec![0; size_of_answer((words, text))];
+        if let Err(error) = self.answers.read_exact(&mut bytes) {
             self.ended(error);
         }
-        let bytes = &self.bytes;
         let word = |at: usize| u32::from_le_bytes(bytes[at..at + 4].try_into().expect("4 bytes"));
-        for (at, lent) in words.iter_mut().enumerate() {
-            *lent = word(48 + 4 * at);
+        Answer {
+            numbers: std::array::from_fn(|at| word(4 * at)),
+            words: (0..words).map(|at| word(48 + 4 * at)).collect(),
+            text: bytes[48 + 4 * words..].to_vec(),
         }
-        text.copy_from_slice(&bytes[48 + 4 * words.len()..]);
-        std::array::from_fn(|at| word(4 * at))
     }
 
     fn ended(&mut self, error: std::io::Error) -> ! {
         panic!("the server ended: {error}, {:?}", self.child.wait())
     }
+
+    fn read(&mut self, script: &[u8], list: &[u32], rooms: &[Room]) -> Vec<Answer> {
+        let request = 16 + 4 * list.len() + script.len();
+        let together =
+            rooms.iter().map(|room| request + size_of_answer(*room)).sum::<usize>() < PIPE;
+        let rooms_at_once = if together { rooms.len() } else { 1 };
+        let mut answers = Vec::with_capacity(rooms.len());
+        for rooms in rooms.chunks(rooms_at_once) {
+            rooms.iter().for_each(|room| self.ask(script, list, *room));
+            self.send();
+            answers.extend(rooms.iter().map(|room| self.answer(*room)));
+        }
+        answers
+    }
 }
 
-pub fn read(script: &[u8], list: &[u32], words: &mut [u32], text: &mut [u8]) -> Numbers {
+/// Twelve numbers, the words and the text: as many bytes as both buffers take in a request.
+fn size_of_answer((words, text): Room) -> usize {
+    48 + 4 * words + text
+}
+
+/// What is answered with each room.
+pub fn read(script: &[u8], list: &[u32], rooms: &[Room]) -> Vec<Answer> {
     SERVER.with_borrow_mut(|server| {
-        server.get_or_insert_with(Server::start).read(script, list, words, text)
+        server.get_or_insert_with(Server::start).read(script, list, rooms)
     })
 }

@@ -13,24 +13,22 @@ const RECORDS_SHOWN: usize = 40;
 const TEXT_SHOWN: usize = 2_000;
 
 /// Words and text bytes that are lent.
-type Room = (usize, usize);
+pub type Room = (usize, usize);
 
 /// The numbers answered, and both buffers. What stands around them is watched by server.c.
-#[derive(Clone, Default, PartialEq)]
+#[derive(PartialEq)]
 pub struct Answer {
-    numbers: Numbers,
-    words: Vec<u32>,
-    text: Vec<u8>,
+    pub numbers: Numbers,
+    pub words: Vec<u32>,
+    pub text: Vec<u8>,
 }
 
 impl Answer {
-    /// Lends filled buffers to a reading, and keeps what it answers and leaves in them.
-    fn take(&mut self, room: Room, read: impl FnOnce(&mut [u32], &mut [u8]) -> Numbers) {
-        self.words.clear();
-        self.words.resize(room.0, FILL_WORD);
-        self.text.clear();
-        self.text.resize(room.1, FILL_BYTE);
-        self.numbers = read(&mut self.words, &mut self.text);
+    /// What an outcome answers and leaves with a room.
+    fn expected(outcome: &Outcome, room: Room) -> Answer {
+        let (mut words, mut text) = (vec![FILL_WORD; room.0], vec![FILL_BYTE; room.1]);
+        let numbers = rules::lay_out(outcome, &mut words, &mut text);
+        Answer { numbers, words, text }
     }
 }
 
@@ -72,8 +70,6 @@ fn first_unequal<T: PartialEq>(one: &[T], other: &[T]) -> Option<usize> {
 /// Compares, and counts what was compared.
 #[derive(Default)]
 pub struct Checker {
-    expected: Answer,
-    given: Answer,
     calls: u64,
     readings: [u64; 32],
     short_of_room: [u64; 32],
@@ -83,21 +79,19 @@ impl Checker {
     pub fn check(&mut self, case: &Case) -> Option<Difference> {
         let outcome = rules::reading(&case.script, &case.list);
         self.readings[outcome.as_ref().map_or_else(|refusal| refusal.number as usize, |_| 0)] += 1;
-        rooms(&outcome).into_iter().find_map(|room| self.check_with(case, &outcome, room))
+        let rooms = rooms(&outcome);
+        let given = candidate::read(&case.script, &case.list, &rooms);
+        let mut answers = rooms.into_iter().zip(given);
+        answers.find_map(|(room, given)| self.compare(&outcome, room, given))
     }
 
-    fn check_with(&mut self, case: &Case, outcome: &Outcome, room: Room) -> Option<Difference> {
-        self.expected.take(room, |words, text| rules::lay_out(outcome, words, text));
-        self.given.take(room, |words, text| candidate::read(&case.script, &case.list, words, text));
+    fn compare(&mut self, outcome: &Outcome, room: Room, given: Answer) -> Option<Difference> {
+        let expected = Answer::expected(outcome, room);
         self.calls += 1;
-        if let number @ (30 | 31) = self.expected.numbers[0] {
+        if let number @ (30 | 31) = expected.numbers[0] {
             self.short_of_room[number as usize] += 1;
         }
-        (self.expected != self.given).then(|| Difference {
-            room,
-            expected: self.expected.clone(),
-            given: self.given.clone(),
-        })
+        (expected != given).then_some(Difference { room, expected, given })
     }
 
     /// How many inputs were compared.

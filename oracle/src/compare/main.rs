@@ -1,6 +1,6 @@
 //! Compares the reading behind the C interface with the reference.
 //!
-//!   compare gate          the enumerated inputs and a million random ones
+//!   compare gate          a share of the enumerated inputs, and random ones
 //!   compare long N SEED   the enumerated inputs and random ones, N together at least
 //!
 //! Stops at the first difference, with the smallest input that was found to show one.
@@ -15,15 +15,15 @@ use check::{Checker, Difference};
 use inputs::{Case, Random};
 
 const GATE_SEED: u64 = 20_260_101;
-const GATE_RANDOM: u64 = 1_000_000;
+const GATE_INPUTS: u64 = 1_300_000;
 
 fn main() -> ExitCode {
     let arguments: Vec<String> = std::env::args().skip(1).collect();
     let words: Vec<&str> = arguments.iter().map(String::as_str).collect();
     match words[..] {
-        ["gate"] => run(GATE_SEED, |_, random| random < GATE_RANDOM),
+        ["gate"] => run(inputs::sample, GATE_INPUTS, GATE_SEED),
         ["long", count, seed] => match (count.parse::<u64>(), seed.parse()) {
-            (Ok(count), Ok(seed)) => run(seed, |compared, _| compared < count),
+            (Ok(count), Ok(seed)) => run(inputs::enumerated, count, seed),
             _ => usage(),
         },
         _ => usage(),
@@ -35,17 +35,14 @@ fn usage() -> ExitCode {
     ExitCode::from(2)
 }
 
-/// Compares all enumerated inputs, then random ones while `more` holds of the count of
-/// inputs so far and of the random ones among them.
-fn run(seed: u64, more: impl Fn(u64, u64) -> bool) -> ExitCode {
+/// Compares inputs of a family, then random ones until there are so many.
+fn run(family: fn(&mut dyn FnMut(&Case)), count: u64, seed: u64) -> ExitCode {
     println!("compare: seed {seed}");
     let mut checker = Checker::default();
-    inputs::enumerated(&mut |case| compare(&mut checker, case));
+    family(&mut |case| compare(&mut checker, case));
     let mut random = Random::new(seed);
-    let mut random_count = 0;
-    while more(checker.inputs(), random_count) {
+    while checker.inputs() < count {
         compare(&mut checker, &inputs::random(&mut random));
-        random_count += 1;
     }
     println!("{}", checker.summary());
     ExitCode::SUCCESS

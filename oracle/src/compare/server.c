@@ -4,11 +4,13 @@
 
    Request: u32 list length, u32 script bytes, u32 words lent, u32 text bytes lent,
    the list, the script, the words and the text as they are before the call.
-   Answer: 12 u32, the words, the text after the call. */
+   Answer: 12 u32, the words, the text after the call. Requests may come together; what was
+   answered goes out before more is waited for. */
 #include <stdint.h>
 #include <stdio.h>
 #include <stdlib.h>
 #include <string.h>
+#include <unistd.h>
 
 void stumpgarret_read(const uint8_t *, size_t, const uint32_t *, size_t, uint32_t *, size_t,
                       uint8_t *, size_t, uint32_t *);
@@ -39,11 +41,35 @@ static void give_back(void *lent, size_t size, const char *name)
     free(whole);
 }
 
+static uint8_t block[1 << 16];
+static size_t taken, filled;
+
+/* Whether there is more to take. */
+static int more(void)
+{
+    if (taken < filled)
+        return 1;
+    if (fflush(stdout))
+        exit(6);
+    ssize_t got = read(STDIN_FILENO, block, sizeof block);
+    taken = 0;
+    filled = got < 0 ? 0 : (size_t)got;
+    return filled > 0;
+}
+
 static void take(void *to, size_t size)
 {
-    if (size && fread(to, 1, size, stdin) != size) {
-        fputs("server: request cut short\n", stderr);
-        exit(5);
+    uint8_t *at = to;
+    while (size) {
+        if (!more()) {
+            fputs("server: request cut short\n", stderr);
+            exit(5);
+        }
+        size_t here = size < filled - taken ? size : filled - taken;
+        memcpy(at, block + taken, here);
+        taken += here;
+        at += here;
+        size -= here;
     }
 }
 
@@ -63,11 +89,10 @@ static void unchanged(const void *now, const void *before, size_t size, const ch
 
 int main(void)
 {
-    setvbuf(stdin, NULL, _IOFBF, 1 << 16);
     setvbuf(stdout, NULL, _IOFBF, 1 << 20);
-    uint32_t size[4];
-    size_t got;
-    while ((got = fread(size, 1, sizeof size, stdin)) == sizeof size) {
+    while (more()) {
+        uint32_t size[4];
+        take(size, sizeof size);
         size_t list_size = 4 * (size_t)size[0], words_size = 4 * (size_t)size[2];
         uint32_t *list = lend(list_size), *words = lend(words_size);
         uint8_t *script = lend(size[1]), *text = lend(size[3]);
@@ -84,8 +109,6 @@ int main(void)
         put(answer, 48);
         put(words, words_size);
         put(text, size[3]);
-        if (fflush(stdout))
-            exit(6);
         unchanged(list, list_before, list_size, "the list");
         unchanged(script, script_before, size[1], "the script");
         give_back(list_before, list_size, "a copy of the list");
@@ -95,10 +118,6 @@ int main(void)
         give_back(words, words_size, "the words");
         give_back(script, size[1], "the script");
         give_back(list, list_size, "the list");
-    }
-    if (got) {
-        fputs("server: request cut short\n", stderr);
-        exit(5);
     }
     return 0;
 }

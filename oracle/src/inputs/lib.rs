@@ -23,6 +23,25 @@ pub fn enumerated(visit: &mut dyn FnMut(&Case)) {
     scalars::visit(visit);
 }
 
+/// The named ones, those at the edges, and a share of the other enumerated inputs.
+pub fn sample(visit: &mut dyn FnMut(&Case)) {
+    named::visit(visit);
+    edges::visit(visit);
+    one_in(7, escapes::visit, visit);
+    one_in(7, short::visit, visit);
+    one_in(61, scalars::visit, visit);
+}
+
+fn one_in(share: u64, family: fn(&mut dyn FnMut(&Case)), visit: &mut dyn FnMut(&Case)) {
+    let mut count = 0;
+    family(&mut |case| {
+        if count % share == 0 {
+            visit(case);
+        }
+        count += 1;
+    });
+}
+
 /// The named inputs, each of which a fixed list should have.
 pub fn named(visit: &mut dyn FnMut(&Case)) {
     named::visit(visit);

@@ -1,0 +1,245 @@
+# Run with Python 3.11, `python3 crates/try_readings/expected.py`: writes the cases to `stdin` beside it and what must come out to `stdout`.
+# With `--check` it writes nothing and fails if one of them is not what it would write.
+"""Document 01's readings, refusals and limits. What each row expects stands there in 01's terms, worked out from 01 by hand."""
+import itertools
+import os
+import struct
+import sys
+
+FILL_WORD, FILL_BYTE = 0xA5A5A5A5, 0xA5
+PREFIX = [0, 1, 1, 1, 2, 2, 1]
+PLAIN, JOINED, BYTES = 0, 1, 2
+NUMBERS = {1, 2, 3, 4, 5, 6, 7, 10, 11, 12, 13, 20, 21, 22, 23, 24, 25, 26, 27, 28, 30, 31}
+MOST_LITERALS, MOST_BYTES = 1_024, 1_048_576
+ROOM = 11, 5
+
+# Each case: the list's numbers, the script's pieces, what is answered, the words and the text afterwards.
+cases = []
+
+
+# What is lent
+
+def side_by_side(*literals, start=0):
+    """Literals, each (kind, body) or (kind, body, flag), with nothing between them. The bodies lie in the script in order."""
+    numbers, script = [], b""
+    for kind, body, *flag in literals:
+        end = start + PREFIX[kind] + (6 if flag == [1] else 2) + len(body.encode())
+        numbers += [kind, *(flag or [0]), len(script), len(body.encode()), start, end]
+        script += body.encode()
+        start = end
+    return numbers, [(1, script)]
+
+
+def fstring(body):
+    return side_by_side((1, body))
+
+
+# Records: each is made from the list's numbers. `of` is the literal that a record belongs to.
+
+def literal(text, u=0):
+    """A top-level literal."""
+    return lambda numbers: (1, text, numbers[4], numbers[-1], u, 0, 0)
+
+
+def raw(text):
+    return lambda numbers: (4, text, numbers[4], numbers[-1], 0, 0, 0)
+
+
+def field(text, place, conversion="\0", parts=0, of=0):
+    return lambda numbers: (2, text, *numbers[6 * of + 4:6 * of + 6], ord(conversion), parts, place)
+
+
+def spec(parts, of=0):
+    return lambda numbers: (3, "", *numbers[6 * of + 4:6 * of + 6], 0, parts, 0)
+
+
+def part(text, of=0):
+    """A literal in a spec."""
+    return lambda numbers: (1, text, *numbers[6 * of + 4:6 * of + 6], 0, 0, 0)
+
+
+# Rows
+
+def reads(lent, sort, *records, room=ROOM):
+    """An acceptance. `room` is how many words and text bytes are lent beyond those needed."""
+    numbers, pieces = lent
+    words, text = [], b""
+    for kind, own, *rest in (record(numbers) for record in records):
+        own = own if isinstance(own, bytes) else own.encode()
+        words += [kind, len(text), len(own), *rest]
+        text += own
+    answer = [0, sort, int(numbers[0] == 6), numbers[4], numbers[-1], len(records), len(text)]
+    cases.append((numbers, pieces, answer, words + [FILL_WORD] * room[0], text + bytes([FILL_BYTE] * room[1])))
+
+
+def refuses(lent, number, place, a=0, b=0, literal=0, room=ROOM):
+    """A refusal. `room` is how many words and text bytes are lent."""
+    numbers, pieces = lent
+    cases.append((numbers, pieces, [number, literal, place, a, b], [0] * room[0], bytes(room[1])))
+
+
+def small_readings():
+    """01, "Small readings to check", in its order; then the examples of the program and the near misses."""
+    reads(fstring("{x!=y}"), JOINED, field("x!=y", 3))
+    refuses(fstring("{x!r b}"), 20, 6)
+    refuses(fstring("{x:{y:{z}}}"), 24, 8)
+    reads(fstring("{x = }"), JOINED, literal("x = "), field("x ", 3, "r"))
+    reads(fstring("{x=()}"), JOINED, literal("x()="), field("x()", 3, "r"))
+    reads(fstring(""), JOINED)
+    refuses(fstring("{(]}"), 23, 5, ord("("), ord("]"))
+    reads(fstring(r"{x:\n>{w}\n}"), JOINED, field("x", 3, parts=1), spec(3), part(r"\n>"), field("w", 9), part("\n"))
+    reads(([0, 0, 1, 0, 0, 2, 1, 0, 5, 3, 3, 9], [(1, b'"" f"{x}"')]), JOINED, literal(""), field("x", 6, of=1))
+    reads(side_by_side((2, r"\777")), BYTES, raw(b"\xff"))
+    reads(side_by_side((0, r"\777")), PLAIN, literal(b"\xc7\xbf"))
+    reads(fstring("a{x:>5}"), JOINED, literal("a"), field("x", 4, parts=1), spec(1), part(">5"))
+    refuses(fstring("}"), 25, 3)
+    reads(side_by_side((0, ""), (1, "{x}"), (0, "")), JOINED, literal(""), field("x", 5, of=1), literal(""))
+    reads(fstring("{x=:}"), JOINED, literal("x="), field("x", 3, parts=1), spec(0))
+
+
+def two_literals():
+    """The second of two adjacent literals, and what a whole call carries."""
+    two = side_by_side((0, "VDD "), (1, "{mv / 12.5:.0f}\\n"), start=7)
+    reads(two, JOINED, literal("VDD "), field("mv / 12.5", 16, parts=1, of=1), spec(1, of=1), part(".0f", of=1), literal("\n"))
+    reads(side_by_side((6, "a"), (0, "b")), PLAIN, literal("ab", u=1))
+    reads(side_by_side((6, "a"), (1, "b{x}"), (3, r"\d")), JOINED, literal("ab", u=1), field("x", 8, of=1), literal(r"\d", u=1))
+    reads(side_by_side((2, r"\x41"), (5, r"\x41")), BYTES, raw(r"A\x41"))
+    reads(side_by_side((4, r"\{x!a}", 1)), JOINED, literal("\\"), field("x", 7, "a"))
+    reads(side_by_side((1, "{x=!s}"), (1, "{y= :{z=}}")), JOINED,
+          literal("x="), field("x", 3, "s"),
+          literal("y= "), field("y", 12, parts=1, of=1), spec(3, of=1), part("z=", of=1), part("", of=1), field("z", 17, "r", of=1))
+
+
+def entry_checks():
+    good = side_by_side((0, "ab"), (1, "c"))
+    numbers, script = good
+    reads(good, JOINED, literal("abc"))
+
+    def changed(at, number):
+        return numbers[:at] + [number] + numbers[at + 1:], script
+
+    refuses(([], []), 1, 0)
+    refuses(([], script), 1, 0, room=(0, 0))
+    for count in (1, 5, 7, 6 * MOST_LITERALS + 7):
+        refuses(([0] * count, []), 2, 0)
+    for at, number, bad in (
+            (0, 7, 0), (6, 2**32 - 1, 1), (1, 2, 0), (7, 2**32 - 1, 1),  # kind, flag
+            (2, 2, 0), (9, 2, 1), (8, 2**32 - 1, 1), (3, 2**32 - 1, 0),  # body outside the script
+            (4, 5, 0), (5, 2, 0), (10, 9, 1),                            # start above end, no room for the body
+            (10, 3, 1), (11, 6, 1)):                                     # start below the previous end, one place too few
+        refuses(changed(at, number), 4, 0, literal=bad)
+    reads(changed(11, 7), JOINED, literal("abc"))
+    refuses(([0, 0, 0, 2, 0, 4, 0, 0, 0, 3, 4, 9], [(1, b"a\xff\xfe")]), 6, 2)
+    refuses(([0, 0, 0, 1, 0, 3, 4, 1, 0, 3, 9, 20], [(1, b"a\xff\xfe")]), 6, 9 + 5 + 1, literal=1)
+    refuses(([5, 0, 0, 3, 2, 8], [(1, b"\xe2\x82\xac"[:2] + b"a")]), 6, 5)
+    refuses(side_by_side((2, "a"), (0, "\\"), start=9), 7, 9)
+    refuses(side_by_side((1, "}"), (5, "a"), start=2**32 - 20), 7, 2**32 - 20)
+    # each check over the whole list before the next
+    refuses(([0, 0, 0, 1, 0, 3, 9, 0, 0, 1, 3, 6], [(1, b"\xff")]), 4, 0, literal=1)
+    refuses(([2, 0, 0, 1, 0, 4, 0, 0, 1, 1, 4, 7], [(1, b"a\xff")]), 6, 5, literal=1)
+
+
+def escapes():
+    reads(side_by_side((0, r"\\\'\"\a\b\f\n\r\t\v\7\101\x42\u0394\U0001f600\ud800\N{OHM SIGN}\q"), (0, "\\\n")), PLAIN,
+          literal("\\'\"\a\b\f\n\r\t\v\7AB\u0394\U0001f600\ufffd\u2126\\q"))
+    reads(side_by_side((2, r"\x42\u0394\N{OHM SIGN}\400")), BYTES, raw(b"B\\u0394\\N{OHM SIGN}\0"))
+    for body, taken in (("a\\", 2), (r"\N", 2), (r"\Nx", 2), (r"\N{DEGREE SIGN", 14)):
+        refuses(side_by_side((0, body)), 10, 1 + taken)
+    for body in (r"\x", r"\x4", r"\x4g", r"\u123", r"\U0011000", r"\U00110000", r"\Uffffffff"):
+        refuses(side_by_side((6, body)), 11, 2 + 2)
+    refuses(side_by_side((2, "aé")), 12, 2 + 3)
+    refuses(side_by_side((5, "a"), (2, "\\\u20ac", 1)), 12, 5 + 4 + 4, literal=1)
+    refuses(side_by_side((0, r"\N{degree sign}")), 13, 1 + 3)
+    refuses(side_by_side((0, r"\N{" + "A" * 88 + "}")), 13, 1 + 3)
+    refuses(side_by_side((0, r"\N{" + "A" * 89 + "}")), 11, 1 + 3 + 90)
+
+
+def fields():
+    for body, place in (("{", 3), ("{x", 4), ("{x!", 5), ("{x!r", 6), ("{x!rs", 6), ("{x:", 5), ("{x:{", 6), ("{x:{y}", 8), ("{x=y}", 6), ("a{(", 5)):
+        refuses(fstring(body), 20, place)
+    refuses(fstring("{x!x}"), 21, 6)
+    refuses(fstring("{x!é}"), 21, 7)
+    for body, place in (("{}", 4), ("{ \t\n}", 7), ("{!r}", 4), ("{:}", 5), ("{ =}", 6)):
+        refuses(fstring(body), 22, place)
+    for opener, closer in (("(", "]"), ("[", ")"), ("{", ")"), ("(", "}"), ("[", "}")):
+        refuses(fstring("{x" + opener + closer), 23, 6, ord(opener), ord(closer))
+    refuses(side_by_side((0, "{"), (4, "{x:{y:{}", 1)), 24, 3 + 5 + 6, literal=1)
+    refuses(fstring("a}b"), 25, 4)
+    for closer in ")]":
+        refuses(fstring("{x" + closer), 26, 5, ord(closer))
+    for body, place in (("{'", 4), ("{'a\"", 6), ("{\\", 4), ("{x=\\", 6)):
+        refuses(fstring(body), 27, place)
+    brackets = lambda count: "(" * count + ")" * count
+    reads(fstring("{" + brackets(64) + "}"), JOINED, field(brackets(64), 3))
+    refuses(fstring("{" + brackets(65) + "}"), 28, 2 + 1 + 65)
+    reads(fstring("{'" + "(" * 65 + "'}"), JOINED, field("'" + "(" * 65 + "'", 3))
+
+
+def room():
+    """Exactly enough and one too little; 30 before 31."""
+    lent, needed = fstring("a{x:>5}"), (4, 4)
+    records = literal("a"), field("x", 4, parts=1), spec(1), part(">5")
+    reads(lent, JOINED, *records, room=(0, 0))
+    reads(lent, JOINED, *records, room=(7, 0))
+    for words, text, number in ((31, 4, 30), (32, 3, 31), (31, 3, 30), (0, 0, 30), (40, 0, 31), (0, 40, 30)):
+        refuses(lent, number, 0, *needed, room=(words, text))
+    reads(fstring(""), JOINED, room=(0, 0))
+    refuses(side_by_side((2, "")), 30, 0, 1, 0, room=(7, 0))
+    reads(side_by_side((2, "")), BYTES, raw(""), room=(0, 0))
+
+
+def limits():
+    """1,024 and 1,025 literals; bodies of 1,048,576 bytes and one more."""
+    def many(count):
+        return [number for at in range(count) for number in (0, 0, 0, 1, 3 * at, 3 * at + 3)], [(1, b"a")]
+    reads(many(MOST_LITERALS), PLAIN, literal("a" * MOST_LITERALS))
+    refuses(many(MOST_LITERALS + 1), 3, 0)
+
+    def long(*sizes, kind=0):
+        numbers, end = [], 0
+        for size in sizes:
+            numbers += [kind, 0, 0, size, end, end + size + 3]
+            end += size + 3
+        return numbers, [(MOST_BYTES + 1, b"a")]
+    reads(long(MOST_BYTES), PLAIN, literal("a" * MOST_BYTES), room=(0, 0))
+    reads(long(MOST_BYTES - 1, 1, kind=1), JOINED, literal("a" * MOST_BYTES), room=(3, 1))
+    refuses(long(MOST_BYTES), 31, 0, 1, MOST_BYTES, room=(8, MOST_BYTES - 1))
+    refuses(long(MOST_BYTES + 1), 5, 0)
+    refuses(long(MOST_BYTES, 1, kind=1), 5, 0)
+
+
+# The files
+
+def encoded(numbers, pieces, words, text):
+    lengths = struct.pack("<4I", len(numbers), len(pieces), len(words), len(text))
+    listed = struct.pack(f"<{len(numbers)}I", *numbers)
+    return lengths + listed + b"".join(struct.pack("<2I", times, len(piece)) + piece for times, piece in pieces)
+
+
+def line(name, elements):
+    runs = ((element, len(list(run))) for element, run in itertools.groupby(elements))
+    return " ".join([name, *(str(element) if count == 1 else f"{count}*{element}" for element, count in runs)]) + "\n"
+
+
+def files():
+    stdin, stdout = struct.pack("<I", len(cases)), ""
+    for numbers, pieces, answer, words, text in cases:
+        stdin += encoded(numbers, pieces, words, text)
+        stdout += line("answer", answer + [0] * (12 - len(answer))) + line("words", words) + line("text", text)
+    return {"stdin": stdin, "stdout": stdout.encode()}
+
+
+def main():
+    for rows in (small_readings, two_literals, entry_checks, escapes, fields, room, limits):
+        rows()
+    met = {answer[0] for _, _, answer, _, _ in cases}
+    assert met == NUMBERS | {0}, met
+    for name, content in files().items():
+        path = os.path.join(os.path.dirname(os.path.abspath(__file__)), name)
+        if sys.argv[1:] != ["--check"]:
+            open(path, "wb").write(content)
+        elif open(path, "rb").read() != content:
+            sys.exit(f"expected.py: {path} is not what this script writes")
+
+
+main()
