@@ -98,9 +98,10 @@ def small_readings():
 
 
 def two_literals():
-    """The second of two adjacent literals, and what a whole call carries."""
-    two = side_by_side((0, "VDD "), (1, "{mv / 12.5:.0f}\\n"), start=7)
-    reads(two, JOINED, literal("VDD "), field("mv / 12.5", 16, parts=1, of=1), spec(1, of=1), part(".0f", of=1), literal("\n"))
+    """The second of two adjacent literals, as in docs/AUDIT.md; what a whole call carries."""
+    script = b'print("VDD = 743 mV, code " f"{743 / 12.5:.0f}")'
+    reads(([0, 0, 7, 19, 6, 27, 1, 0, 30, 16, 28, 47], [(1, script)]), JOINED,
+          literal("VDD = 743 mV, code "), field("743 / 12.5", 31, parts=1, of=1), spec(1, of=1), part(".0f", of=1))
     reads(side_by_side((6, "a"), (0, "b")), PLAIN, literal("ab", u=1))
     reads(side_by_side((6, "a"), (1, "b{x}"), (3, r"\d")), JOINED, literal("ab", u=1), field("x", 8, of=1), literal(r"\d", u=1))
     reads(side_by_side((2, r"\x41"), (5, r"\x41")), BYTES, raw(r"A\x41"))

@@ -12,3 +12,6 @@ pub mod Outcomes
 pub mod Whole
 pub mod Depths
 pub mod Prefix
+pub mod ViewLaw
+pub mod Room
+pub mod Shown

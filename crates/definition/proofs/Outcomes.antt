@@ -8,7 +8,7 @@ use native.Mathlib.Omega.{arith}
 use lib.Dec.{ltb}
 use lib.ListN.{length, drop, length-append, length-drop, length-replicate}
 use borrow.Author.Tests.{ltb-false}
-use Rattle.definition.specs.Numbers.{isBytes, tooManyLiterals, badDescriptor, bodiesTooLong, notUtf8, mixedBytes, tooFewRecordPlaces, tooLittleTextRoom}
+use Rattle.definition.specs.Numbers.{isBytes, tooManyLiterals, badDescriptor, bodiesTooLong, notUtf8, mixedBytes}
 use Rattle.definition.specs.Chars.{if_then_else_}
 use Rattle.definition.specs.Escapes.{Read, got, refused}
 use Rattle.definition.specs.Body.{Piece, readBody}
@@ -121,7 +121,7 @@ unfolding cover
 cover-gapless s e u n [] m h = h
 cover-gapless s e u n (r ∷ rs) m h = (h .0, cover-gapless s e u (n + r .size) rs m (h .1))
 
-gapless-sum : (n : ℕ) (rs : List Record) (m : ℕ) → Gapless n rs m → n + sizes rs ≡ m
+pub gapless-sum : (n : ℕ) (rs : List Record) (m : ℕ) → Gapless n rs m → n + sizes rs ≡ m
 gapless-sum n [] m h = omega arith
 gapless-sum n (r ∷ rs) m h = omega (arith, gapless-sum (n + r .size) rs m (h .1))
 
@@ -150,18 +150,12 @@ read-sane script ls = go (entry script ls) refl (entry-numbered script ls)
 roomed-sane : (w t : ℕ) (o : Outcome Answer) → Sane o → Sane (roomed w t o)
 unfolding roomed refusal
 roomed-sane w t (refuses r) h = h
-roomed-sane w t (accepts x) h = go (ltb (w / 8) (length (x .records))) (ltb t (length (x .text)))
+roomed-sane w t (accepts x) h = go (ltb (w / 8) (length (x .records))) refl (ltb t (length (x .text))) refl
   where
-    n : ℕ
-    n = length (x .records)
-
-    m : ℕ
-    m = length (x .text)
-
-    go : (a b : Bool) → Sane (if a then refuses (refusal tooFewRecordPlaces 0 0 n m) else if b then refuses (refusal tooLittleTextRoom 0 0 n m) else accepts x)
-    go true b = tt
-    go false true = tt
-    go false false = h
+    go : (a : Bool) → ltb (w / 8) (length (x .records)) ≡ a → (b : Bool) → ltb t (length (x .text)) ≡ b → Sane (roomed w t (accepts x))
+    go true p b q = rw p tt
+    go false p true q = rw (p, q) tt
+    go false p false q = rw (p, q) h
 
 -- of descriptors with both buffers lent
 pub into-sane : (script : List ℕ) (ls : List Literal) (words text : List ℕ) → Sane (readInto script ls words text .outcome)
@@ -181,7 +175,7 @@ numbers-sane script ns words text = go (sixes ns) refl
 abbrev pub Kept : List ℕ → List ℕ → Call → Type 0
 Kept words text c = (length (c .words) ≡ length words) × (length (c .text) ≡ length text)
 
-all-words : (rs : List Record) → length (allWords rs) ≡ length rs * 8
+pub all-words : (rs : List Record) → length (allWords rs) ≡ length rs * 8
 unfolding allWords wordsOf
 all-words [] = refl
 all-words (r ∷ rs) = omega (arith, all-words rs)

@@ -6,3 +6,5 @@ pub mod Records
 pub mod Entry
 pub mod Reading
 pub mod Join
+pub mod View
+pub mod Lines

@@ -7,7 +7,7 @@ use lib.ListN.{length}
 use Rattle.definition.specs.Numbers.{isFString, isBytes, notSixes}
 use Rattle.definition.specs.Entry.{Literal, sixes, Refusal, refusal, allGood, notLong, allUtf8, notMixed, firstOf, entry}
 use Rattle.definition.specs.Reading.{Outcome, accepts, refuses}
-use Rattle.entry.specs.declared.Literal.{Literal as Descriptor}
+use Rattle.entry.specs.declared.Descriptor.{Descriptor}
 use Rattle.entry.specs.declared.Checked.{Checked}
 use Rattle.entry.specs.declared.Checked.the-variants.{Passed, Refused}
 use Rattle.entry.specs.declared.Class.{Class}

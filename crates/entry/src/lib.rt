@@ -10,8 +10,8 @@ ghost use Rattle.definition.specs.Reading.{refuses};
 ghost use Rattle.entry.specs.Answers.{described, says, outcomeOf, isOf, laterChecks, checkNumbers};
 ghost use Rattle.entry.specs.Literals.{literalAt, literals};
 
-// A literal: six numbers.
-pub struct Literal {
+// A literal's descriptor: six numbers.
+pub struct Descriptor {
     pub kind: u32,
     pub triple: u32,
     pub offset: u32,
@@ -67,11 +67,11 @@ fn number_at(numbers: &[u32], at: usize) -> u32
 }
 
 // The literal of an index from 0: its six numbers; zeros where the numbers end.
-pub fn literal_at(numbers: &[u32], i: u32) -> Literal
+pub fn literal_at(numbers: &[u32], i: u32) -> Descriptor
     ensures { λ r. ⌜ described r ≡ literalAt (now (numbers .entry)) i ⌝ }
 {
     let at = i as usize * 6;
-    Literal {
+    Descriptor {
         kind: number_at(numbers, at),
         triple: number_at(numbers, at + 1),
         offset: number_at(numbers, at + 2),
@@ -89,7 +89,7 @@ fn prefix(kind: u32) -> u8
 }
 
 // The length of a literal's opening: the prefix plus 3 quotes if the flag is 1, else 1.
-pub fn opening(l: Literal) -> u32
+pub fn opening(l: Descriptor) -> u32
     ensures { λ r. ⌜ r ≡ opening (described l) ⌝ }
 {
     let prefix = prefix(l.kind) as u32;
@@ -101,7 +101,7 @@ pub fn opening(l: Literal) -> u32
 }
 
 // The place of so many bytes taken.
-pub fn place(l: Literal, taken: u32) -> u64
+pub fn place(l: Descriptor, taken: u32) -> u64
     ensures { λ r. ⌜ r ≡ placeOf (described l) taken ⌝ }
 {
     l.start as u64 + opening(l) as u64 + taken as u64
@@ -121,7 +121,7 @@ fn refuse(number: u32, literal: u32, place: u32) -> Checked
 }
 
 // Whether a descriptor is bad, after one that ended at `previous`.
-fn is_bad(script: &[u8], previous: u32, l: Literal) -> bool
+fn is_bad(script: &[u8], previous: u32, l: Descriptor) -> bool
     ensures { λ r. ⌜ r ≡ bad (now (script .entry)) previous (described l) ⌝ }
 {
     if 6 < l.kind {
@@ -213,7 +213,7 @@ fn is_either(kind: u32, a: u32, b: u32) -> bool
 }
 
 // Whether a kind is of a class.
-fn is_of(class: Class, kind: u32) -> bool
+pub fn is_of(class: Class, kind: u32) -> bool
     ensures { λ r. ⌜ r ≡ isOf class kind ⌝ }
 {
     match class {

@@ -83,7 +83,7 @@ fn refuse(number: u32, at: usize) -> Escaped
 }
 
 // Whether a kind is of bytes.
-fn is_any_bytes(kind: u32) -> bool
+pub fn is_any_bytes(kind: u32) -> bool
     ensures { λ r. ⌜ r ≡ isBytes kind ⌝ }
 {
     match kind {

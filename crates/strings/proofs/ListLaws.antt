@@ -19,7 +19,7 @@ use Rattle.definition.proofs.Fuel.{Reading, string-reading, body-reading}
 use Rattle.buffers.specs.Over.{over}
 use Rattle.entry.specs.Answers.{described}
 use Rattle.entry.specs.Literals.{literalAt, literals}
-use Rattle.entry.specs.declared.Literal.{Literal as Descriptor}
+use Rattle.entry.specs.declared.Descriptor.{Descriptor}
 use Rattle.entry.proofs.Literals.{total-turn}
 use Rattle.entry.proofs.Passed.{clash, Passed, Good, length-body, read-turn, read-end}
 use Rattle.strings.specs.declared.Refusal.{Refusal}

@@ -14,7 +14,7 @@ use Rattle.definition.specs.Entry.{Literal, refusal, opening, anyOf, firstStart
 use Rattle.definition.specs.Reading.{accepts, refuses, uMark, lastEnd, Call, numbers}
 use Rattle.definition.specs.Reading as lists
 use Rattle.entry.specs.Answers.{described}
-use Rattle.entry.specs.declared.Literal.{Literal as Descriptor}
+use Rattle.entry.specs.declared.Descriptor.{Descriptor}
 use Rattle.entry.specs.declared.Refusal.{Refusal as Why}
 use Rattle.strings.specs.declared.Outcome.{Outcome}
 use Rattle.strings.specs.declared.Outcome.the-variants.{Accepted, Refused}

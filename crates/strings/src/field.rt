@@ -1,5 +1,7 @@
 // A replacement field's head: from after its `{` up to and including the `}` or `:` that ends it.
+use crate::EMPTY_EXPRESSION;
 use crate::Refusal;
+use crate::UNCLOSED_LBRACE;
 use buffers::add_run;
 use utf8::Cursor;
 use utf8::Step;
@@ -15,11 +17,7 @@ ghost use Rattle.utf8.proofs.Steps.{Stepped};
 ghost use Rattle.buffers.specs.Over.{over};
 ghost use Rattle.strings.specs.FieldTurns.{caseIs, plainCase, pending, keptTo, skippedTo, headAt, Room, Fits, TurnIs, closedAs, OpenedIs};
 
-const UNCLOSED_LBRACE: u32 = 20;
-
 const INVALID_CONVERSION_FLAG: u32 = 21;
-
-const EMPTY_EXPRESSION: u32 = 22;
 
 const MISMATCHED_DELIMITER: u32 = 23;
 

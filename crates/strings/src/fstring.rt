@@ -1,5 +1,7 @@
 // F-strings: text, fields and specs, which call for one another.
+use crate::EMPTY_EXPRESSION;
 use crate::Refusal;
+use crate::UNCLOSED_LBRACE;
 use crate::emit::Frame;
 use crate::emit::Sink;
 use crate::emit::emit_field;
@@ -24,10 +26,6 @@ ghost use Rattle.definition.proofs.Steps.{firstEnd};
 ghost use Rattle.buffers.specs.Over.{over};
 ghost use Rattle.strings.specs.Sinks.{loadOf};
 ghost use Rattle.strings.specs.Fstring.{Room, ReadIs, SpecIs, fieldEnd};
-
-const UNCLOSED_LBRACE: u32 = 20;
-
-const EMPTY_EXPRESSION: u32 = 22;
 
 const EXPRESSION_NESTED_TOO_DEEPLY: u32 = 24;
 

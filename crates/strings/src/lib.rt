@@ -11,7 +11,7 @@ use emit::close_held;
 use emit::literal;
 use entry::Checked;
 use entry::Class;
-use entry::Literal;
+use entry::Descriptor;
 use fstring::Read;
 use fstring::parse_fstring;
 use text::Text;
@@ -22,7 +22,7 @@ ghost use mathlib.Core.Bool.{true};
 ghost use mathlib.Core.List.{List};
 ghost use Prim.Native.Nat.{ℕ, _<_};
 ghost use lib.ListN.{length};
-ghost use Rattle.definition.specs.Numbers.{isFString, isBytes, isUnicode};
+ghost use Rattle.definition.specs.Numbers.{isBytes, isUnicode};
 ghost use Rattle.definition.specs.Chars.{if_then_else_};
 ghost use Rattle.definition.specs.Records.{Role, covers, Item};
 ghost use Rattle.definition.specs.Entry.{body, anyOf};
@@ -66,27 +66,20 @@ pub(crate) enum Listed {
     Refused(entry::Refusal),
 }
 
+pub(crate) const UNCLOSED_LBRACE: u32 = 20;
+
+pub(crate) const EMPTY_EXPRESSION: u32 = 22;
+
 const TOO_FEW_RECORD_PLACES: u32 = 30;
 
 const TOO_LITTLE_TEXT_ROOM: u32 = 31;
-
-// Whether a kind is an f-string's.
-fn is_any_fstring(kind: u32) -> bool
-    ensures { λ r. ⌜ r ≡ isFString kind ⌝ }
-{
-    match kind {
-        1 => true,
-        4 => true,
-        _ => false,
-    }
-}
 
 // A literal's body, read and written.
 fn read_body(s: &[u8], fr: Frame, words: &mut [u32], text: &mut [u8], k: Sink) -> Read
     requires { ⌜ BodyRoom (now s) 0 fr k ⌝ }
     ensures { λ r. ⌜ BodyIs (readBody (fr .kind) (now (s .entry))) fr (now (words .entry)) (now (text .entry)) (now (words .exit)) (now (text .exit)) k r ⌝ }
 {
-    if is_any_fstring(fr.kind) {
+    if entry::is_of(Class::FStrings, fr.kind) {
         return parse_fstring(s, Cursor { at: 0 }, 0, fr, words, text, k);
     }
     match parse_string(s, fr.kind, text, k.used) {
@@ -98,7 +91,7 @@ fn read_body(s: &[u8], fr: Frame, words: &mut [u32], text: &mut [u8], k: Sink) -
 // A literal of the script, read and written.
 fn read_literal(
     script: &[u8],
-    l: Literal,
+    l: Descriptor,
     whole: Whole,
     words: &mut [u32],
     text: &mut [u8],

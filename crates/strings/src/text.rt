@@ -1,6 +1,8 @@
 // The text of a body: strings, bytes, and what stands between an f-string's fields.
 use crate::Refusal;
+use crate::UNCLOSED_LBRACE;
 use escapes::Escaped;
+use escapes::is_any_bytes;
 use utf8::Cursor;
 use utf8::Step;
 ghost use mathlib.Core.Path.{_≡_};
@@ -17,8 +19,6 @@ ghost use Rattle.buffers.specs.Over.{over};
 ghost use Rattle.strings.specs.Text.{Room, Taken, refusal, special, plainEnd, PlainIs, Does, StringIs, RunIs};
 
 const NON_ASCII_IN_BYTES: u32 = 12;
-
-const UNCLOSED_LBRACE: u32 = 20;
 
 const SINGLE_RBRACE: u32 = 25;
 
@@ -58,17 +58,6 @@ fn refuse(number: u32, taken: usize) -> Piece
         a: 0,
         b: 0,
     })
-}
-
-// Whether a kind is of bytes.
-fn is_any_bytes(kind: u32) -> bool
-    ensures { λ r. ⌜ r ≡ isBytes kind ⌝ }
-{
-    match kind {
-        2 => true,
-        5 => true,
-        _ => false,
-    }
 }
 
 // Whether a kind is raw.

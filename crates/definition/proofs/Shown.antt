@@ -1,0 +1,42 @@
+-- 01's examples of the lines: one table and one claim over it, computed. Assumes nothing.
+use Prim.Native.Nat.{ℕ}
+use Prim.Native.String.{String}
+use mathlib.Core.Path.{_≡_, refl}
+use mathlib.Core.List.{List, [], _∷_, _++_, map}
+use Rattle.definition.specs.Numbers.{prefix}
+use Rattle.definition.specs.Chars.{ascii, table37, following, follow, width, decoded, code, next, char, formedFrom, wellFormed, before}
+use Rattle.definition.specs.Body.{textCase, textMove, filled, fresh, add, outside, fieldCase, caseOf, fieldMove, direct, conversionOf, fieldPieces, selfDocumenting, finished, specified, plainRun, textN, readBody}
+use Rattle.definition.specs.Records.{touching, covers, item, itemOf, glue, merge, bothItems, merged, texts, recordAt, laid, cover, answerOf}
+use Rattle.definition.specs.Entry.{opening, placeOf, body, refusal, notEmpty, notMany, firstBad, bad, allGood, total, notLong, formed, illFormed, allUtf8, anyOf, firstStart, notMixed, firstOf, entry}
+use Rattle.definition.specs.Reading.{readLiteral, andThen, readFrom, sortOf, uMark, lastEnd, answered, read}
+use Rattle.definition.specs.Lines.{decimalN, decimal, escaped, escapedText, literalLine, fieldLine, specLine, refusalLine, lineOf, recordLine, recordLines, outcomeLines, bodyLines}
+
+pub record Row : Type 0 where
+  pub body : String
+  pub lines : List String
+
+infix 3 _writes_
+abbrev _writes_ : String → List String → Row
+body writes lines = record { body = body; lines = lines }
+
+-- each line, and a newline after it
+abbrev pub written : List String → List ℕ
+unfolding ascii
+written [] = []
+written (l ∷ ls) = ascii l ++ (10 ∷ written ls)
+
+pub shown : List Row
+shown =
+    ("a{x:>5}"
+    writes "{\"kind\":\"literal\",\"text\":\"a\"}"
+    ∷ "{\"kind\":\"field\",\"text\":\"x\",\"conversion\":0,\"at\":4}"
+    ∷ "{\"kind\":\"spec\",\"parts\":1}"
+    ∷ "{\"kind\":\"literal\",\"text\":\">5\"}"
+    ∷ [])
+    ∷ ("}" writes "{\"refusal\":25,\"at\":3,\"a\":0,\"b\":0}" ∷ [])
+    ∷ ("" writes [])
+    ∷ []
+
+pub shown-written : map (λ r. bodyLines (ascii (r .body))) shown ≡ map (λ r. written (r .lines)) shown
+unfolding shown prefix ascii table37 following follow width decoded code next char formedFrom wellFormed before textCase textMove filled fresh add outside fieldCase caseOf fieldMove direct conversionOf fieldPieces selfDocumenting finished specified plainRun textN readBody touching covers item itemOf glue merge bothItems merged texts recordAt laid cover answerOf opening placeOf body refusal notEmpty notMany firstBad bad allGood total notLong formed illFormed allUtf8 anyOf firstStart notMixed firstOf entry readLiteral andThen readFrom sortOf uMark lastEnd answered read decimalN decimal escaped escapedText literalLine fieldLine specLine refusalLine lineOf recordLine recordLines outcomeLines bodyLines
+shown-written = refl
