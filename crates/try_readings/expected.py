@@ -230,11 +230,15 @@ def files():
     return {"stdin": stdin, "stdout": stdout.encode()}
 
 
-def main():
+def fill_cases():
     for rows in (small_readings, two_literals, entry_checks, escapes, fields, room, limits):
         rows()
     met = {answer[0] for _, _, answer, _, _ in cases}
     assert met == NUMBERS | {0}, met
+
+
+def main():
+    fill_cases()
     for name, content in files().items():
         path = os.path.join(os.path.dirname(os.path.abspath(__file__)), name)
         if sys.argv[1:] != ["--check"]:
@@ -243,4 +247,5 @@ def main():
             sys.exit(f"expected.py: {path} is not what this script writes")
 
 
-main()
+if __name__ == "__main__":
+    main()

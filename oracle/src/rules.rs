@@ -52,6 +52,12 @@ pub fn reading_by_the_rust(script: &[u8], list: &[u32]) -> Outcome {
     rust::read(&literals, &well_formed_bodies(script, &literals, &ranges)?)
 }
 
+/// What the Rust takes for a list of sound literals.
+pub fn values(script: &[u8], list: &[u32]) -> Result<rust::Values, Refusal> {
+    let (literals, ranges) = descriptors(script, list)?;
+    Ok(rust::values(&literals, &well_formed_bodies(script, &literals, &ranges)?))
+}
+
 /// Answers with an outcome if there is room for it, and fills both buffers accordingly.
 pub fn lay_out(outcome: &Outcome, words: &mut [u32], text: &mut [u8]) -> Numbers {
     match fitting(outcome, words.len(), text.len()) {

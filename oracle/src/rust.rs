@@ -3,20 +3,29 @@
 use crate::answer::{Acceptance, Outcome, Refusal, Sort};
 use crate::ast::{Constant, Expr, ExprConstant, ExprFormattedValue, ExprJoinedStr};
 use crate::lexer::{LexicalError, LexicalErrorType};
-use crate::literal::Literal;
+use crate::literal::{Literal, StringKind};
 use crate::string::{parse_strings, FStringErrorType};
 use crate::text_size::{TextRange, TextSize};
 
-/// Reads a list that has passed the entry checks 1 to 6.
-pub fn read(literals: &[Literal], bodies: &[String]) -> Outcome {
-    let values = literals.iter().zip(bodies).map(|(literal, body)| {
+/// What the Rust takes: each literal's start, body, kind, triple flag and end.
+pub type Values = Vec<(TextSize, (String, StringKind, bool), TextSize)>;
+
+pub fn values(literals: &[Literal], bodies: &[String]) -> Values {
+    let value = |(literal, body): (&Literal, &String)| {
         let source = (body.clone(), literal.kind, literal.triple);
         (TextSize(literal.start), source, TextSize(literal.end))
-    });
-    match parse_strings(values.collect()) {
-        Ok(tree) => Ok(acceptance(&tree)),
-        Err(error) => Err(refusal(literals, bodies, error)),
-    }
+    };
+    literals.iter().zip(bodies).map(value).collect()
+}
+
+/// Reads a list that has passed the entry checks 1 to 6.
+pub fn read(literals: &[Literal], bodies: &[String]) -> Outcome {
+    read_values(values(literals, bodies)).map_err(|error| refusal(literals, bodies, error))
+}
+
+/// The tree, and from it the records.
+pub fn read_values(values: Values) -> Result<Acceptance, LexicalError> {
+    parse_strings(values).map(|tree| acceptance(&tree))
 }
 
 fn refusal(literals: &[Literal], bodies: &[String], error: LexicalError) -> Refusal {

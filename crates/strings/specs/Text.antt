@@ -1,12 +1,12 @@
 -- What the readers of a text answer and write, by the definition's moves and readings.
 use Prim.Native.Nat.{ℕ, _+_, _*_, _≤_, _<_, _^_}
 use mathlib.Core.Path.{_≡_}
-use mathlib.Core.Bool.{Bool, _&&_, _||_}
+use mathlib.Core.Bool.{Bool, false, _&&_, _||_}
 use mathlib.Core.List.{List, []}
 use lib.Dec.{leb}
 use lib.ListN.{length, drop}
 use Rattle.definition.specs.Numbers.{isBytes}
-use Rattle.definition.specs.Chars.{_is_, part, next, before}
+use Rattle.definition.specs.Chars.{_is_, byte, part, next, before}
 use Rattle.definition.specs.Escapes.{Read, got, refused}
 use Rattle.definition.specs.Body.{Piece as Record, Move, goes, stops, calls, ends, textN, textMove, enough}
 use Rattle.buffers.specs.Over.{over}
@@ -45,6 +45,17 @@ special kind b = b is "{}\\" || (isBytes kind && leb 0x80 b)
 -- where the plain bytes from i on end
 abbrev pub plainEnd : ℕ → List ℕ → ℕ → ℕ
 plainEnd kind s i = i + before (λ b. special kind b) (drop i s)
+
+-- the bytes from i up to r, which is at most j, are plain, and the one at r is not unless r is j
+pub record PlainTo (kind : ℕ) (s : List ℕ) (i j r : ℕ) : Type 0 where
+  pub on : i ≤ r
+  pub within : r ≤ j
+  pub same : plainEnd kind s i ≡ plainEnd kind s r
+  pub ends : r < j → plainEnd kind s r ≡ r
+
+-- the bytes from i up to j are plain
+abbrev pub AllPlain : ℕ → List ℕ → ℕ → ℕ → Type 0
+AllPlain kind s i j = (k : ℕ) → i ≤ k → k < j → special kind (byte s k) ≡ false
 
 -- the plain bytes from i on are written: the buffer before and after it, and the answer
 abbrev pub PlainIs : ℕ → List ℕ → ℕ → ℕ → List ℕ → List ℕ → Reached → Type 0

@@ -249,7 +249,7 @@ fn head_of(f: State, at: Cursor) -> Head
 }
 
 // A byte as a code.
-fn wide(b: u8) -> u32
+pub(crate) fn wide(b: u8) -> u32
     ensures { λ r. ⌜ r ≡ b ⌝ }
 {
     b as u32

@@ -1,12 +1,14 @@
 // The text of a body: strings, bytes, and what stands between an f-string's fields.
 use crate::Refusal;
 use crate::UNCLOSED_LBRACE;
+use crate::field::wide;
 use escapes::Escaped;
 use escapes::is_any_bytes;
 use utf8::Cursor;
 use utf8::Step;
+use utf8::greater;
 ghost use mathlib.Core.Path.{_≡_};
-ghost use mathlib.Core.Bool.{_&&_, not};
+ghost use mathlib.Core.Bool.{_&&_, not, true};
 ghost use mathlib.Core.List.{[]};
 ghost use Prim.Native.Nat.{ℕ, _+_, _≤_, _<_, _^_};
 ghost use lib.Dec.{leb};
@@ -16,7 +18,7 @@ ghost use Rattle.definition.specs.Chars.{_is_, part, code, next};
 ghost use Rattle.definition.specs.Escapes.{encode, escape};
 ghost use Rattle.definition.specs.Body.{goes, withEscape, stringMove, stringN, textMove, enough};
 ghost use Rattle.buffers.specs.Over.{over};
-ghost use Rattle.strings.specs.Text.{Room, Taken, refusal, special, plainEnd, PlainIs, Does, StringIs, RunIs};
+ghost use Rattle.strings.specs.Text.{Room, Taken, refusal, special, plainEnd, PlainTo, AllPlain, PlainIs, Does, StringIs, RunIs};
 
 const NON_ASCII_IN_BYTES: u32 = 12;
 
@@ -264,19 +266,80 @@ fn is_special(b: u8, kind: u32) -> bool
     }
 }
 
-// Where the plain bytes from an index on end.
-fn plain_end(s: &[u8], at: usize, kind: u32) -> usize
-    requires { ⌜ at ≤ length (now s) ⌝ }
-    ensures { λ r. ⌜ r ≡ plainEnd kind (now (s .entry)) at ⌝ }
+// How far the bytes from an index on, and up to another, are plain.
+fn plain_to(s: &[u8], from: usize, to: usize, kind: u32) -> usize
+    requires { ⌜ (from ≤ to) × (to ≤ length (now s)) ⌝ }
+    ensures { λ r. ⌜ PlainTo kind (now (s .entry)) from to r ⌝ }
 {
-    let mut i = at;
-    while i < s.len() {
+    let mut i = from;
+    while i < to {
         if is_special(s[i], kind) {
             return i;
         }
         i += 1;
     }
     i
+}
+
+// 1 if a byte is another one, else 0.
+fn is_byte(b: u8, other: u8) -> u8
+    ensures { λ r. ⌜ (b ≡ other → r ≡ 1) ⌝ }
+{
+    if b == other { 1 } else { 0 }
+}
+
+// Whether the bytes from an index up to another are plain.
+fn is_plain(s: &[u8], from: usize, to: usize, kind: u32) -> bool
+    requires { ⌜ to ≤ length (now s) ⌝ }
+    ensures { λ r. ⌜ (r ≡ true → AllPlain kind (now (s .entry)) from to) ⌝ }
+{
+    let mut most = 0;
+    let mut left = 0;
+    let mut right = 0;
+    let mut backslash = 0;
+    let mut i = from;
+    while i < to {
+        let b = s[i];
+        most = greater(most, b);
+        left = greater(left, is_byte(b, 0x7B));
+        right = greater(right, is_byte(b, 0x7D));
+        backslash = greater(backslash, is_byte(b, 0x5C));
+        i += 1;
+    }
+    if 0 < greater(left, greater(right, backslash)) {
+        return false;
+    }
+    !is_foreign(wide(most), kind)
+}
+
+// How far from an index on whole blocks of 64 bytes are plain.
+fn plain_blocks(s: &[u8], at: usize, kind: u32) -> usize
+    requires { ⌜ at ≤ length (now s) ⌝ }
+    ensures { λ r. ⌜ (at ≤ r) × (r ≤ length (now (s .entry))) × AllPlain kind (now (s .entry)) at r ⌝ }
+{
+    let mut i = at;
+    while 64 <= s.len() - i {
+        if is_plain(s, i, i + 64, kind) {
+            i += 64;
+        } else {
+            return i;
+        }
+    }
+    i
+}
+
+// Where the plain bytes from an index on end: byte by byte at first, then by blocks.
+fn plain_end(s: &[u8], at: usize, kind: u32) -> usize
+    requires { ⌜ at ≤ length (now s) ⌝ }
+    ensures { λ r. ⌜ r ≡ plainEnd kind (now (s .entry)) at ⌝ }
+{
+    let to = utf8::near(at, s.len());
+    let i = plain_to(s, at, to, kind);
+    if i < to {
+        return i;
+    }
+    let j = plain_blocks(s, i, kind);
+    plain_to(s, j, s.len(), kind)
 }
 
 // The plain bytes from a cursor on go into the text, as one run.

@@ -10,17 +10,11 @@ use native.Mathlib.Omega.{arith}
 use lib.Dec.{eqb, leb, eqb→eq, leb→le, lit<}
 use lib.ListN.{length, getD}
 use Rattle.definition.specs.Chars.{if_then_else_, ascii, byte, Range, inside, table37, following, follow, width}
-use Rattle.utf8.specs.Classes.{rowFrom, classOf, ranges}
+use Rattle.utf8.specs.Classes.{classes, rowFrom, classOf, ranges}
 use Rattle.definition.proofs.CharLaws.{cases, Each}
 use Rattle.utf8.proofs.Table.{at}
 
--- the tables, as the code has them
-abbrev pub classes : List ℕ
-unfolding ascii
-classes =
-    ascii
-    "1111111111111111111111111111111111111111111111111111111111111111111111111111111111111111111111111111111111111111111111111111111100000000000000000000000000000000000000000000000000000000000000000022222222222222222222222222222234444444444445667888900000000000"
-
+-- the other tables, as the code has them
 abbrev pub mores : List ℕ
 mores = 0 ∷ 0 ∷ 1 ∷ 2 ∷ 2 ∷ 2 ∷ 2 ∷ 3 ∷ 3 ∷ 3 ∷ []
 

@@ -1,3 +1,6 @@
 pub mod Table
 pub mod Classes
 pub mod Steps
+pub mod Runs
+pub mod Formed
+pub mod Common

@@ -2,7 +2,7 @@
 use Prim.Native.Nat.{ℕ, zero, suc}
 use mathlib.Core.Bool.{true, false}
 use mathlib.Core.List.{List, [], _∷_}
-use Rattle.definition.specs.Chars.{Range, _to_, inside, table37}
+use Rattle.definition.specs.Chars.{ascii, Range, _to_, inside, table37}
 
 -- the number of the first row that has the first byte b, the rows numbered from k on; 0 if none has it
 unfoldable pub rowFrom : ℕ → List (Range × List Range) → ℕ → ℕ
@@ -17,3 +17,10 @@ classOf b = rowFrom 1 table37 b
 unfoldable pub ranges : ℕ → ℕ → ℕ → List Range
 ranges zero low high = []
 ranges (suc more) low high = low to high ∷ ranges more 0x80 0xBF
+
+-- the table of the classes, each as a digit
+abbrev pub classes : List ℕ
+unfolding ascii
+classes =
+    ascii
+    "1111111111111111111111111111111111111111111111111111111111111111111111111111111111111111111111111111111111111111111111111111111100000000000000000000000000000000000000000000000000000000000000000022222222222222222222222222222234444444444445667888900000000000"

@@ -1,10 +1,13 @@
 // UTF-8 by the Unicode Standard, tables 3-6 and 3-7: byte classes, the character step, the well-formed prefix.
 ghost use mathlib.Core.Path.{_≡_};
-ghost use Prim.Native.Nat.{_+_, _<_, _≤_, max};
+ghost use mathlib.Core.Bool.{true, _&&_};
+ghost use lib.Dec.{leb};
+ghost use Prim.Native.Nat.{_+_, _<_, _≤_, max, min};
 ghost use lib.ListN.{length};
 ghost use Rattle.definition.specs.Chars.{byte, follow, width, decoded, code, wellFormed};
-ghost use Rattle.utf8.specs.Classes.{classOf, ranges};
+ghost use Rattle.utf8.specs.Classes.{classes, classOf, ranges};
 ghost use Rattle.utf8.specs.Steps.{stepAt};
+ghost use Rattle.utf8.specs.Runs.{Below, Ascii};
 
 // A place in the bytes of a body.
 pub struct Cursor {
@@ -31,11 +34,20 @@ const LOW: [u8; 10] = [0, 0, 0x80, 0xA0, 0x80, 0x80, 0x80, 0x90, 0x80, 0x80];
 
 const HIGH: [u8; 10] = [0, 0, 0xBF, 0xBF, 0xBF, 0x9F, 0xBF, 0xBF, 0xBF, 0x8F];
 
+// The byte's row of table 3-7, from 1, by the table; 0 if it begins no character.
+fn class_in(table: &[u8; 256], b: u8) -> usize
+    requires { ⌜ now table ≡ classes ⌝ }
+    ensures { λ r. ⌜ r ≡ classOf b ⌝ }
+{
+    (table[b as usize] - b'0') as usize
+}
+
 // The byte's row of table 3-7, from 1; 0 if it begins no character.
 pub fn class(b: u8) -> usize
     ensures { λ r. ⌜ r ≡ classOf b ⌝ }
 {
-    (CLASS[b as usize] - b'0') as usize
+    let table = CLASS;
+    class_in(&table, b)
 }
 
 // Whether so many bytes stand from an index on, the first within low to high and the others within 80 to BF.
@@ -66,11 +78,11 @@ fn follows(s: &[u8], from: usize, more: usize, low: u8, high: u8) -> bool
 }
 
 // The length of the well-formed character at an index, by the class of its first byte; 0 if there is none.
-fn char_len(s: &[u8], at: usize) -> usize
-    requires { ⌜ at < length (now s) ⌝ }
+fn char_len(s: &[u8], at: usize, table: &[u8; 256]) -> usize
+    requires { ⌜ (at < length (now s)) × (now table ≡ classes) ⌝ }
     ensures { λ r. ⌜ r ≡ width (now (s .entry)) at ⌝ }
 {
-    let class = class(s[at]);
+    let class = class_in(table, s[at]);
     if class == 0 {
         return 0;
     }
@@ -110,6 +122,20 @@ fn decode(s: &[u8], at: usize, len: usize) -> u32
     }
 }
 
+// The character at an index, by the classes of bytes.
+fn next_wide(s: &[u8], at: usize) -> Step
+    requires { ⌜ at < length (now s) ⌝ }
+    ensures { λ r. ⌜ r ≡ stepAt (now (s .entry)) at ⌝ }
+{
+    let table = CLASS;
+    let len = char_len(s, at, &table);
+    let code = decode(s, at, len);
+    if len == 0 {
+        return Step::Char(code, Cursor { at: at + 1 });
+    }
+    Step::Char(code, Cursor { at: at + len })
+}
+
 impl Cursor {
     // The character at the cursor. A byte that begins no well-formed one is taken alone, as U+FFFD.
     pub fn next_char(self, s: &[u8]) -> Step
@@ -123,12 +149,7 @@ impl Cursor {
         if b < 0x80 {
             return Step::Char(b, Cursor { at: at + 1 });
         }
-        let len = char_len(s, at);
-        let code = decode(s, at, len);
-        if len == 0 {
-            return Step::Char(code, Cursor { at: at + 1 });
-        }
-        Step::Char(code, Cursor { at: at + len })
+        next_wide(s, at)
     }
 
     // The code of the character at the cursor; 0x110000 at the end.
@@ -143,25 +164,157 @@ impl Cursor {
         if b < 0x80 {
             return b;
         }
-        decode(s, at, char_len(s, at))
+        let Step::Char(c, _) = next_wide(s, at) else {
+            return 0x110000;
+        };
+        c
     }
 }
 
-// The length of the longest well-formed prefix.
-pub fn well_formed(s: &[u8]) -> usize
+// The greater of two bytes.
+pub fn greater(a: u8, b: u8) -> u8
+    ensures { λ r. ⌜ r ≡ max a b ⌝ }
+{
+    if a < b { b } else { a }
+}
+
+// Whether all bytes from an index up to another are ASCII.
+fn is_ascii(s: &[u8], from: usize, to: usize) -> bool
+    requires { ⌜ to ≤ length (now s) ⌝ }
+    ensures { λ r. ⌜ (r ≡ true → Below 0x80 (now (s .entry)) from to) ⌝ }
+{
+    let mut most = 0;
+    let mut i = from;
+    while i < to {
+        most = greater(most, s[i]);
+        i += 1;
+    }
+    most < 0x80
+}
+
+// So far from an index on whole blocks of 64 bytes are ASCII.
+fn ascii_blocks(s: &[u8], at: usize) -> usize
+    requires { ⌜ at ≤ length (now s) ⌝ }
+    ensures { λ r. ⌜ Ascii (now (s .entry)) at r ⌝ }
+{
+    let mut i = at;
+    while 64 <= s.len() - i {
+        if is_ascii(s, i, i + 64) {
+            i += 64;
+        } else {
+            return i;
+        }
+    }
+    i
+}
+
+// So far from an index on, and up to another, bytes are ASCII.
+fn ascii_bytes(s: &[u8], from: usize, to: usize) -> usize
+    requires { ⌜ (from ≤ to) × (to ≤ length (now s)) ⌝ }
+    ensures { λ r. ⌜ Ascii (now (s .entry)) from r ⌝ }
+{
+    let mut i = from;
+    while i < to {
+        if 0x80 <= byte_at(s, i) {
+            return i;
+        }
+        i += 1;
+    }
+    i
+}
+
+// The index 16 bytes further, or the end where that is nearer.
+pub fn near(at: usize, len: usize) -> usize
+    ensures { λ r. ⌜ r ≡ min (at + 16) len ⌝ }
+{
+    if len < 16 {
+        return len;
+    }
+    if at < len - 16 { at + 16 } else { len }
+}
+
+// So far from an index on bytes are ASCII: byte by byte at first, then by blocks.
+fn ascii_end(s: &[u8], at: usize) -> usize
+    requires { ⌜ at ≤ length (now s) ⌝ }
+    ensures { λ r. ⌜ Ascii (now (s .entry)) at r ⌝ }
+{
+    let to = near(at, s.len());
+    let i = ascii_bytes(s, at, to);
+    if i < to {
+        return i;
+    }
+    let j = ascii_blocks(s, i);
+    ascii_bytes(s, j, s.len())
+}
+
+// Whether the byte at an index is within low to high.
+fn is_between(s: &[u8], i: usize, low: u8, high: u8) -> bool
+    ensures { λ r. ⌜ r ≡ (leb low (byte (now (s .entry)) i) && leb (byte (now (s .entry)) i) high) ⌝ }
+{
+    if s.len() <= i {
+        return false;
+    }
+    let b = s[i];
+    if b < low {
+        return false;
+    }
+    b <= high
+}
+
+// The length of the well-formed character at an index if its first byte is C2 to DF or E1 to EC; else, or if there is none, 0.
+fn common_len(s: &[u8], at: usize) -> usize
+    requires { ⌜ at < length (now s) ⌝ }
+    ensures { λ r. ⌜ ((r ≡ 0 → ⊥) → width (now (s .entry)) at ≡ r) ⌝ }
+{
+    if is_between(s, at, 0xC2, 0xDF) {
+        if is_between(s, at + 1, 0x80, 0xBF) {
+            return 2;
+        }
+        return 0;
+    }
+    if is_between(s, at, 0xE1, 0xEC) {
+        if is_between(s, at + 1, 0x80, 0xBF) {
+            if is_between(s, at + 1 + 1, 0x80, 0xBF) {
+                return 3;
+            }
+        }
+    }
+    0
+}
+
+// The length of the longest well-formed prefix, which has all bytes up to an index.
+fn well_formed_from(s: &[u8], from: usize) -> usize
+    requires { ⌜ Ascii (now s) 0 from ⌝ }
     ensures { λ r. ⌜ r ≡ wellFormed (now (s .entry)) ⌝ }
 {
-    let mut at = 0;
+    let table = CLASS;
+    let mut at = from;
     while at < s.len() {
         if byte_at(s, at) < 0x80 {
-            at += 1;
+            at = ascii_end(s, at + 1);
             continue;
         }
-        let len = char_len(s, at);
+        let common = common_len(s, at);
+        if common != 0 {
+            at += common;
+            continue;
+        }
+        let len = char_len(s, at, &table);
         if len == 0 {
             return at;
         }
         at += len;
     }
     at
+}
+
+// The length of the longest well-formed prefix.
+pub fn well_formed(s: &[u8]) -> usize
+    ensures { λ r. ⌜ r ≡ wellFormed (now (s .entry)) ⌝ }
+{
+    let at = ascii_end(s, 0);
+    if s.len() <= at {
+        return at;
+    }
+    well_formed_from(s, at)
 }

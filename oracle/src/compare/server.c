@@ -12,8 +12,7 @@
 #include <string.h>
 #include <unistd.h>
 
-void stumpgarret_read(const uint8_t *, size_t, const uint32_t *, size_t, uint32_t *, size_t,
-                      uint8_t *, size_t, uint32_t *);
+#include "stumpgarret.h"
 
 enum { GUARD = 16, FILL = 0x5A };
 

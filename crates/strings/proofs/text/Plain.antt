@@ -18,7 +18,7 @@ use Rattle.definition.proofs.Moves.{part-short}
 use Rattle.definition.proofs.Whole.{string-on, text-on}
 use Rattle.buffers.proofs.Over.{over-append}
 use Rattle.strings.specs.declared.text.Reached.{Reached}
-use Rattle.strings.specs.Text.{special, plainEnd, PlainIs, Upto, TextFrom}
+use Rattle.strings.specs.Text.{special, plainEnd, AllPlain, PlainIs, Upto, TextFrom}
 use Rattle.strings.proofs.text.Laws.{StringFrom}
 
 either : (a b : Bool) → (a || b) ≡ false → (a ≡ false) × (b ≡ false)
@@ -72,6 +72,11 @@ module _ (kind : ℕ) (s : List ℕ) where
   end-skip i (suc n) l f =
       let e : i + suc n ≡ i + 1 + n = omega arith in
       rw e (end-plain i (omega arith) (f i (omega arith) (omega arith)) ∙ end-skip (i + 1) n (omega arith) (λ j a b. f j (omega arith) (omega arith)))
+
+  pub end-all : (i j : ℕ) → i ≤ j → j ≤ length s → AllPlain kind s i j → plainEnd kind s i ≡ plainEnd kind s j
+  end-all i j h l f =
+      let e : i + (j - i) ≡ j = omega arith in
+      rw e at (end-skip i (j - i) (omega arith) (λ k a b. f k a (omega arith)))
 
   -- a byte that no character begins with is plain, but in bytes
   tail-plain : (b : ℕ) → isBytes kind ≡ false → 0x80 ≤ b → special kind b ≡ false

@@ -11,20 +11,20 @@ use Rattle.utf8.proofs.Classes.{class-small, more-small, width-none, wi
 use Rattle.utf8.proofs.char_len.Statement.{statement}
 use Rattle.utf8.proofs.char_len.Tie as tie
 
-here : (c : tie.After-class) → let a = c .before .before .before .args in classOf (byte (a .s .now) (a .at)) ≡ c .class .result
+here : (c : tie.After-class-in) → let a = c .before .before .before .args in classOf (byte (a .s .now) (a .at)) ≡ c .class-in .result
 here c =
     let a = c .before .before .before .args in
-    sym (c .class .ensures ∙ ap classOf (byte-is (a .s .now) (a .at) (c .before .before .before .pre)))
+    sym (c .class-in .ensures ∙ ap classOf (byte-is (a .s .now) (a .at) (c .before .before .before .pre .0)))
 
-small : (c : tie.After-class) → c .class .result < 10
-small c = rw (c .class .ensures) (class-small _)
+small : (c : tie.After-class-in) → c .class-in .result < 10
+small c = rw (c .class-in .ensures) (class-small _)
 
 pub char-len-spec : {M : Type 1} → statement M
 char-len-spec =
     tie.close
     (tie.spec
-    (λ c. search needs)  -- shared-slice-read-class
-    (λ c κs. search needs)  -- class-requires
+    (λ c. search needs)  -- shared-slice-read-class-in
+    (λ c κs. search needs)  -- class-in-requires
     (λ c. let a = c .before .before .before .before .args in sym (width-none (a .s .now) (a .at) (here (c .before) ∙ c .if1 .taken)))  -- returns
     (λ c. small (c .before))  -- array-read-more
     (λ c. omega (arith, more-small _ (small (c .before))))  -- cast-more

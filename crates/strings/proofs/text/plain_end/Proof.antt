@@ -1,36 +1,34 @@
 -- `strings::text::plain_end` meets its contract. Assumes nothing.
 use borrow.Author.Needs.{needs}
-use mathlib.Core.Path.{_≡_, refl, sym, _∙_}
-use Prim.Native.Nat.{_-_, _≤_}
+use borrow.Author.Tests.{ltb-true, ltb-false}
+use mathlib.Core.Path.{_≡_, sym, _∙_}
+use mathlib.Core.List.{List}
+use Prim.Native.Nat.{ℕ}
+use lib.Dec.{ltb}
 use lib.ListN.{length}
-use Rattle.definition.specs.Chars.{byte}
-use Rattle.definition.proofs.CharLaws.{byte-is}
-use Rattle.strings.specs.Text.{special, plainEnd}
-use Rattle.strings.proofs.text.Plain.{end-past, end-special, end-plain}
+use Rattle.definition.proofs.CharLaws.{cases}
+use Rattle.strings.specs.Text.{plainEnd, PlainTo}
+use Rattle.strings.proofs.text.Plain.{end-all, end-past}
 use Rattle.strings.proofs.text.plain_end.Statement.{statement}
 use Rattle.strings.proofs.text.plain_end.Tie as tie
 
-abbrev Inv-loop : tie.InvT-loop
-Inv-loop s at kind i₀ i = (i ≤ length s) × (plainEnd kind s at ≡ plainEnd kind s i)
-
-abbrev μ-loop : tie.MeasureT-loop
-μ-loop s at kind i₀ i = length s - i
-
--- the byte's test
-told : (c : tie.After-is-special Inv-loop μ-loop) → let a = c .before .before .before .before .before .args in c .is-special .result ≡ special (a .kind) (byte (a .s .now) (c .before .before .before .loop .i))
-told c = c .is-special .ensures ∙ rw (byte-is _ _ (c .before .before .loop-test .taken))
+-- at the body's end or before it
+ends : (kind : ℕ) (s : List ℕ) (i r : ℕ) → PlainTo kind s i (length s) r → plainEnd kind s r ≡ r
+ends kind s i r q =
+    cases (ltb r (length s)) (λ t. q .ends (ltb-true r (length s) t)) (λ t. end-past kind s r (q .within) (ltb-false r (length s) t))
 
 pub plain-end-spec : {M : Type 1} → statement M
 plain-end-spec =
     tie.close
     (tie.spec
-    Inv-loop
-    μ-loop
-    (λ c. (c .before .pre, refl))  -- loop-holds
-    (λ c. search needs)  -- shared-slice-read-is-special
-    (λ c κs. search needs)  -- is-special-requires
-    (λ c. let a = c .before .before .before .before .before .before .args in sym (c .before .before .before .before .loop .inv .1 ∙ end-special (a .kind) (a .s .now) _ (c .before .before .before .loop-test .taken) (sym (told (c .before)) ∙ c .if1 .taken)))  -- returns
-    (λ c. search needs)  -- add-i
-    (λ c. search needs)  -- loop-less
-    (λ c. let a = c .before .before .before .before .before .before .args in (search needs, c .before .before .before .before .loop .inv .1 ∙ end-plain (a .kind) (a .s .now) _ (c .before .before .before .loop-test .taken) (sym (told (c .before)) ∙ c .if1 .left)))  -- loop-again
-    (λ c. let a = c .before .before .before .args in sym (c .before .loop .inv .1 ∙ end-past (a .kind) (a .s .now) _ (c .before .loop .inv .0) (c .loop-test .left))))  -- returns-2
+    (λ c κs. search needs)  -- near-requires
+    (λ c κs. search needs)  -- plain-to-requires
+    (λ c. let p = c .before .plain-to .ensures in sym (p .same ∙ p .ends (c .if1 .taken)))  -- returns
+    (λ c κs. search needs)  -- plain-blocks-requires
+    (λ c κs. search needs)  -- plain-to-requires-2
+    (λ c.
+    let a = c .before .before .before .before .before .before .args in
+    let p = c .before .before .before .plain-to .ensures in
+    let b = c .before .plain-blocks .ensures in
+    let q = c .plain-to2 .ensures in
+    sym (p .same ∙ end-all (a .kind) (a .s .now) _ _ (b .0) (b .1) (b .2) ∙ q .same ∙ ends (a .kind) (a .s .now) _ _ q)))  -- returns-2

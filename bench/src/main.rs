@@ -1,0 +1,151 @@
+//! Times the library and the published Rust on the same inputs, in one process.
+//!
+//!   bench LIBRARY_RUNS
+//!
+//! LIBRARY_RUNS has runs of literals, as crates/cases takes them. Where the Rust's source was not at hand,
+//! the library is timed alone.
+
+mod inputs;
+mod reference {
+    include!(env!("STUMPGARRET_REFERENCE_RS"));
+}
+
+use inputs::{Case, Input};
+use std::time::{Duration, Instant};
+
+/// Each input is timed so often, and the best time counts.
+const ROUNDS: usize = 7;
+
+extern "C" {
+    fn stumpgarret_read(
+        script: *const u8,
+        script_length: usize,
+        literals: *const u32,
+        literals_length: usize,
+        words: *mut u32,
+        words_length: usize,
+        text: *mut u8,
+        text_length: usize,
+        answer: *mut u32,
+    );
+}
+
+/// Buffers that are lent to each call.
+struct Buffers {
+    words: Vec<u32>,
+    text: Vec<u8>,
+}
+
+impl Buffers {
+    fn answer(&mut self, case: &Case) -> [u32; 12] {
+        let mut answer = [0; 12];
+        // SAFETY: each pointer is a vector's own, with its length; what is written to overlaps nothing.
+        unsafe {
+            stumpgarret_read(
+                case.script.as_ptr(),
+                case.script.len(),
+                case.list.as_ptr(),
+                case.list.len(),
+                self.words.as_mut_ptr(),
+                self.words.len(),
+                self.text.as_mut_ptr(),
+                self.text.len(),
+                answer.as_mut_ptr(),
+            );
+        }
+        answer
+    }
+
+    /// Reads a case, which must be accepted, and gives its records and text bytes.
+    fn read(&mut self, case: &Case) -> (usize, usize) {
+        let answer = self.answer(case);
+        assert_eq!(answer[0], 0, "refused: {:?}", answer);
+        (answer[5] as usize, answer[6] as usize)
+    }
+}
+
+/// The best times of a pass over an input, and the worst that was seen of ours.
+struct Times {
+    ours: Duration,
+    ours_worst: Duration,
+    rust: Option<Duration>,
+}
+
+fn main() {
+    let runs = std::env::args().nth(1).expect("usage: bench LIBRARY_RUNS");
+    let mut buffers = Buffers { words: vec![0; 8 << 20], text: vec![0; 4 << 20] };
+    println!("{}", reference::WHAT);
+    println!("input        calls      bytes   ours ns/byte  noise %   Rust ns/byte");
+    let library = inputs::runs(&std::fs::read(runs).expect("the runs can be read"), |case| {
+        buffers.answer(case)[0] == 0
+    });
+    for input in inputs::all().into_iter().chain([library]) {
+        let times = measure(&input, &mut buffers);
+        print(&input, &times);
+    }
+    copy(&mut buffers);
+    for size in [1 << 10, 1 << 15, 1 << 20] {
+        let input = inputs::bench_lines("flat", size, (8 << 20) / size);
+        let times = measure(&input, &mut buffers);
+        println!("bytes {:>8}: {:.3} ns/byte", size, per_byte(times.ours, &input));
+    }
+}
+
+fn measure(input: &Input, buffers: &mut Buffers) -> Times {
+    let mut times = Times { ours: Duration::MAX, ours_worst: Duration::ZERO, rust: None };
+    for _ in 0..ROUNDS {
+        let begun = Instant::now();
+        let ours = input.calls().fold((0, 0), |sum, case| add(sum, buffers.read(case)));
+        let time = begun.elapsed();
+        times.ours = times.ours.min(time);
+        times.ours_worst = times.ours_worst.max(time);
+        if let Some((theirs, time)) = reference::pass(input) {
+            assert_eq!(ours, theirs, "{}: records and text bytes", input.name);
+            times.rust = Some(times.rust.map_or(time, |best| best.min(time)));
+        }
+    }
+    times
+}
+
+fn add(one: (usize, usize), other: (usize, usize)) -> (usize, usize) {
+    (one.0 + other.0, one.1 + other.1)
+}
+
+fn per_byte(time: Duration, input: &Input) -> f64 {
+    time.as_secs_f64() * 1e9 / input.bytes() as f64
+}
+
+fn print(input: &Input, times: &Times) {
+    let noise = 100.0 * (times.ours_worst.as_secs_f64() / times.ours.as_secs_f64() - 1.0);
+    let ours = per_byte(times.ours, input);
+    let (name, calls, bytes) = (input.name, input.calls().count(), input.bytes());
+    match times.rust {
+        Some(rust) => {
+            let rust = per_byte(rust, input);
+            println!(
+                "{:<10} {:>7} {:>10} {:>14.3} {:>8.0} {:>14.3}",
+                name, calls, bytes, ours, noise, rust
+            );
+            println!("ratio {} {:.2}", name, rust / ours);
+        }
+        None => println!("{:<10} {:>7} {:>10} {:>14.3} {:>8.0}", name, calls, bytes, ours, noise),
+    }
+}
+
+/// The plain input against a copy of as many bytes.
+fn copy(buffers: &mut Buffers) {
+    let input = inputs::plain();
+    let ours = measure(&input, buffers).ours;
+    let mut best = Duration::MAX;
+    for _ in 0..ROUNDS {
+        let begun = Instant::now();
+        for case in input.calls() {
+            buffers.text[..case.script.len()].copy_from_slice(&case.script);
+            assert_eq!(buffers.text[0], case.script[0]);
+        }
+        best = best.min(begun.elapsed());
+    }
+    let ratio = best.as_secs_f64() / ours.as_secs_f64();
+    println!("ratio copy {:.3}", ratio);
+    println!("plain takes {:.1} times as long as a copy", 1.0 / ratio);
+}

@@ -1,0 +1,269 @@
+/* Calls the library through the header and checks each answer, word and byte. */
+#include <stdio.h>
+#include <stdlib.h>
+#include <string.h>
+
+#include "stumpgarret.h"
+
+#define COUNT(array) (sizeof(array) / sizeof *(array))
+
+enum { WORDS = 64, TEXT = 64, FILL = 0xA5 };
+
+static uint32_t words[WORDS];
+static uint8_t text[TEXT];
+static uint32_t answer[STUMPGARRET_ANSWER_NUMBERS];
+static int checks;
+
+static void fail(const char *what, size_t at, unsigned long got, unsigned long expected)
+{
+    fprintf(stderr, "test: %s %lu is %lu, not %lu\n", what, (unsigned long)at, got, expected);
+    exit(1);
+}
+
+/* The first `count` numbers are those given. */
+static void numbers_are(const char *what, const uint32_t *got, const uint32_t *expected,
+                        size_t count)
+{
+    for (size_t i = 0; i < count; i++)
+        if (got[i] != expected[i])
+            fail(what, i, got[i], expected[i]);
+    checks++;
+}
+
+/* All bytes from `from` up to `size` are `byte`. */
+static void filled(const char *what, const void *got, size_t from, size_t size, uint8_t byte)
+{
+    const uint8_t *bytes = (const uint8_t *)got;
+    for (size_t i = from; i < size; i++)
+        if (bytes[i] != byte)
+            fail(what, i, bytes[i], byte);
+    checks++;
+}
+
+/* Reads with so many words and text bytes lent, all filled before. */
+static void read_with(const char *script, const uint32_t *literals, size_t literals_length,
+                      size_t words_length, size_t text_length)
+{
+    memset(words, FILL, sizeof words);
+    memset(text, FILL, sizeof text);
+    memset(answer, FILL, sizeof answer);
+    stumpgarret_read((const uint8_t *)script, strlen(script), literals, literals_length,
+                     words, words_length, text, text_length, answer);
+}
+
+/* An acceptance with these records and this text, and nothing else changed. */
+static void accepted(const uint32_t *numbers, const uint32_t *records, const char *expected_text)
+{
+    size_t used = STUMPGARRET_RECORD_WORDS * (size_t)numbers[STUMPGARRET_ANSWER_RECORDS];
+    size_t length = strlen(expected_text);
+    numbers_are("answer", answer, numbers, STUMPGARRET_ANSWER_NUMBERS);
+    numbers_are("word", words, records, used);
+    filled("byte of the words", words, used * sizeof *words, sizeof words, FILL);
+    for (size_t i = 0; i < length; i++)
+        if (text[i] != (uint8_t)expected_text[i])
+            fail("text byte", i, text[i], (uint8_t)expected_text[i]);
+    filled("text byte", text, length, sizeof text, FILL);
+}
+
+/* A refusal with these numbers, and zeros up to twelve: zeros in what was lent, and nothing else
+   changed. */
+static void refused(const uint32_t *numbers, size_t count, size_t words_length, size_t text_length)
+{
+    numbers_are("answer", answer, numbers, count);
+    filled("byte of the answer", answer, count * sizeof *answer, sizeof answer, 0);
+    filled("byte of the words", words, 0, words_length * sizeof *words, 0);
+    filled("byte of the words", words, words_length * sizeof *words, sizeof words, FILL);
+    filled("text byte", text, 0, text_length, 0);
+    filled("text byte", text, text_length, sizeof text, FILL);
+}
+
+/* The second of two adjacent literals is not lost. */
+static const char two_script[] = "'VDD ' f'{mv / 12.5:.0f}\\n'";
+static const uint32_t two[] = {
+    STUMPGARRET_STRING, 0, 1, 4, 0, 6,
+    STUMPGARRET_FSTRING, 0, 9, 17, 7, 27,
+};
+enum { TWO_RECORDS = 5, TWO_TEXT = 17 };
+static const uint32_t two_answer[STUMPGARRET_ANSWER_NUMBERS] = {
+    STUMPGARRET_ACCEPTED, STUMPGARRET_JOINED, 0, 0, 27, TWO_RECORDS, TWO_TEXT,
+};
+static const uint32_t two_records[] = {
+    STUMPGARRET_LITERAL_RECORD, 0, 4, 0, 27, 0, 0, 0,
+    STUMPGARRET_FIELD_RECORD, 4, 9, 7, 27, 0, 1, 10,
+    STUMPGARRET_SPEC_RECORD, 13, 0, 7, 27, 0, 1, 0,
+    STUMPGARRET_LITERAL_RECORD, 13, 3, 7, 27, 0, 0, 0,
+    STUMPGARRET_LITERAL_RECORD, 16, 1, 0, 27, 0, 0, 0,
+};
+
+static void reads_two(void)
+{
+    read_with(two_script, two, COUNT(two), WORDS, TEXT);
+    accepted(two_answer, two_records, "VDD mv / 12.5.0f\n");
+
+    const uint32_t *field = words + STUMPGARRET_RECORD_WORDS;
+    const uint32_t by_name[] = {
+        field[STUMPGARRET_RECORD_KIND],        field[STUMPGARRET_RECORD_TEXT],
+        field[STUMPGARRET_RECORD_TEXT_LENGTH], field[STUMPGARRET_RECORD_START],
+        field[STUMPGARRET_RECORD_END],         field[STUMPGARRET_RECORD_CONVERSION],
+        field[STUMPGARRET_RECORD_PARTS],       field[STUMPGARRET_RECORD_PLACE],
+    };
+    numbers_are("named word", by_name, two_records + STUMPGARRET_RECORD_WORDS, COUNT(by_name));
+    const uint32_t answer_by_name[] = {
+        answer[STUMPGARRET_ANSWER_NUMBER], answer[STUMPGARRET_ANSWER_SORT],
+        answer[STUMPGARRET_ANSWER_MARK],   answer[STUMPGARRET_ANSWER_START],
+        answer[STUMPGARRET_ANSWER_END],    answer[STUMPGARRET_ANSWER_RECORDS],
+        answer[STUMPGARRET_ANSWER_TEXT_LENGTH],
+    };
+    numbers_are("named number", answer_by_name, two_answer, COUNT(answer_by_name));
+}
+
+/* Too little room gives the counts; with them the same call is accepted. */
+static void grows(void)
+{
+    static const uint32_t none[] = {STUMPGARRET_TOO_FEW_RECORD_PLACES, 0, 0, TWO_RECORDS, TWO_TEXT};
+    static const uint32_t no_text[] = {
+        STUMPGARRET_TOO_LITTLE_TEXT_ROOM, 0, 0, TWO_RECORDS, TWO_TEXT,
+    };
+    read_with(two_script, two, COUNT(two), 0, 0);
+    refused(none, COUNT(none), 0, 0);
+    size_t needed = STUMPGARRET_RECORD_WORDS * (size_t)answer[STUMPGARRET_REFUSAL_DETAIL_A];
+    size_t text_needed = answer[STUMPGARRET_REFUSAL_DETAIL_B];
+
+    read_with(two_script, two, COUNT(two), needed - 1, text_needed);
+    refused(none, COUNT(none), needed - 1, text_needed);
+    read_with(two_script, two, COUNT(two), needed, text_needed - 1);
+    refused(no_text, COUNT(no_text), needed, text_needed - 1);
+    read_with(two_script, two, COUNT(two), needed, text_needed);
+    accepted(two_answer, two_records, "VDD mv / 12.5.0f\n");
+}
+
+/* A refusal in the second literal names it, the place and both brackets. */
+static void refuses(void)
+{
+    static const uint32_t literals[] = {
+        STUMPGARRET_UNICODE, 0, 2, 1, 0, 4,
+        STUMPGARRET_RAW_FSTRING, 1, 9, 4, 4, 16,
+    };
+    static const uint32_t mismatched[] = {STUMPGARRET_MISMATCHED_DELIMITER, 1, 12, '(', ']'};
+    read_with("u'a'rf'''{(]}'''", literals, COUNT(literals), 40, 9);
+    refused(mismatched, COUNT(mismatched), 40, 9);
+    const uint32_t by_name[] = {
+        answer[STUMPGARRET_ANSWER_NUMBER], answer[STUMPGARRET_REFUSAL_LITERAL],
+        answer[STUMPGARRET_REFUSAL_PLACE], answer[STUMPGARRET_REFUSAL_DETAIL_A],
+        answer[STUMPGARRET_REFUSAL_DETAIL_B],
+    };
+    numbers_are("named number", by_name, mismatched, COUNT(by_name));
+}
+
+/* Each refusal that one body can get, by its name. */
+static void refuses_bodies(void)
+{
+    static const struct {
+        uint32_t kind;
+        const char *body;
+        uint32_t expected[5];
+    } rows[] = {
+        {STUMPGARRET_STRING, "a\xff", {STUMPGARRET_NOT_UTF8, 0, 2, 0, 0}},
+        {STUMPGARRET_STRING, "a\\", {STUMPGARRET_STRING_ERROR, 0, 3, 0, 0}},
+        {STUMPGARRET_STRING, "\\x4", {STUMPGARRET_UNICODE_ERROR, 0, 3, 0, 0}},
+        {STUMPGARRET_BYTES, "a\xc3\xa9", {STUMPGARRET_NON_ASCII_IN_BYTES, 0, 5, 0, 0}},
+        {STUMPGARRET_STRING, "\\N{SNOWMAN}", {STUMPGARRET_NAME_NOT_HELD, 0, 4, 0, 0}},
+        {STUMPGARRET_FSTRING, "{x!r b}", {STUMPGARRET_UNCLOSED_LBRACE, 0, 6, 0, 0}},
+        {STUMPGARRET_FSTRING, "{x!x}", {STUMPGARRET_INVALID_CONVERSION_FLAG, 0, 6, 0, 0}},
+        {STUMPGARRET_FSTRING, "{}", {STUMPGARRET_EMPTY_EXPRESSION, 0, 4, 0, 0}},
+        {STUMPGARRET_FSTRING, "{x:{y:{z}}}",
+         {STUMPGARRET_EXPRESSION_NESTED_TOO_DEEPLY, 0, 8, 0, 0}},
+        {STUMPGARRET_FSTRING, "a}b", {STUMPGARRET_SINGLE_RBRACE, 0, 4, 0, 0}},
+        {STUMPGARRET_FSTRING, "{x)", {STUMPGARRET_UNMATCHED, 0, 5, ')', 0}},
+        {STUMPGARRET_FSTRING, "{'", {STUMPGARRET_UNTERMINATED_STRING, 0, 4, 0, 0}},
+        {STUMPGARRET_FSTRING,
+         "{((((((((((((((((((((((((((((((((((((((((((((((((((((((((((((((((((",
+         {STUMPGARRET_TOO_MANY_BRACKETS, 0, 68, 0, 0}},
+    };
+    for (size_t i = 0; i < COUNT(rows); i++) {
+        uint32_t length = (uint32_t)strlen(rows[i].body);
+        uint32_t literal[STUMPGARRET_LITERAL_NUMBERS];
+        literal[STUMPGARRET_LITERAL_KIND] = rows[i].kind;
+        literal[STUMPGARRET_LITERAL_TRIPLE] = 0;
+        literal[STUMPGARRET_LITERAL_BODY] = 0;
+        literal[STUMPGARRET_LITERAL_BODY_LENGTH] = length;
+        literal[STUMPGARRET_LITERAL_START] = 0;
+        literal[STUMPGARRET_LITERAL_END] = length + 3;
+        read_with(rows[i].body, literal, COUNT(literal), 8, 3);
+        refused(rows[i].expected, COUNT(rows[i].expected), 8, 3);
+    }
+}
+
+/* What the entry checks refuse, and that the limits themselves pass them. */
+static void refuses_lists(void)
+{
+    static uint32_t many[STUMPGARRET_LITERAL_NUMBERS * (STUMPGARRET_MOST_LITERALS + 1)];
+    static char script[STUMPGARRET_MOST_BODY_BYTES + 2];
+    uint32_t one[] = {STUMPGARRET_STRING, 0, 0, STUMPGARRET_MOST_BODY_BYTES + 1, 0, UINT32_MAX};
+    uint32_t mixed[] = {
+        STUMPGARRET_RAW_STRING, 0, 0, 0, 7, 10,
+        STUMPGARRET_RAW_BYTES, 0, 0, 0, 10, 14,
+    };
+    static const uint32_t empty = STUMPGARRET_EMPTY_LIST, cut = STUMPGARRET_NOT_SIXES,
+                          too_many = STUMPGARRET_TOO_MANY_LITERALS,
+                          too_long = STUMPGARRET_BODIES_TOO_LONG;
+    static const uint32_t bad[] = {STUMPGARRET_BAD_DESCRIPTOR, 0, 0, 0, 0};
+    static const uint32_t no_room[] = {
+        STUMPGARRET_TOO_FEW_RECORD_PLACES, 0, 0, 1, STUMPGARRET_MOST_BODY_BYTES,
+    };
+    static const uint32_t mixture[] = {STUMPGARRET_MIXED_BYTES, 0, 7, 0, 0};
+
+    read_with("", many, 0, 3, 3);
+    refused(&empty, 1, 3, 3);
+    read_with("", many, STUMPGARRET_LITERAL_NUMBERS - 1, 3, 3);
+    refused(&cut, 1, 3, 3);
+    read_with("", many, COUNT(many), 3, 3);
+    refused(&too_many, 1, 3, 3);
+    read_with("", many, COUNT(many) - STUMPGARRET_LITERAL_NUMBERS, 3, 3);
+    refused(bad, COUNT(bad), 3, 3);
+    memset(script, 'a', sizeof script - 1);
+    read_with(script, one, COUNT(one), 3, 3);
+    refused(&too_long, 1, 3, 3);
+    one[STUMPGARRET_LITERAL_BODY_LENGTH]--;
+    read_with(script, one, COUNT(one), 3, 3);
+    refused(no_room, COUNT(no_room), 3, 3);
+    read_with("", mixed, COUNT(mixed), 3, 3);
+    refused(mixture, COUNT(mixture), 3, 3);
+}
+
+/* A u mark, with a raw string, and bytes. */
+static void reads_marks_and_bytes(void)
+{
+    static const uint32_t marked[] = {
+        STUMPGARRET_UNICODE, 0, 2, 1, 5, 9,
+        STUMPGARRET_RAW_STRING, 0, 6, 2, 9, 14,
+    };
+    static const uint32_t marked_answer[STUMPGARRET_ANSWER_NUMBERS] = {
+        STUMPGARRET_ACCEPTED, STUMPGARRET_PLAIN, 1, 5, 14, 1, 3,
+    };
+    static const uint32_t marked_record[] = {STUMPGARRET_LITERAL_RECORD, 0, 3, 5, 14, 1, 0, 0};
+    static const uint32_t bytes[] = {STUMPGARRET_BYTES, 0, 2, 4, 0, 7};
+    static const uint32_t bytes_answer[STUMPGARRET_ANSWER_NUMBERS] = {
+        STUMPGARRET_ACCEPTED, STUMPGARRET_BYTES_VALUE, 0, 0, 7, 1, 1,
+    };
+    static const uint32_t bytes_record[] = {STUMPGARRET_BYTES_RECORD, 0, 1, 0, 7, 0, 0, 0};
+    read_with("u'a'r'\\n'", marked, COUNT(marked), WORDS, TEXT);
+    accepted(marked_answer, marked_record, "a\\n");
+    const uint32_t marks[] = {answer[STUMPGARRET_ANSWER_MARK], words[STUMPGARRET_RECORD_MARK]};
+    const uint32_t both[] = {1, 1};
+    numbers_are("named mark", marks, both, COUNT(both));
+    read_with("b'\\777'", bytes, COUNT(bytes), WORDS, TEXT);
+    accepted(bytes_answer, bytes_record, "\xff");
+}
+
+int main(void)
+{
+    reads_two();
+    grows();
+    refuses();
+    refuses_bodies();
+    refuses_lists();
+    reads_marks_and_bytes();
+    printf("bindings/c: %d checks passed\n", checks);
+    return 0;
+}

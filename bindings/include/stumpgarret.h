@@ -1,0 +1,170 @@
+/* Reads runs of Python string literals to records: texts, formatted fields, format specs.
+   For C99 and C++11 on x86-64 Linux:
+
+       cc -I bindings/include program.c target/staticlib/libstumpgarret.a
+
+   All numbers are 32 bits wide and unsigned. A place is a literal's start, plus the length of
+   its prefix and opening quotes, plus the bytes of its body taken so far. */
+#ifndef STUMPGARRET_H
+#define STUMPGARRET_H
+
+#include <stddef.h>
+#include <stdint.h>
+
+#ifdef __cplusplus
+extern "C" {
+#endif
+
+/* A literal is described by six numbers, at these indexes. */
+enum stumpgarret_literal {
+    STUMPGARRET_LITERAL_KIND,        /* one of stumpgarret_kind */
+    STUMPGARRET_LITERAL_TRIPLE,      /* 1 if triple-quoted, else 0 */
+    STUMPGARRET_LITERAL_BODY,        /* where its body begins in the script */
+    STUMPGARRET_LITERAL_BODY_LENGTH, /* the bytes of the body */
+    STUMPGARRET_LITERAL_START,       /* where the literal, with prefix and quotes, starts */
+    STUMPGARRET_LITERAL_END,         /* where it ends; not below the start, and the next literal
+                                        does not start below it */
+    STUMPGARRET_LITERAL_NUMBERS      /* how many: 6 */
+};
+
+enum stumpgarret_kind {
+    STUMPGARRET_STRING,       /* '..'   */
+    STUMPGARRET_FSTRING,      /* f'..'  */
+    STUMPGARRET_BYTES,        /* b'..'  */
+    STUMPGARRET_RAW_STRING,   /* r'..'  */
+    STUMPGARRET_RAW_FSTRING,  /* rf'..' */
+    STUMPGARRET_RAW_BYTES,    /* rb'..' */
+    STUMPGARRET_UNICODE       /* u'..'  */
+};
+
+/* What one call takes at most. */
+enum stumpgarret_limit {
+    STUMPGARRET_MOST_LITERALS = 1024,
+    STUMPGARRET_MOST_BODY_BYTES = 1048576 /* all bodies together */
+};
+
+/* A record is eight words, at these indexes. A word that a kind has no use for is 0.
+
+   LITERAL  text: at the top level or in a spec. START and END are the whole run's at the top level,
+            and in a spec those of the literal it stands in. MARK is the run's u mark at the top
+            level, and 0 in a spec.
+   FIELD    a formatted field: its text is the expression, which is not parsed. CONVERSION is 0 or
+            the code of s, a or r. PARTS is 1 if it has a format spec, whose record then follows,
+            and else 0. PLACE is just after its opening brace. START and END are its literal's.
+   SPEC     a format spec, which has no text of its own: PARTS direct parts, each a LITERAL or a
+            FIELD (with its own spec), follow. START and END are its literal's.
+   BYTES    the value of a run of bytes literals. START and END are the whole run's.
+
+   Texts lie one after the other in record order, without gaps. They are UTF-8, but for a BYTES
+   record's. TEXT is the offset reached also where a record has no text. */
+enum stumpgarret_record {
+    STUMPGARRET_RECORD_KIND,        /* one of stumpgarret_record_kind */
+    STUMPGARRET_RECORD_TEXT,        /* where its text begins in the text buffer */
+    STUMPGARRET_RECORD_TEXT_LENGTH, /* the bytes of its text */
+    STUMPGARRET_RECORD_START,
+    STUMPGARRET_RECORD_END,
+    STUMPGARRET_RECORD_CONVERSION,  /* of a field */
+    STUMPGARRET_RECORD_MARK = STUMPGARRET_RECORD_CONVERSION, /* of a literal */
+    STUMPGARRET_RECORD_PARTS,
+    STUMPGARRET_RECORD_PLACE,
+    STUMPGARRET_RECORD_WORDS        /* how many: 8 */
+};
+
+enum stumpgarret_record_kind {
+    STUMPGARRET_LITERAL_RECORD = 1,
+    STUMPGARRET_FIELD_RECORD,
+    STUMPGARRET_SPEC_RECORD,
+    STUMPGARRET_BYTES_RECORD
+};
+
+/* The answer is twelve numbers. The first is 0 for an acceptance and else a refusal's number;
+   those not named are 0, and kept for later use. */
+enum stumpgarret_answer {
+    STUMPGARRET_ANSWER_NUMBER,      /* one of stumpgarret_refusal */
+
+    STUMPGARRET_ANSWER_SORT = 1,    /* one of stumpgarret_sort */
+    STUMPGARRET_ANSWER_MARK,        /* the u mark: 1 if the first literal's kind is 6, else 0 */
+    STUMPGARRET_ANSWER_START,       /* the first literal's start */
+    STUMPGARRET_ANSWER_END,         /* the last literal's end */
+    STUMPGARRET_ANSWER_RECORDS,     /* how many records were written */
+    STUMPGARRET_ANSWER_TEXT_LENGTH, /* how many text bytes were written */
+
+    STUMPGARRET_REFUSAL_LITERAL = 1, /* the index of the literal, from 0; see stumpgarret_refusal */
+    STUMPGARRET_REFUSAL_PLACE,
+    STUMPGARRET_REFUSAL_DETAIL_A,
+    STUMPGARRET_REFUSAL_DETAIL_B,
+
+    STUMPGARRET_ANSWER_NUMBERS = 12 /* how many */
+};
+
+enum stumpgarret_sort {
+    STUMPGARRET_PLAIN,        /* strings: one literal record */
+    STUMPGARRET_JOINED,       /* an f-string among them: literals, fields and specs, or nothing */
+    STUMPGARRET_BYTES_VALUE   /* bytes: one bytes record */
+};
+
+/* Refusals. 1 to 7 are checked in that order, each over the whole list before the next. 10 to 28
+   are met in the order of the literals and their characters; the first wins. 30 and 31 come only
+   for input that is otherwise accepted, 30 before 31.
+   The literal is that of the first bad one for 4 and 6, of the one being read for 10 to 28, and
+   else 0. Place and details are 0 where nothing is said of them. */
+enum stumpgarret_refusal {
+    STUMPGARRET_ACCEPTED = 0,
+    STUMPGARRET_EMPTY_LIST = 1,
+    STUMPGARRET_NOT_SIXES = 2,          /* the list's length is no multiple of six */
+    STUMPGARRET_TOO_MANY_LITERALS = 3,
+    STUMPGARRET_BAD_DESCRIPTOR = 4,     /* unknown kind, triple above 1, body outside the script,
+                                           start above end, start below the previous end, or
+                                           prefix, opening quotes and body reach past the end */
+    STUMPGARRET_BODIES_TOO_LONG = 5,
+    STUMPGARRET_NOT_UTF8 = 6,           /* place: after the body's longest well-formed prefix */
+    STUMPGARRET_MIXED_BYTES = 7,        /* bytes with other kinds; place: the first start */
+    STUMPGARRET_STRING_ERROR = 10,      /* an unfinished escape; place: the body's end, or after
+                                           a \N with no brace */
+    STUMPGARRET_UNICODE_ERROR = 11,     /* a hex digit is missing or a code is above 10FFFF, place:
+                                           after the letter; or a name is over 88 bytes, place:
+                                           after its closing brace */
+    STUMPGARRET_NON_ASCII_IN_BYTES = 12, /* place: after it */
+    STUMPGARRET_NAME_NOT_HELD = 13,     /* the name in \N{..}; place: after its opening brace */
+    STUMPGARRET_UNCLOSED_LBRACE = 20,   /* place: after the last character taken */
+    STUMPGARRET_INVALID_CONVERSION_FLAG = 21, /* place: after it */
+    STUMPGARRET_EMPTY_EXPRESSION = 22,  /* place: after the ! or the closing brace */
+    STUMPGARRET_MISMATCHED_DELIMITER = 23, /* place: after the closer; details: the codes of
+                                              opener and closer */
+    STUMPGARRET_EXPRESSION_NESTED_TOO_DEEPLY = 24, /* place: before the opening brace */
+    STUMPGARRET_SINGLE_RBRACE = 25,     /* place: after it */
+    STUMPGARRET_UNMATCHED = 26,         /* place: after the closer; first detail: its code */
+    STUMPGARRET_UNTERMINATED_STRING = 27, /* in an expression, or a backslash outside of quotes
+                                             there; place: after the last character taken */
+    STUMPGARRET_TOO_MANY_BRACKETS = 28, /* a field's 65th open bracket; place: after it */
+    STUMPGARRET_TOO_FEW_RECORD_PLACES = 30, /* details: the records and the text bytes needed */
+    STUMPGARRET_TOO_LITTLE_TEXT_ROOM = 31   /* details: the same */
+};
+
+/* Reads the literals, six numbers for each, from the script. Lengths count elements: bytes of
+   `script` and `text`, 32-bit numbers of `literals` and `words`. Eight words make one record place;
+   up to seven left over are not used.
+
+   Afterwards: on acceptance the records stand in front in `words` and their texts in front in
+   `text`, and what follows them is unchanged. On refusal, every word and every text byte is 0.
+   `answer` always gets twelve numbers.
+
+   The caller sees to it that
+   - each pointer is valid for its length, aligned for its type and not null, with a length of 0
+     too, where nothing is read or written through it;
+   - `words`, `text` and `answer` overlap neither each other nor anything else that is passed
+     (`script` and `literals` may overlap);
+   - nothing else writes to what is passed, or reads what is written, until the call returns.
+   Nothing more is asked: any bytes, numbers and lengths get an answer. The function keeps no
+   state, so threads may call it at the same time. */
+void stumpgarret_read(const uint8_t *script, size_t script_length,
+                      const uint32_t *literals, size_t literals_length,
+                      uint32_t *words, size_t words_length,
+                      uint8_t *text, size_t text_length,
+                      uint32_t answer[STUMPGARRET_ANSWER_NUMBERS]);
+
+#ifdef __cplusplus
+}
+#endif
+
+#endif

@@ -1,0 +1,566 @@
+#!/usr/bin/env python3
+"""Lists the formatted fields in the string literals of Python 3.11 scripts, by the proved library stumpgarret.
+
+    python3 stumpgarret.py SCRIPT...
+
+prints a line for each field: path:line:column, the expression, the conversion with its `!` and the spec with its
+`:`, with tabs between them. Control characters are shown as Python's escapes. What could not be read is told on
+standard error, and the exit status is then 1.
+
+In a program, `fields` gives the same list, or raises `Incomplete`. `runs` cuts a script into runs of adjacent
+literals, and `read` is the library's call: it reads one run.
+
+The shared library is the one that the variable STUMPGARRET_LIBRARY names, else libstumpgarret.so beside this file,
+else the one under target/python of the clone, where `bindings/python/build` puts it.
+"""
+
+from __future__ import annotations
+
+import argparse
+import bisect
+import ctypes
+import enum
+import functools
+import io
+import itertools
+import os
+import platform
+import re
+import signal
+import sys
+import tokenize
+from collections.abc import Callable, Iterable, Iterator
+from dataclasses import dataclass
+
+
+# What is lent and what comes back
+
+
+class Kind(enum.IntEnum):
+    """What a literal's prefix says."""
+
+    STRING = 0
+    FSTRING = 1
+    BYTES = 2
+    RAW_STRING = 3
+    RAW_FSTRING = 4
+    RAW_BYTES = 5
+    UNICODE = 6
+
+
+class Sort(enum.IntEnum):
+    """What a run of literals is: text, text with an f-string in it, or bytes."""
+
+    PLAIN = 0
+    JOINED = 1
+    BYTES = 2
+
+
+@dataclass(frozen=True)
+class Literal:
+    """A string literal. `offset` and `length` say where its body lies in the bytes that are read; `start` and `end`
+    are the literal's own, prefix and quotes included, and places are counted from `start`."""
+
+    kind: int
+    triple: bool
+    offset: int
+    length: int
+    start: int
+    end: int
+
+
+@dataclass(frozen=True)
+class Text:
+    """Literal text. At the top level it has the whole run's range and u mark, in a spec its own literal's range."""
+
+    text: str
+    start: int
+    end: int
+    u_mark: bool
+
+
+@dataclass(frozen=True)
+class Field:
+    """A formatted field, with its literal's range. `conversion` is "s", "r", "a" or None; a self-documenting field
+    that has neither conversion nor spec has "r". `spec` has the parts of the format spec, and is None if there is no
+    `:`. `place` is just after the field's `{`."""
+
+    expression: str
+    conversion: str | None
+    spec: tuple[Text | Field, ...] | None
+    start: int
+    end: int
+    place: int
+
+
+@dataclass(frozen=True)
+class Bytes:
+    """The value of a run of bytes literals, with the whole run's range."""
+
+    value: bytes
+    start: int
+    end: int
+
+
+@dataclass(frozen=True)
+class Answer:
+    """What a run of literals reads as. `records` has one `Text` or one `Bytes`, or the parts of a joined string."""
+
+    sort: Sort
+    u_mark: bool
+    start: int
+    end: int
+    records: tuple[Text | Field | Bytes, ...]
+
+
+# Each refusal's number, its name, and what it means where the name does not say so; {0} and {1} are the details.
+REFUSALS = {
+    1: ("empty list", ""),
+    2: ("number list not a multiple of six", ""),
+    3: ("more than 1,024 literals", ""),
+    4: ("bad descriptor", ""),
+    5: ("bodies over 1,048,576 bytes together", ""),
+    6: ("body not UTF-8", ""),
+    7: ("bytes mixed with others", ""),
+    10: ("StringError", "an escape is not finished"),
+    11: ("UnicodeError", "an escape lacks a digit, has a code above 10FFFF, or a name over 88 bytes"),
+    12: ("non-ASCII in bytes", ""),
+    13: ("name not held", "the library does not have this name of a character"),
+    20: ("UnclosedLbrace", "a field does not end as it should"),
+    21: ("InvalidConversionFlag", "a conversion is not s, r or a"),
+    22: ("EmptyExpression", "a field has no expression"),
+    23: ("MismatchedDelimiter", "{0:c} is closed by {1:c}"),
+    24: ("ExpressionNestedTooDeeply", "a field stands in the spec of a field in a spec"),
+    25: ("SingleRbrace", "a single }} stands in an f-string"),
+    26: ("Unmatched", "{0:c} closes nothing"),
+    27: ("UnterminatedString", "a quoted run in a field does not end, or a backslash stands outside of one"),
+    28: ("65th bracket open at once in a field", ""),
+    30: ("too few record places", "{0} records and {1} text bytes are needed"),
+    31: ("too little text room", "{0} records and {1} text bytes are needed"),
+}
+NO_ROOM = (30, 31)
+
+
+class Refusal(Exception):
+    """The library refused a run: a number of `REFUSALS` and its name, the index of the literal from 0, the place
+    and two details. What has no literal, place or details has 0 there."""
+
+    def __init__(self, number: int, literal: int, place: int, details: tuple[int, int]):
+        super().__init__(number, literal, place, details)
+        self.number = number
+        self.literal = literal
+        self.place = place
+        self.details = details
+
+        self.name, self._said = REFUSALS.get(number, ("unknown to this module", ""))
+
+    @property
+    def meaning(self) -> str:
+        """Number and name, and what they mean."""
+        said = self._said.format(*self.details)
+        return f"{self.number} {self.name}" + (f": {said}" if said else "")
+
+    def __str__(self) -> str:
+        return f"refused in literal {self.literal} at {self.place}: {self.meaning}"
+
+
+class Unavailable(Exception):
+    """The shared library, or the Python version that is needed, is not there."""
+
+
+# The call
+
+SHARED_LIBRARY = "libstumpgarret.so"
+ELF_MACHINES = {62: "x86_64", 183: "aarch64"}
+WORDS_OF_A_RECORD = 8
+FIRST_RECORDS, FIRST_TEXT = 32, 1024
+
+
+def read(script: bytes | str, literals: Iterable[Literal]) -> Answer:
+    """Reads a run of literals, whose bodies lie in `script`; a str stands for its UTF-8 bytes.
+
+    Raises `Refusal` if the library refuses them, and ValueError for a number that does not fit into 32 bits."""
+    script = _encoded(script) if isinstance(script, str) else bytes(script)
+    numbers = _numbers(literals)
+    answer, words, text = _call(script, numbers, FIRST_RECORDS, FIRST_TEXT)
+    if answer[0] in NO_ROOM:
+        answer, words, text = _call(script, numbers, *answer[3:5])
+    if answer[0]:
+        raise Refusal(*answer[:3], tuple(answer[3:5]))
+    _, sort, u_mark, start, end, count, _, *_ = answer
+    records = (words[at : at + WORDS_OF_A_RECORD] for at in range(0, count * WORDS_OF_A_RECORD, WORDS_OF_A_RECORD))
+    return Answer(Sort(sort), bool(u_mark), start, end, tuple(_record(own, records, text) for own in records))
+
+
+def _encoded(text: str) -> bytes:
+    """UTF-8; a lone surrogate becomes bytes that are none, which the library refuses."""
+    return text.encode("utf-8", "surrogatepass")
+
+
+def _numbers(literals: Iterable[Literal]) -> list[int]:
+    numbers = []
+    for index, literal in enumerate(literals):
+        for name, number in vars(literal).items():
+            if not 0 <= number < 2**32:
+                raise ValueError(f"literal {index}: {name} is {number}, which is no number of 32 bits")
+            numbers.append(int(number))
+    return numbers
+
+
+def _call(script: bytes, numbers: list[int], records: int, text_bytes: int) -> tuple[list[int], list[int], bytes]:
+    """One call with room for so many records and text bytes: answer, words and text."""
+    listed = (ctypes.c_uint32 * len(numbers))(*numbers)
+    words = (ctypes.c_uint32 * (records * WORDS_OF_A_RECORD))()
+    text = (ctypes.c_char * text_bytes)()
+    answer = (ctypes.c_uint32 * 12)()
+    _function()(script, len(script), listed, len(listed), words, len(words), text, len(text), answer)
+    return list(answer), words[:], text.raw
+
+
+def _record(own: list[int], following: Iterator[list[int]], text: bytes) -> Text | Field | Bytes:
+    """The record of eight words; a field takes those of its spec from the following ones."""
+    kind, offset, length, start, end, mark, parts, place = own
+    own_text = text[offset : offset + length]
+    if kind == 4:
+        return Bytes(own_text, start, end)
+    if kind == 1:
+        return Text(own_text.decode(), start, end, bool(mark))
+    spec = None
+    if parts:
+        spec_parts = next(following)[6]
+        spec = tuple(_record(next(following), following, text) for _ in range(spec_parts))
+    return Field(own_text.decode(), chr(mark) if mark else None, spec, start, end, place)
+
+
+@functools.cache
+def _function() -> Callable[..., None]:
+    """The library's function; its nine arguments are those of the C call."""
+    path = _library_path()
+    machine = _machine_of(path)
+    if machine != platform.machine():
+        raise Unavailable(f"{path} is for {machine}, and this Python runs on {platform.machine()}")
+    try:
+        function = ctypes.CDLL(path).stumpgarret_read
+    except (OSError, AttributeError) as error:
+        raise Unavailable(f"{path} cannot be used: {error}") from error
+    text, numbers, length = ctypes.c_char_p, ctypes.POINTER(ctypes.c_uint32), ctypes.c_size_t
+    function.argtypes = [text, length, numbers, length, numbers, length, text, length, numbers]
+    function.restype = None
+    return function
+
+
+def _library_path() -> str:
+    named = os.environ.get("STUMPGARRET_LIBRARY")
+    here = os.path.dirname(os.path.abspath(__file__))
+    built = os.path.normpath(os.path.join(here, "..", "..", "target", "python"))
+    places = [named] if named else [os.path.join(place, SHARED_LIBRARY) for place in (here, built)]
+    for path in places:
+        if os.path.isfile(path):
+            return os.path.abspath(path)
+    raise Unavailable(
+        f"the shared library is missing: there is no {' and no '.join(places)}. "
+        "bindings/python/build makes it from the static library; STUMPGARRET_LIBRARY may name it."
+    )
+
+
+def _machine_of(path: str) -> str:
+    try:
+        with open(path, "rb") as file:
+            head = file.read(20)
+    except OSError as error:
+        raise Unavailable(f"{path} cannot be read: {error.strerror}") from error
+    if len(head) < 20 or not head.startswith(b"\x7fELF"):
+        raise Unavailable(f"{path} is no shared library")
+    number = int.from_bytes(head[18:20], "little")
+    return ELF_MACHINES.get(number, f"ELF machine {number}")
+
+
+# Scripts
+
+KINDS = {
+    b"": Kind.STRING,
+    b"f": Kind.FSTRING,
+    b"b": Kind.BYTES,
+    b"r": Kind.RAW_STRING,
+    b"fr": Kind.RAW_FSTRING,
+    b"br": Kind.RAW_BYTES,
+    b"u": Kind.UNICODE,
+}
+OPENING = re.compile(rb"([A-Za-z]*)('''|\"\"\"|'|\")")
+PASSED_OVER = {tokenize.NL, tokenize.COMMENT}
+# From the end of an expression to the spec, or to the field's end.
+BEFORE_SPEC = re.compile(rb"(?:= *)?(?:![sra])?(?::|(?=\}))")
+# From the last field of a spec to the spec's end; only here may a name in braces stand.
+SPEC_REST = re.compile(rb"(?:\\N\{[^}]*\}|\\[^{}]|[^\\{}]|\\(?=[{}]))*")
+
+
+@dataclass(frozen=True)
+class Run:
+    """Adjacent literals, which Python takes for one. `source` is how they stand in the script, from the first to the
+    last, and the bodies' offsets count from its beginning. `start` and `end` of each count from the script's."""
+
+    source: bytes
+    literals: tuple[Literal, ...]
+
+
+@dataclass(frozen=True)
+class ScriptField:
+    """A field of a script. Line and column are those of the character after its `{`: both count from 1, the column
+    by characters (the columns of `ast` count from 0, by UTF-8 bytes). `spec` is as it is written, and None if there
+    is no `:`. `record` has what was read. `depth` says in how many other fields, by expression or spec, it stands."""
+
+    line: int
+    column: int
+    spec: str | None
+    record: Field
+    depth: int
+
+    @property
+    def expression(self) -> str:
+        return self.record.expression
+
+    @property
+    def conversion(self) -> str | None:
+        return self.record.conversion
+
+
+@dataclass(frozen=True)
+class Refused:
+    """Something in a script whose fields are not known. `number` is the library's, and None where the script itself
+    is no Python; `reason` is meant for people."""
+
+    line: int
+    column: int
+    number: int | None
+    name: str
+    reason: str
+
+
+NO_PYTHON = "no Python"
+
+
+class Incomplete(Exception):
+    """Not all fields of a script are known: `fields` has those that are, `refused` says what was refused."""
+
+    def __init__(self, name: str, found: list[ScriptField], refused: list[Refused]):
+        super().__init__(name, found, refused)
+        self.name = name
+        self.fields = found
+        self.refused = refused
+
+    def __str__(self) -> str:
+        return "\n".join(f"{self.name}:{one.line}:{one.column}: {one.reason}" for one in self.refused)
+
+
+def fields(source: str | bytes, name: str = "<script>") -> list[ScriptField]:
+    """Every field of a script, in the order in which they begin. A field in another's expression (in an f-string
+    there) or in another's spec is an item of its own, and comes after the other.
+
+    The name stands in messages. Raises `Incomplete` if anything is refused, with all that was found."""
+    try:
+        text = text_of(source)
+    except (SyntaxError, UnicodeDecodeError) as error:
+        line = source.count(b"\n", 0, getattr(error, "start", 0)) + 1
+        raise Incomplete(name, [], [Refused(line, 1, None, NO_PYTHON, f"{NO_PYTHON}: {error}")]) from error
+    lister = _Lister(text)
+    lister.list_literals(text, 0, 0)
+    if lister.refused:
+        raise Incomplete(name, lister.found, lister.refused)
+    return lister.found
+
+
+def text_of(source: str | bytes) -> str:
+    """A script's text as Python sees it: decoded by byte order mark or cookie, with newlines for line ends.
+
+    Raises SyntaxError or UnicodeDecodeError where Python would not take its encoding."""
+    if isinstance(source, str):
+        text = source.removeprefix("\ufeff")
+    else:
+        encoding, _ = tokenize.detect_encoding(io.BytesIO(source).readline)
+        text = source.decode(encoding)
+    return text.replace("\r\n", "\n").replace("\r", "\n")
+
+
+class NoPython(Exception):
+    """What Python itself would not take, and its place."""
+
+    def __init__(self, reason: str, place: int):
+        super().__init__(reason, place)
+        self.reason = reason
+        self.place = place
+
+    def __str__(self) -> str:
+        return f"{NO_PYTHON}: {self.reason}"
+
+
+def runs(text: str, base: int = 0) -> Iterator[Run]:
+    """The runs of adjacent literals in the text of a script (see `text_of`), or in a part of it at place `base`.
+
+    Raises `NoPython` where the text cannot be cut into Python's tokens, after the runs before that."""
+    if hasattr(tokenize, "FSTRING_START"):
+        raise Unavailable("Python 3.11 is needed: later ones cut an f-string into several tokens")
+    source = _encoded(text)
+    run = []
+    for string in _strings(text, base):
+        if string:
+            run.append(string)
+        elif run:
+            literals = tuple(_literal(*string, run[0][0]) for string in run)
+            yield Run(source[literals[0].start - base : literals[-1].end - base], literals)
+            run = []
+
+
+def _literal(start: int, string: bytes, first: int) -> Literal:
+    """The literal that starts at a place of the script, in a run that starts at the place `first`."""
+    prefix, quotes = OPENING.match(string).groups()
+    kind = KINDS[bytes(sorted(prefix.lower()))]
+    opening = len(prefix + quotes)
+    length = len(string) - opening - len(quotes)
+    return Literal(kind, len(quotes) == 3, start + opening - first, length, start, start + len(string))
+
+
+def _strings(text: str, base: int) -> Iterator[tuple[int, bytes] | None]:
+    """The string literals of a text at place `base`, each with its place, and None for what ends a run of them."""
+    lines = io.StringIO(text).readlines()
+    places = [*itertools.accumulate((len(_encoded(line)) for line in lines), initial=base)]
+
+    def place_of(line: int, column: int) -> int:
+        return places[line - 1] + len(_encoded(lines[line - 1][:column])) if line <= len(lines) else places[-1]
+
+    try:
+        for token in tokenize.generate_tokens(iter(lines).__next__):
+            if token.type == tokenize.STRING:
+                yield place_of(*token.start), _encoded(token.string)
+            elif token.type == tokenize.ERRORTOKEN and _is_wrong(token.string):
+                raise tokenize.TokenError(f"{token.string.splitlines()[0]} is out of place", token.start)
+            elif token.type not in PASSED_OVER:
+                yield None
+    except tokenize.TokenError as error:
+        yield None
+        raise NoPython(error.args[0], place_of(*error.args[1])) from error
+    except IndentationError as error:
+        raise NoPython(error.msg, place_of(error.lineno, 0)) from error
+
+
+def _is_wrong(string: str) -> bool:
+    """Whether an error token is an error: blanks before one, and rare characters of names, are not."""
+    return string.strip(" \t\f") != "" and not ("_" + string).isidentifier()
+
+
+class _Lister:
+    """Collects the fields of one script, and what is refused."""
+
+    def __init__(self, text: str):
+        self.script = _encoded(text)
+        self.lines = [0, *(newline.end() for newline in re.finditer(b"\n", self.script))]
+        self.found: list[ScriptField] = []
+        self.refused: list[Refused] = []
+
+    def list_literals(self, text: str, base: int, depth: int) -> None:
+        """Lists the fields of all literals in a text that stands at place `base`."""
+        try:
+            for run in runs(text, base):
+                self.list_run(run, depth)
+        except NoPython as error:
+            self.refuse_text(error, "; no field behind it is listed")
+
+    def list_run(self, run: Run, depth: int) -> None:
+        try:
+            answer = read(run.source, run.literals)
+        except Refusal as refusal:
+            self.refuse_run(run, refusal)
+            return
+        for record in answer.records:
+            if isinstance(record, Field):
+                self.list_field(record, depth)
+
+    def list_field(self, field: Field, depth: int) -> None:
+        """Lists a field, those in its expression, and those in its spec."""
+        try:
+            begin, end = self.spec_extent(field)
+        except NoPython as error:
+            self.refuse_text(error, "; this field is not listed")
+            return
+        spec = None if field.spec is None else self.script[begin:end].decode()
+        self.found.append(ScriptField(*self.position(field.place), spec, field, depth))
+        self.list_literals(f"({field.expression})", field.place - 1, depth + 1)
+        for part in field.spec or ():
+            if isinstance(part, Field):
+                self.list_field(part, depth + 1)
+
+    def spec_extent(self, field: Field) -> tuple[int, int]:
+        """Where a field's spec begins and ends; both are at the field's closing brace if it has none."""
+        expression = field.expression.encode()
+        at = field.place + len(expression)
+        before = BEFORE_SPEC.match(self.script, at)
+        if self.script[field.place : at] != expression or not before:
+            raise NoPython(f"{field.expression} goes on after its =", field.place)
+        inner = [part for part in field.spec or () if isinstance(part, Field)]
+        rest = self.spec_extent(inner[-1])[1] + len("}") if inner else before.end()
+        return before.end(), SPEC_REST.match(self.script, rest).end()
+
+    def refuse_run(self, run: Run, refusal: Refusal) -> None:
+        start, end = run.literals[0].start, run.literals[-1].end
+        first, last = self.position(start)[0], self.position(end)[0]
+        lines = f"line {first}" if first == last else f"lines {first} to {last}"
+        reason = f"refused: {refusal.meaning}; no field of the literals in {lines} is listed"
+        self.refuse(refusal.place or start, refusal.number, refusal.name, reason)
+
+    def refuse_text(self, error: NoPython, lost: str) -> None:
+        self.refuse(error.place, None, NO_PYTHON, str(error) + lost)
+
+    def refuse(self, place: int, number: int | None, name: str, reason: str) -> None:
+        self.refused.append(Refused(*self.position(place), number, name, reason))
+
+    def position(self, place: int) -> tuple[int, int]:
+        """The line and column of a place, both from 1."""
+        line = bisect.bisect_right(self.lines, place)
+        return line, len(self.script[self.lines[line - 1] : place].decode("utf-8", "replace")) + 1
+
+
+# The command
+
+
+def main(arguments: list[str] | None = None) -> int:
+    """Prints the fields of the scripts that are named; the exit status is 0 if those are all fields of all of them."""
+    parser = argparse.ArgumentParser(description="Lists the formatted fields in the string literals of Python scripts.")
+    parser.add_argument("scripts", nargs="+", metavar="SCRIPT")
+    for stream in (sys.stdout, sys.stderr):
+        if isinstance(stream, io.TextIOWrapper):
+            stream.reconfigure(errors="backslashreplace")
+    try:
+        complete = [_print_fields(path) for path in parser.parse_args(arguments).scripts]
+    except Unavailable as error:
+        print(f"stumpgarret: {error}", file=sys.stderr)
+        return 2
+    return 0 if all(complete) else 1
+
+
+def _print_fields(path: str) -> bool:
+    """Prints a script's fields; whether all of them are known."""
+    complete = False
+    try:
+        with open(path, "rb") as file:
+            found = fields(file.read(), path)
+        complete = True
+    except OSError as error:
+        found = []
+        print(f"{path}: {error.strerror}", file=sys.stderr)
+    except Incomplete as error:
+        found = error.fields
+        print(error, file=sys.stderr)
+    for field in found:
+        conversion = f"!{field.conversion}" if field.conversion else ""
+        spec = "" if field.spec is None else f":{field.spec}"
+        at = f"{path}:{field.line}:{field.column}"
+        print(*map(_one_line, (at, field.expression, conversion, spec)), sep="\t")
+    return complete
+
+
+def _one_line(text: str) -> str:
+    return re.sub(r"[\x00-\x1f\x7f-\x9f\u2028\u2029]", lambda control: ascii(control[0])[1:-1], text)
+
+
+if __name__ == "__main__":
+    signal.signal(signal.SIGPIPE, signal.SIG_DFL)
+    sys.exit(main())

@@ -1,0 +1,62 @@
+"""What the tests share: the module, and a stand-in for the library's function.
+
+Where this Python cannot load the library, the variable STUMPGARRET_SERVER has the command of a program that has it
+(oracle/src/compare/server.c, which says what goes over the pipe). All but the call by ctypes is then tested.
+"""
+
+import ctypes
+import importlib.machinery
+import importlib.util
+import os
+import pathlib
+import struct
+import subprocess
+import sys
+
+sys.dont_write_bytecode = True
+
+TESTS = pathlib.Path(__file__).resolve().parent
+CLONE = TESTS.parents[2]
+sys.path.insert(0, str(TESTS.parent))
+
+import stumpgarret
+
+
+def load(path):
+    """The module at a path of the clone, whatever its name ends with."""
+    path = CLONE / path
+    if str(path.parent) not in sys.path:
+        sys.path.insert(0, str(path.parent))
+    loader = importlib.machinery.SourceFileLoader(path.stem, str(path))
+    module = importlib.util.module_from_spec(importlib.util.spec_from_loader(path.stem, loader))
+    sys.modules[path.stem] = module
+    loader.exec_module(module)
+    return module
+
+
+class Server:
+    """The library's function, in another process."""
+
+    def __init__(self, command):
+        self.process = subprocess.Popen(command, stdin=subprocess.PIPE, stdout=subprocess.PIPE)
+
+    def __call__(self, script, script_length, numbers, numbers_length, words, words_length, text, text_length, answer):
+        head = struct.pack("<4I", numbers_length, script_length, words_length, text_length)
+        self.process.stdin.write(head + bytes(numbers) + script[:script_length] + bytes(words) + bytes(text))
+        self.process.stdin.flush()
+        written = answer, words, text
+        got = self.process.stdout.read(sum(map(ctypes.sizeof, written)))
+        for buffer in written:
+            size = ctypes.sizeof(buffer)
+            if len(got) < size:
+                raise RuntimeError("the server ended")
+            ctypes.memmove(buffer, got, size)
+            got = got[size:]
+
+
+load_function = stumpgarret._function.__wrapped__
+command = os.environ.get("STUMPGARRET_SERVER")
+HAS_STANDIN = command is not None
+if HAS_STANDIN:
+    server = Server(command.split())
+    stumpgarret._function = lambda: server

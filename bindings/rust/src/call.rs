@@ -1,0 +1,45 @@
+//! The C interface, as `bindings/include/stumpgarret.h` describes it.
+
+/// The numbers that describe a literal, the words of a record, the numbers of an answer.
+pub(crate) const LITERAL: usize = 6;
+pub(crate) const RECORD: usize = 8;
+pub(crate) const ANSWER: usize = 12;
+
+extern "C" {
+    fn stumpgarret_read(
+        script: *const u8,
+        script_length: usize,
+        literals: *const u32,
+        literals_length: usize,
+        words: *mut u32,
+        words_length: usize,
+        text: *mut u8,
+        text_length: usize,
+        answer: *mut u32,
+    );
+}
+
+pub(crate) fn read(
+    script: &[u8],
+    literals: &[u32],
+    words: &mut [u32],
+    text: &mut [u8],
+) -> [u32; ANSWER] {
+    let mut answer = [0; ANSWER];
+    // SAFETY: each pointer is a slice's own, with its length, so it is valid, aligned and not null.
+    // What is written to is borrowed mutably, so it overlaps nothing else.
+    unsafe {
+        stumpgarret_read(
+            script.as_ptr(),
+            script.len(),
+            literals.as_ptr(),
+            literals.len(),
+            words.as_mut_ptr(),
+            words.len(),
+            text.as_mut_ptr(),
+            text.len(),
+            answer.as_mut_ptr(),
+        );
+    }
+    answer
+}

@@ -1,0 +1,127 @@
+//! Reads runs of Python string literals to texts, formatted fields and format specs, as
+//! `parse_strings` of rustpython-parser 0.4.0 does, by a library that is proved: what comes out
+//! equals one definition, and no field of an adjacent literal is lost. Expressions are not parsed;
+//! a field carries its own as text.
+//!
+//! ```
+//! use stumpgarret::{parse_strings, ConversionFlag, Literal, Record, StringKind};
+//!
+//! let script = r"print('VDD ' f'{mv / 12.5:.0f} {unit!r}')";
+//! let literals = [
+//!     Literal { kind: StringKind::String, triple_quoted: false, body: 7..11, start: 6, end: 12 },
+//!     Literal::within(StringKind::FString, false, 13..40),
+//! ];
+//! let answer = parse_strings(script, &literals)?;
+//!
+//! let fields: Vec<_> = answer.fields().collect();
+//! assert_eq!(fields[0].expression, "mv / 12.5");
+//! assert_eq!(fields[0].spec.as_ref().and_then(|spec| spec.as_str()), Some(".0f"));
+//! assert_eq!(&script[fields[0].place..][..9], "mv / 12.5");
+//! assert_eq!(fields[1].conversion, ConversionFlag::Repr);
+//!
+//! let text: String = answer.records().map(|record| match record {
+//!     Record::Literal { text, .. } => text.to_string(),
+//!     Record::Field(field) => format!("<{}>", field.expression),
+//!     _ => unreachable!("no bytes among the literals"),
+//! }).collect();
+//! assert_eq!(text, "VDD <mv / 12.5> <unit>");
+//! # Ok::<(), stumpgarret::Refusal>(())
+//! ```
+//!
+//! A refusal names its reason, the literal and the place:
+//!
+//! ```
+//! use stumpgarret::{parse_strings, Literal, Reason, StringKind};
+//!
+//! let script = "'a' f'{(]}'";
+//! let literals = [
+//!     Literal::within(StringKind::String, false, 0..3),
+//!     Literal::within(StringKind::FString, false, 4..11),
+//! ];
+//! let refusal = parse_strings(script, &literals).unwrap_err();
+//! assert_eq!(refusal.reason(), &Reason::MismatchedDelimiter('(', ']'));
+//! assert_eq!((refusal.number(), refusal.literal(), refusal.place()), (23, 1, 9));
+//! assert_eq!(refusal.to_string(), "'(' is met by ']' (refusal 23, literal 1, place 9)");
+//! ```
+
+mod answer;
+mod call;
+mod literal;
+mod refusal;
+
+pub use answer::{Answer, ConversionFlag, Field, Record, Records, Sort, Spec};
+pub use literal::{Literal, StringKind};
+pub use refusal::{Reason, Refusal};
+
+use std::borrow::Cow;
+
+/// The most literals that one call takes.
+pub const MOST_LITERALS: usize = 1_024;
+/// The most bytes that all bodies of a call have together.
+pub const MOST_BODY_BYTES: usize = 1_048_576;
+
+/// Reads literals that stand side by side in a script.
+pub fn parse_strings(
+    script: impl AsRef<[u8]>,
+    literals: &[Literal],
+) -> Result<Answer<'static>, Refusal> {
+    let script = script.as_ref();
+    let numbers = literal::numbers(literals);
+    let (records, bytes) = guess(literals);
+    let answer = read_owned(script, &numbers, records, bytes);
+    match answer.as_ref().map_err(Refusal::reason) {
+        Err(
+            &Reason::TooFewRecordPlaces { records, text }
+            | &Reason::TooLittleTextRoom { records, text },
+        ) => read_owned(script, &numbers, records, text),
+        _ => answer,
+    }
+}
+
+/// Reads as [`parse_strings`] does, into buffers of the caller's. If one is too small, the refusal
+/// has the counts needed; a record takes eight words. After a refusal both hold zeros; after an
+/// acceptance, what follows the last record and the last text byte is unchanged.
+///
+/// ```
+/// use stumpgarret::{read_into, Literal, Reason, StringKind};
+///
+/// let literals = [Literal::within(StringKind::FString, false, 0..7)];
+/// let (mut words, mut text) = ([7; 24], [7; 4]);
+/// let answer = read_into("f'{x=}'", &literals, &mut words, &mut text)?;
+/// assert_eq!(answer.text(), b"x=x");
+/// assert_eq!(text[3], 7);
+///
+/// let refusal = read_into("f'{x=}'", &literals, &mut words[..15], &mut text).unwrap_err();
+/// assert_eq!(refusal.reason(), &Reason::TooFewRecordPlaces { records: 2, text: 3 });
+/// assert_eq!(text, [0; 4]);
+/// # Ok::<(), stumpgarret::Refusal>(())
+/// ```
+pub fn read_into<'a>(
+    script: impl AsRef<[u8]>,
+    literals: &[Literal],
+    words: &'a mut [u32],
+    text: &'a mut [u8],
+) -> Result<Answer<'a>, Refusal> {
+    let numbers = literal::numbers(literals);
+    let answer = call::read(script.as_ref(), &numbers, words, text);
+    Answer::new(answer, Cow::Borrowed(words), Cow::Borrowed(text))
+}
+
+fn read_owned(
+    script: &[u8],
+    numbers: &[u32],
+    records: usize,
+    bytes: usize,
+) -> Result<Answer<'static>, Refusal> {
+    let (mut words, mut text) = (vec![0; records * call::RECORD], vec![0; bytes]);
+    let answer = call::read(script, numbers, &mut words, &mut text);
+    Answer::new(answer, Cow::Owned(words), Cow::Owned(text))
+}
+
+/// Records and text bytes that are enough for most literals.
+fn guess(literals: &[Literal]) -> (usize, usize) {
+    let bodies =
+        literals.iter().fold(0, |sum: usize, literal| sum.saturating_add(literal.body.len()));
+    let bytes = bodies.min(MOST_BODY_BYTES);
+    (4 + bytes / 16, bytes + 16)
+}

@@ -1,0 +1,210 @@
+use crate::call;
+use std::error::Error;
+use std::fmt;
+
+/// Why literals were refused. Where rustpython-parser has such an error, the name is its.
+#[derive(Clone, Debug, PartialEq, Eq, Hash)]
+#[non_exhaustive]
+pub enum Reason {
+    EmptyList,
+    /// The flat list of numbers is no multiple of six, which no list of literals gives.
+    NotSixes,
+    /// More than [`MOST_LITERALS`](crate::MOST_LITERALS).
+    TooManyLiterals,
+    /// A body outside the script, a start above the end or below the previous end, too little
+    /// between start and end for the body, or a number over 32 bits.
+    BadDescriptor,
+    /// More than [`MOST_BODY_BYTES`](crate::MOST_BODY_BYTES) together.
+    BodiesTooLong,
+    /// A body that is not UTF-8. The place is after the longest prefix that is.
+    NotUtf8,
+    /// Bytes literals among others.
+    MixedBytes,
+    /// An escape that is not finished.
+    StringError,
+    /// A hex digit is missing, a code is no character's, or a name is too long.
+    UnicodeError,
+    NonAsciiInBytes,
+    /// The name in `\N{..}` is none of those held.
+    NameNotHeld,
+    UnclosedLbrace,
+    InvalidConversionFlag,
+    EmptyExpression,
+    /// An opening bracket, and the one of another sort that would close it.
+    MismatchedDelimiter(char, char),
+    ExpressionNestedTooDeeply,
+    SingleRbrace,
+    /// A closing bracket that nothing opened.
+    Unmatched(char),
+    /// A quoted run in an expression does not end, or a backslash stands outside of one.
+    UnterminatedString,
+    /// A field's 65th bracket open at once.
+    TooManyBrackets,
+    /// The words lent have too few places, eight words each. What the reading needs is given.
+    TooFewRecordPlaces {
+        records: usize,
+        text: usize,
+    },
+    /// The text buffer lent is too small. What the reading needs is given.
+    TooLittleTextRoom {
+        records: usize,
+        text: usize,
+    },
+    /// An answer that this crate cannot read, so the library linked is not the one it is for.
+    UnknownAnswer,
+}
+
+impl fmt::Display for Reason {
+    fn fmt(&self, f: &mut fmt::Formatter<'_>) -> fmt::Result {
+        f.write_str(match self {
+            Self::EmptyList => "there are no literals",
+            Self::NotSixes => "the list of numbers is no multiple of six",
+            Self::TooManyLiterals => "there are more than 1,024 literals",
+            Self::BadDescriptor => {
+                "the literal's body is outside the script or too long for its range, its range is \
+                 reversed or begins in the previous one, or a number is over 32 bits"
+            }
+            Self::BodiesTooLong => "the bodies have more than 1,048,576 bytes together",
+            Self::NotUtf8 => "the body is not UTF-8",
+            Self::MixedBytes => "bytes literals and others are mixed",
+            Self::StringError => "an escape is not finished",
+            Self::UnicodeError => "an escape gives no character",
+            Self::NonAsciiInBytes => "a bytes literal has a character that is not ASCII",
+            Self::NameNotHeld => "the name in an escape is not known",
+            Self::UnclosedLbrace => "a '{' is not closed as it must be",
+            Self::InvalidConversionFlag => "a conversion is not 's', 'a' or 'r'",
+            Self::EmptyExpression => "a field has no expression",
+            Self::MismatchedDelimiter(opener, closer) => {
+                return write!(f, "'{}' is met by '{}'", opener, closer)
+            }
+            Self::ExpressionNestedTooDeeply => "fields are nested too deeply",
+            Self::SingleRbrace => "a '}' stands alone",
+            Self::Unmatched(closer) => return write!(f, "nothing opens what '{}' closes", closer),
+            Self::UnterminatedString => {
+                "an expression has quotes that do not end, or a backslash outside of quotes"
+            }
+            Self::TooManyBrackets => "a field has more than 64 brackets open at once",
+            Self::TooFewRecordPlaces { records, text } => return room(f, "words", *records, *text),
+            Self::TooLittleTextRoom { records, text } => return room(f, "text", *records, *text),
+            Self::UnknownAnswer => "the library linked gives answers that this crate does not know",
+        })
+    }
+}
+
+fn room(f: &mut fmt::Formatter<'_>, buffer: &str, records: usize, text: usize) -> fmt::Result {
+    write!(
+        f,
+        "the {} buffer is too small: {} records and {} text bytes are needed",
+        buffer, records, text
+    )
+}
+
+/// One numbered refusal.
+#[derive(Clone, Debug, PartialEq, Eq, Hash)]
+pub struct Refusal {
+    number: u32,
+    reason: Reason,
+    literal: usize,
+    place: usize,
+}
+
+impl Refusal {
+    /// The number, which `bindings/include/stumpgarret.h` lists; with [`Reason::UnknownAnswer`]
+    /// whatever the library gave.
+    pub fn number(&self) -> u32 {
+        self.number
+    }
+
+    /// The number's name, with its details.
+    pub fn reason(&self) -> &Reason {
+        &self.reason
+    }
+
+    /// The literal's index; 0 where none is to blame.
+    pub fn literal(&self) -> usize {
+        self.literal
+    }
+
+    /// Counted as the literals' starts are; 0 where there is none.
+    pub fn place(&self) -> usize {
+        self.place
+    }
+
+    pub(crate) fn new(answer: [u32; call::ANSWER]) -> Refusal {
+        let [number, literal, place, ..] = answer;
+        let reason = reason(answer).unwrap_or(Reason::UnknownAnswer);
+        Refusal { number, reason, literal: literal as usize, place: place as usize }
+    }
+
+    pub(crate) fn unknown() -> Refusal {
+        Refusal { number: 0, reason: Reason::UnknownAnswer, literal: 0, place: 0 }
+    }
+}
+
+fn reason([number, _, _, a, b, ..]: [u32; call::ANSWER]) -> Option<Reason> {
+    let (records, text) = (a as usize, b as usize);
+    Some(match number {
+        1 => Reason::EmptyList,
+        2 => Reason::NotSixes,
+        3 => Reason::TooManyLiterals,
+        4 => Reason::BadDescriptor,
+        5 => Reason::BodiesTooLong,
+        6 => Reason::NotUtf8,
+        7 => Reason::MixedBytes,
+        10 => Reason::StringError,
+        11 => Reason::UnicodeError,
+        12 => Reason::NonAsciiInBytes,
+        13 => Reason::NameNotHeld,
+        20 => Reason::UnclosedLbrace,
+        21 => Reason::InvalidConversionFlag,
+        22 => Reason::EmptyExpression,
+        23 => Reason::MismatchedDelimiter(char::from_u32(a)?, char::from_u32(b)?),
+        24 => Reason::ExpressionNestedTooDeeply,
+        25 => Reason::SingleRbrace,
+        26 => Reason::Unmatched(char::from_u32(a)?),
+        27 => Reason::UnterminatedString,
+        28 => Reason::TooManyBrackets,
+        30 => Reason::TooFewRecordPlaces { records, text },
+        31 => Reason::TooLittleTextRoom { records, text },
+        _ => return None,
+    })
+}
+
+impl fmt::Display for Refusal {
+    fn fmt(&self, f: &mut fmt::Formatter<'_>) -> fmt::Result {
+        let Refusal { number, reason, literal, place } = self;
+        write!(f, "{} (refusal {}, literal {}, place {})", reason, number, literal, place)
+    }
+}
+
+impl Error for Refusal {}
+
+#[cfg(test)]
+mod tests {
+    use super::*;
+
+    #[test]
+    fn a_list_cut_short_is_2() {
+        let refusal = Refusal::new(call::read(b"", &[0; 5], &mut [], &mut []));
+        assert_eq!((refusal.number(), refusal.reason()), (2, &Reason::NotSixes));
+        let text = "the list of numbers is no multiple of six (refusal 2, literal 0, place 0)";
+        assert_eq!(refusal.to_string(), text);
+    }
+
+    #[test]
+    fn an_unknown_number_is_said_to_be_so() {
+        for number in [8, 14, 29, 32, u32::MAX] {
+            let refusal = Refusal::new([number, 1, 2, 3, 4, 0, 0, 0, 0, 0, 0, 0]);
+            assert_eq!((refusal.number(), refusal.reason()), (number, &Reason::UnknownAnswer));
+            assert_eq!((refusal.literal(), refusal.place()), (1, 2));
+        }
+    }
+
+    #[test]
+    fn details_that_are_no_characters_are_unknown() {
+        for number in [23, 26] {
+            let refusal = Refusal::new([number, 0, 0, 0xD800, 0, 0, 0, 0, 0, 0, 0, 0]);
+            assert_eq!(refusal.reason(), &Reason::UnknownAnswer);
+        }
+    }
+}

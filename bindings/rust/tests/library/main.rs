@@ -1,0 +1,5 @@
+//! Real readings through the library.
+mod common;
+mod readings;
+mod refusals;
+mod room;

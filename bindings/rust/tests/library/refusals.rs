@@ -1,0 +1,145 @@
+//! Every refusal that a list of literals can get, by number, literal, place and text. Number 2,
+//! which it cannot, is tested beside the code.
+use crate::common::side_by_side;
+use stumpgarret::StringKind::{Bytes, FString, RawFString, String as Plain};
+use stumpgarret::{
+    parse_strings, read_into, Literal, Reason, Refusal, StringKind, MOST_BODY_BYTES, MOST_LITERALS,
+};
+
+const NUMBERS: [u32; 21] =
+    [1, 3, 4, 5, 6, 7, 10, 11, 12, 13, 20, 21, 22, 23, 24, 25, 26, 27, 28, 30, 31];
+
+fn refused(script: impl AsRef<[u8]>, literals: &[Literal]) -> Refusal {
+    parse_strings(script, literals).expect_err("this must be refused")
+}
+
+fn of_run(literals: &[(StringKind, &str)]) -> Refusal {
+    let (script, literals) = side_by_side(literals);
+    refused(script, &literals)
+}
+
+fn of(body: &str) -> Refusal {
+    of_run(&[(FString, body)])
+}
+
+/// Literals of one byte each.
+fn ones(count: usize) -> Vec<Literal> {
+    (0..count).map(|at| Literal::within(Plain, false, 3 * at..3 * at + 3)).collect()
+}
+
+fn all() -> Vec<(Refusal, &'static str)> {
+    let long = "a".repeat(MOST_BODY_BYTES + 1);
+    let brackets = format!("{{{}}}", "(".repeat(65));
+    let (script, literals) = side_by_side(&[(FString, "a{x:>5}")]);
+    let lent = |words: usize, text: usize| {
+        let (mut words, mut text) = (vec![1; words], vec![1; text]);
+        let refusal = read_into(&script, &literals, &mut words, &mut text).unwrap_err();
+        assert!(words.iter().all(|&word| word == 0) && text.iter().all(|&byte| byte == 0));
+        refusal
+    };
+    vec![
+        (refused("", &[]), "there are no literals (refusal 1, literal 0, place 0)"),
+        (
+            refused("'a'".repeat(MOST_LITERALS + 1), &ones(MOST_LITERALS + 1)),
+            "there are more than 1,024 literals (refusal 3, literal 0, place 0)",
+        ),
+        (
+            refused("'a''", &ones(2)),
+            "the literal's body is outside the script or too long for its range, its range is \
+             reversed or begins in the previous one, or a number is over 32 bits \
+             (refusal 4, literal 1, place 0)",
+        ),
+        (
+            of(&long),
+            "the bodies have more than 1,048,576 bytes together (refusal 5, literal 0, place 0)",
+        ),
+        (refused(b"'a''\xff'", &ones(2)), "the body is not UTF-8 (refusal 6, literal 1, place 4)"),
+        (
+            of_run(&[(Plain, "a"), (Bytes, "b")]),
+            "bytes literals and others are mixed (refusal 7, literal 0, place 0)",
+        ),
+        (of("a\\"), "an escape is not finished (refusal 10, literal 0, place 4)"),
+        (of(r"\x4"), "an escape gives no character (refusal 11, literal 0, place 4)"),
+        (
+            of_run(&[(Bytes, "aé")]),
+            "a bytes literal has a character that is not ASCII (refusal 12, literal 0, place 5)",
+        ),
+        (of(r"\N{SNOWMAN}"), "the name in an escape is not known (refusal 13, literal 0, place 5)"),
+        (of("{x!r b}"), "a '{' is not closed as it must be (refusal 20, literal 0, place 6)"),
+        (of("{x!x}"), "a conversion is not 's', 'a' or 'r' (refusal 21, literal 0, place 6)"),
+        (of("{ }"), "a field has no expression (refusal 22, literal 0, place 5)"),
+        (of("{(]}"), "'(' is met by ']' (refusal 23, literal 0, place 5)"),
+        (
+            of_run(&[(Plain, "{"), (RawFString, "{x:{y:{z}}}")]),
+            "fields are nested too deeply (refusal 24, literal 1, place 12)",
+        ),
+        (of("a}b"), "a '}' stands alone (refusal 25, literal 0, place 4)"),
+        (of("{x)}"), "nothing opens what ')' closes (refusal 26, literal 0, place 5)"),
+        (
+            of("{'a"),
+            "an expression has quotes that do not end, or a backslash outside of quotes \
+             (refusal 27, literal 0, place 5)",
+        ),
+        (
+            of(&brackets),
+            "a field has more than 64 brackets open at once (refusal 28, literal 0, place 68)",
+        ),
+        (
+            lent(31, 4),
+            "the words buffer is too small: 4 records and 4 text bytes are needed \
+             (refusal 30, literal 0, place 0)",
+        ),
+        (
+            lent(32, 3),
+            "the text buffer is too small: 4 records and 4 text bytes are needed \
+             (refusal 31, literal 0, place 0)",
+        ),
+    ]
+}
+
+#[test]
+fn every_number_has_its_text() {
+    let all = all();
+    assert_eq!(all.iter().map(|(refusal, _)| refusal.number()).collect::<Vec<_>>(), NUMBERS);
+    for (refusal, text) in all {
+        assert_eq!(refusal.to_string(), text);
+        let error: Box<dyn std::error::Error> = Box::new(refusal);
+        assert_eq!(error.to_string(), text);
+    }
+}
+
+#[test]
+fn details() {
+    assert_eq!(of("{x[}").reason(), &Reason::MismatchedDelimiter('[', '}'));
+    assert_eq!(of("{x]").reason(), &Reason::Unmatched(']'));
+    assert_eq!(of("{x:{y:{z}}}").reason(), &Reason::ExpressionNestedTooDeeply);
+}
+
+#[test]
+fn what_six_numbers_cannot_say_is_a_bad_descriptor() {
+    let script = "'a''b'";
+    let good = ones(2);
+    assert!(parse_strings(script, &good).is_ok());
+    // The first four would be good if their numbers were cut to 32 bits.
+    let (first, second) = (&good[0], &good[1]);
+    let (over, last) = (1 << 32, usize::MAX);
+    let bad = [
+        Literal { start: over + 3, ..second.clone() },
+        Literal { end: over + 6, ..second.clone() },
+        Literal { body: over + 4..over + 5, ..second.clone() },
+        Literal { body: 4..over + 5, ..second.clone() },
+        Literal { body: 0..last, ..second.clone() },
+        Literal { body: 5..4, ..second.clone() },
+        Literal { body: last..0, ..second.clone() },
+        Literal { end: last, ..second.clone() },
+        Literal::within(Plain, false, last..last),
+        Literal::within(RawFString, true, 3..6),
+    ];
+    for literal in bad {
+        let refusal = refused(script, &[first.clone(), literal.clone()]);
+        assert_eq!((refusal.number(), refusal.literal()), (4, 1), "{:?}", literal);
+        assert_eq!(refusal.reason(), &Reason::BadDescriptor);
+        let many = vec![literal; MOST_LITERALS + 1];
+        assert_eq!(refused(script, &many).reason(), &Reason::TooManyLiterals);
+    }
+}

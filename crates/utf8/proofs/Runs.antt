@@ -1,0 +1,34 @@
+-- Runs of bytes: none, one byte, and a run behind another. Assumes nothing.
+use mathlib.Core.Path.{_≡_, subst}
+use mathlib.Core.List.{List}
+use Prim.Native.Nat.{ℕ, _+_, _≤_, _<_}
+use native.Mathlib.Omega.{arith}
+use borrow.Author.Tests.{ltb-true, ltb-false}
+use lib.Dec.{ltb}
+use lib.ListN.{length}
+use Rattle.definition.specs.Chars.{byte}
+use Rattle.definition.proofs.CharLaws.{cases}
+use Rattle.utf8.specs.Runs.{Below, Ascii}
+
+module _ (s : List ℕ) where
+  pub below-none : (n i j : ℕ) → j ≤ i → Below n s i j
+  below-none n i j e k h l = absurd (omega arith)
+
+  pub below-one : (n i : ℕ) → byte s i < n → Below n s i (i + 1)
+  below-one n i p k h l = let e : i ≡ k = omega arith in subst (λ (x : ℕ). byte s x < n) e p
+
+  pub below-append : (n m i j k : ℕ) → n ≤ m → Below n s i j → Below m s j k → Below m s i k
+  below-append n m i j k e p q x h l =
+      cases (ltb x j) (λ t. let b = p x h (ltb-true x j t) in omega arith) (λ t. q x (ltb-false x j t) l)
+
+  pub ascii-none : (i : ℕ) → i ≤ length s → Ascii s i i
+  ascii-none i h = record { on = omega arith; within = h; all = below-none 0x80 i i (omega arith) }
+
+  pub ascii-on : (i j k : ℕ) → Ascii s i j → Below 0x80 s j k → j ≤ k → k ≤ length s → Ascii s i k
+  ascii-on i j k a p h l = record { on = omega (arith, a .on); within = l; all = below-append 0x80 0x80 i j k (omega arith) (a .all) p }
+
+  pub ascii-append : (i j k : ℕ) → Ascii s i j → Ascii s j k → Ascii s i k
+  ascii-append i j k a b = ascii-on i j k a (b .all) (b .on) (b .within)
+
+  pub ascii-more : (i j : ℕ) → Ascii s i j → j < length s → byte s j < 0x80 → Ascii s i (j + 1)
+  ascii-more i j a h b = ascii-on i j (j + 1) a (below-one 0x80 j b) (omega arith) (omega arith)

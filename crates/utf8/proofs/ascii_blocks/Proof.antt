@@ -1,0 +1,31 @@
+-- `utf8::ascii_blocks` meets its contract. Assumes nothing.
+use borrow.Author.Needs.{needs}
+use native.Mathlib.Omega.{arith}
+use Prim.Native.Nat.{_-_}
+use lib.ListN.{length}
+use Rattle.utf8.specs.Runs.{Ascii}
+use Rattle.utf8.proofs.Runs.{ascii-none, ascii-on}
+use Rattle.utf8.proofs.ascii_blocks.Statement.{statement}
+use Rattle.utf8.proofs.ascii_blocks.Tie as tie
+
+abbrev Inv-loop : tie.InvT-loop
+Inv-loop s at i₀ i = Ascii s at i
+
+abbrev μ-loop : tie.MeasureT-loop
+μ-loop s at i₀ i = length s - i
+
+pub ascii-blocks-spec : {M : Type 1} → statement M
+ascii-blocks-spec =
+    tie.close
+    (tie.spec
+    Inv-loop
+    μ-loop
+    (λ c. ascii-none _ _ (search needs))  -- loop-holds
+    (λ c. omega (arith, c .loop .inv .within))  -- sub-loop
+    (λ c. search needs)  -- add-is-ascii
+    (λ c κs. search needs)  -- is-ascii-requires
+    (λ c. search needs)  -- add-i
+    (λ c. search needs)  -- loop-less
+    (λ c. let l = c .before .before .before .loop in ascii-on _ _ (l .i) _ (l .inv) (c .before .is-ascii .ensures (c .if1 .taken)) (omega arith) (search needs))  -- loop-again
+    (λ c. c .before .before .before .loop .inv)  -- returns
+    (λ c. c .before .loop .inv))  -- returns-2

@@ -1,0 +1,5 @@
+rail, mv, status = "VDD", 743, "ok"
+print("rail %s" % rail, f"{mv / 1000:.3f} V", sep=": ")
+print("VDD = 743 mV, code "
+      f"{743 / 12.5:.0f}")
+print(f"{rail:<8} {mv=} {status!r:>{2 + len(status)}}")
