@@ -25,9 +25,13 @@ use Rattle.strings.specs.declared.field.Turn.{Turn}
 use Rattle.strings.specs.declared.field.Turn.the-variants as turn
 use Rattle.strings.specs.FieldTurns.{pending, Room, Fits, keptTo, skippedTo, headAt, brackets, stateOf, Mover, Went, Stopped, TurnIs}
 
-and-false : (b : Bool) → (b && false) ≡ false
+pub and-false : (b : Bool) → (b && false) ≡ false
 and-false true = refl
 and-false false = refl
+
+pub and-true : (b : Bool) → (b && true) ≡ b
+and-true true = refl
+and-true false = refl
 
 and-right : (a b : Bool) → (a && b) ≡ true → b ≡ true
 and-right true b e = e

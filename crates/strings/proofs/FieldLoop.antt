@@ -1,16 +1,19 @@
 -- The turns of a field's head, one after the other: what the definition gives from here is what it gives from the start.
 -- Assumes nothing.
 use mathlib.Core.Path.{_≡_, refl, sym, subst, ap, _∙_}
-use mathlib.Core.Bool.{Bool, true, false}
+use mathlib.Core.Bool.{Bool, true, false, _&&_, false≢true}
 use mathlib.Core.List.{List, [], _++_}
-use Prim.Native.Nat.{ℕ, _+_, _*_, _^_, _≤_, _<_}
+use Prim.Native.Nat.{ℕ, zero, suc, pred, _+_, _-_, _*_, _^_, _≤_, _<_}
 use native.Mathlib.Omega.{arith}
+use borrow.Author.Tests.{lt-leb, ne-eqb, eq-eqb, ltb-true, ltb-false}
+use lib.Dec.{eqb, ltb}
 use lib.ListN.{length, length-append}
 use Rattle.definition.specs.Numbers.{emptyExpression}
-use Rattle.definition.specs.Chars.{if_then_else_, next}
+use Rattle.definition.specs.Chars.{if_then_else_, byte, _to_, inside, next}
 use Rattle.definition.specs.Escapes.{refused}
 use mathlib.Core.Option.{none}
-use Rattle.definition.specs.Body.{Move, goes, stops, calls, ends, Field, state, fresh, fieldMove, finished, fieldN, enough}
+use Rattle.definition.specs.Body.{Move, goes, stops, calls, ends, Field, state, fresh, isBlank, plain, fieldCase, fieldMove, finished, fieldN, enough}
+use Rattle.definition.proofs.CharLaws.{cases, inside-true, inside-not, code-ascii, next-ascii}
 use Rattle.definition.proofs.Moves.{Ahead, fieldSize, field-ahead}
 use Rattle.definition.proofs.Whole.{field-on, field-stop, field-end}
 use Rattle.buffers.specs.Over.{over}
@@ -19,8 +22,8 @@ use Rattle.strings.specs.declared.Refusal.{Refusal}
 use Rattle.strings.specs.declared.field.State.{State}
 use Rattle.strings.specs.declared.field.Head.{Head}
 use Rattle.strings.specs.declared.field.Opened.the-variants as opened
-use Rattle.strings.proofs.FieldLaws.{part-none}
-use Rattle.strings.specs.FieldTurns.{pending, Room, skippedTo, headAt, brackets, stateOf, headState, Went, Stopped, closedAs, HeadIs, OpenedIs}
+use Rattle.strings.proofs.FieldLaws.{part-none, and-false, and-true, keeps, plain-goes}
+use Rattle.strings.specs.FieldTurns.{passing, Passed, pending, Room, Fits, keptTo, skippedTo, headAt, brackets, stateOf, headState, Went, Stopped, closedAs, HeadIs, OpenedIs}
 
 -- a blank expression is refused at its `}`
 abbrev blankOf : Field → Bool
@@ -151,3 +154,73 @@ module _ {s : List ℕ} {from used : ℕ} {lent : List ℕ} {f : State} {places 
 
     pub closes : OpenedIs s from used (closedAs b) lent text′
     closes = by-blank (b .blank) refl
+
+-- BYTES WITH NO RULE OF THEIR OWN
+-- a byte that passes is none of the others
+not-passing : (b k : ℕ) → passing k ≡ false → passing b ≡ true → eqb b k ≡ false
+not-passing b k n p = ne-eqb b k (λ e. false≢true (sym n ∙ subst (λ (x : ℕ). passing x ≡ true) e p))
+
+passing-ascii : (b : ℕ) → passing b ≡ true → b < 0x80
+passing-ascii b p =
+    cases (inside (42 to 57) b) (λ t. let h = inside-true 42 57 b t in omega arith)
+    (λ t.
+    cases (inside (63 to 90) b) (λ u. let h = inside-true 63 90 b u in omega arith)
+    (λ u. let h = inside-true 94 122 b (rw (t, u) at p) in omega arith))
+
+not-control : (b : ℕ) → passing b ≡ true → inside (9 to 13) b ≡ false
+not-control b p =
+    inside-not 9 13 b
+    (λ x y.
+    let n : passing b ≡ false = rw (inside-not 42 57 b (λ v w. omega arith), inside-not 63 90 b (λ v w. omega arith), inside-not 94 122 b (λ v w. omega arith)) in
+    false≢true (sym n ∙ p))
+
+module _ (s : List ℕ) (i : ℕ) (h : i < length s) (p : passing (byte s i) ≡ true) where
+  passing-case : (out : Bool) → plain ≡ fieldCase s i out false
+  unfolding fieldCase
+  passing-case out =
+      let b = byte s i in
+      rw (lt-leb _ _ h, code-ascii s i (passing-ascii b p), not-passing b 33 refl p, not-passing b 61 refl p, not-passing b 62 refl p, not-passing b 60 refl p, not-passing b 58 refl p, not-passing b 40 refl p, not-passing b 91 refl p, not-passing b 123 refl p, not-passing b 125 refl p, not-passing b 41 refl p, not-passing b 93 refl p, not-passing b 34 refl p, not-passing b 39 refl p, not-passing b 32 refl p, not-passing b 92 refl p, fieldCase)
+
+  not-blank : isBlank (byte s i) ≡ false
+  not-blank = let b = byte s i in let a = passing-ascii b p in rw (not-passing b 32 refl p) (not-control b p)
+
+module _ (s : List ℕ) (from used : ℕ) (lent places text : List ℕ) (l : length s ≤ 1048576) (u : used ≤ 2 ^ 32) where
+  abbrev So : State → Type 0
+  So f = Sofar s from used lent f places text
+
+  -- over one of them
+  past-one : (f : State) → So f → f .at < length s → f .documented ≡ false → passing (byte s (f .at)) ≡ true → So (keptTo f (f .at + 1) (f .depth) false)
+  past-one f h i d p =
+      let b = byte s (f .at) in
+      let a = passing-ascii b p in
+      let fits : Fits s f b (record { at = f .at + 1 }) = record { room = room h l u; here = record { there = i; code-is = code-ascii s (f .at) a; next-is = next-ascii s (f .at) a } } in
+      on h (keeps (room h l u) places (f .at + 1) (f .depth) false (omega arith) (h .deep) refl refl
+      (λ e. plain-goes fits places e (rw d (passing-case s (f .at) i p (eqb (f .depth) 0))) (rw (not-blank s (f .at) i p) (sym (and-false (f .blank))))))
+
+  -- over several
+  past-many : (n : ℕ) (f : State) → So f → f .documented ≡ false → f .at + suc n ≤ length s → ((k : ℕ) → f .at ≤ k → k < f .at + suc n → passing (byte s k) ≡ true) → So (keptTo f (f .at + suc n) (f .depth) false)
+  past-many zero f h d i p = past-one f h (omega arith) d (p (f .at) (omega arith) (omega arith))
+  past-many (suc n) f h d i p =
+      let e : f .at + 1 + suc n ≡ f .at + suc (suc n) = omega arith in
+      subst (λ (x : ℕ). So (keptTo f x (f .depth) false)) e
+      (past-many n (keptTo f (f .at + 1) (f .depth) false) (past-one f h (omega arith) d (p (f .at) (omega arith) (omega arith))) d (omega arith) (λ k a b. p k (omega arith) (omega arith)))
+
+  -- and so over a run of them
+  pub past : (f r : State) → So f → Passed s f r → So r
+  past f r h q = subst So (sym (q .is)) (cases (ltb (f .at) (q .end)) some none)
+    where
+      some : ltb (f .at) (q .end) ≡ true → So (keptTo f (q .end) (f .depth) (f .blank && eqb (q .end) (f .at)))
+      some t =
+          let g = ltb-true (f .at) (q .end) t in
+          let n = pred (q .end - f .at) in
+          let e : f .at + suc n ≡ q .end = omega arith in
+          rw (ne-eqb (q .end) (f .at) (omega arith), and-false (f .blank))
+          (subst (λ (x : ℕ). So (keptTo f x (f .depth) false)) e (past-many n f h (q .undocumented g) (omega (arith, q .within)) (λ k a b. q .all k a (omega arith))))
+
+      none : ltb (f .at) (q .end) ≡ false → So (keptTo f (q .end) (f .depth) (f .blank && eqb (q .end) (f .at)))
+      none t =
+          let e : f .at ≡ q .end = omega (arith, ltb-false (f .at) (q .end) t, q .on) in
+          rw (← e, eq-eqb (f .at) (f .at) refl, and-true (f .blank)) h
+
+pub further-on : (s : List ℕ) (f r : State) → Passed s f r → f .at ≤ r .at
+further-on s f r q = rw (q .is) (q .on)

@@ -1,11 +1,12 @@
 -- A field's head as the code reads it, in the definition's terms.
 use Prim.Native.Nat.{ℕ, zero, suc, _+_, _*_, _^_, _≤_, _<_}
 use mathlib.Core.Path.{_≡_}
-use mathlib.Core.Bool.{Bool, false}
+use mathlib.Core.Bool.{Bool, true, false, _&&_, _||_}
 use mathlib.Core.List.{List, [], _∷_, _++_}
+use lib.Dec.{eqb}
 use lib.ListN.{length, getD}
 use Rattle.definition.specs.Numbers.{emptyExpression}
-use Rattle.definition.specs.Chars.{if_then_else_, part, next}
+use Rattle.definition.specs.Chars.{if_then_else_, byte, _to_, inside, part, next}
 use Rattle.definition.specs.Escapes.{refused}
 use Rattle.definition.specs.Body.{Move, goes, stops, calls, ends, Field, state, fresh, FieldCase, pair, converts, documents, formats, opener, closes, closer, quote, space, backslash, stray, plain, fieldMove, fieldN, enough}
 use Rattle.definition.proofs.Moves.{fieldSize}
@@ -59,13 +60,26 @@ pub record Fits (s : List ℕ) (f : State) (c : ℕ) (k : Cursor) : Type 0 where
 
 -- the state at another place, with the bytes up to there in the expression
 abbrev pub keptTo : State → ℕ → ℕ → Bool → State
-keptTo f to depth blank =
-    record { at = to; run = f .run; used = f .used; depth = depth; spaces = f .spaces; conversion = f .conversion; blank = blank; documented = f .documented }
+keptTo f place depth blank =
+    record { at = place; run = f .run; used = f .used; depth = depth; spaces = f .spaces; conversion = f .conversion; blank = blank; documented = f .documented }
 
 -- and without them, where what the expression has so far is written
 abbrev pub skippedTo : List ℕ → State → ℕ → State
-skippedTo s f to =
-    record { at = to; run = to; used = f .used + length (pending s f); depth = f .depth; spaces = f .spaces; conversion = f .conversion; blank = f .blank; documented = f .documented }
+skippedTo s f place =
+    record { at = place; run = place; used = f .used + length (pending s f); depth = f .depth; spaces = f .spaces; conversion = f .conversion; blank = f .blank; documented = f .documented }
+
+-- a byte that has no rule of its own in a field: of * to 9, ? to Z and ^ to z
+abbrev pub passing : ℕ → Bool
+passing b = inside (42 to 57) b || inside (63 to 90) b || inside (94 to 122) b
+
+-- the state after a run of such bytes, which are in the expression; after a self-documenting `=` there is none
+pub record Passed (s : List ℕ) (f r : State) : Type 0 where
+  pub end : ℕ
+  pub on : f .at ≤ end
+  pub within : end ≤ length s
+  pub all : (k : ℕ) → f .at ≤ k → k < end → passing (byte s k) ≡ true
+  pub undocumented : f .at < end → f .documented ≡ false
+  pub is : r ≡ keptTo f end (f .depth) (f .blank && eqb end (f .at))
 
 -- the head of a state, with the cursor after it
 abbrev pub headAt : State → Cursor → Head

@@ -6,16 +6,16 @@ use buffers::add_run;
 use utf8::Cursor;
 use utf8::Step;
 ghost use mathlib.Core.Path.{_≡_};
-ghost use mathlib.Core.Bool.{_&&_};
+ghost use mathlib.Core.Bool.{_&&_, true};
 ghost use mathlib.Core.List.{List};
 ghost use Prim.Native.Nat.{ℕ, _+_, _^_, _≤_, _<_};
 ghost use lib.Dec.{eqb};
 ghost use lib.ListN.{length, drop};
-ghost use Rattle.definition.specs.Chars.{if_then_else_, _is_, code, before};
+ghost use Rattle.definition.specs.Chars.{if_then_else_, _is_, byte, code, before};
 ghost use Rattle.definition.specs.Body.{pair, isBlank, fieldCase, conversionMove, openMove, matching, closeMove, quoteMove, fieldMove};
 ghost use Rattle.utf8.proofs.Steps.{Stepped};
 ghost use Rattle.buffers.specs.Over.{over};
-ghost use Rattle.strings.specs.FieldTurns.{caseIs, plainCase, pending, keptTo, skippedTo, headAt, Room, Fits, TurnIs, closedAs, OpenedIs};
+ghost use Rattle.strings.specs.FieldTurns.{caseIs, plainCase, passing, Passed, pending, keptTo, skippedTo, headAt, Room, Fits, TurnIs, closedAs, OpenedIs};
 
 const INVALID_CONVERSION_FLAG: u32 = 21;
 
@@ -387,6 +387,59 @@ fn read_turn(s: &[u8], f: State, text: &mut [u8], places: &mut [u8; 64]) -> Turn
     }
 }
 
+// Whether a byte has no rule of its own in a field: * to 9, ? to Z and ^ to z have none.
+fn is_passing(b: u8) -> bool
+    ensures { λ r. ⌜ (r ≡ true → passing b ≡ true) ⌝ }
+{
+    if b < 42 {
+        return false;
+    }
+    if b <= 57 {
+        return true;
+    }
+    if b < 63 {
+        return false;
+    }
+    if b <= 90 {
+        return true;
+    }
+    if b < 94 {
+        return false;
+    }
+    b <= 122
+}
+
+// How far from an index on bytes have no rule of their own.
+fn passing_end(s: &[u8], at: usize) -> usize
+    requires { ⌜ at ≤ length (now s) ⌝ }
+    ensures { λ r. ⌜ (at ≤ r) × (r ≤ length (now (s .entry))) × ((k : ℕ) → at ≤ k → k < r → passing (byte (now (s .entry)) k) ≡ true) ⌝ }
+{
+    let mut i = at;
+    while i < s.len() {
+        if is_passing(s[i]) {
+            i += 1;
+        } else {
+            return i;
+        }
+    }
+    i
+}
+
+// The state after a run of bytes that have no rule of their own; after a self-documenting `=` there is none.
+fn pass(s: &[u8], f: State) -> State
+    requires { ⌜ f .at ≤ length (now s) ⌝ }
+    ensures { λ r. ⌜ Passed (now (s .entry)) f r ⌝ }
+{
+    if f.documented {
+        return f;
+    }
+    let end = passing_end(s, f.at);
+    if end == f.at {
+        return f;
+    }
+    kept(f, end, f.depth, false)
+}
+
 // A head that a `}` ends, unless its expression is blank.
 fn closed(h: Head) -> Opened
     ensures { λ r. ⌜ r ≡ closedAs h ⌝ }
@@ -420,7 +473,8 @@ pub(crate) fn read_head(s: &[u8], from: Cursor, text: &mut [u8], used: usize) ->
         documented: false,
     };
     loop {
-        match read_turn(s, f, text, &mut places) {
+        let here = pass(s, f);
+        match read_turn(s, here, text, &mut places) {
             Turn::On(g) => f = g,
             Turn::Formats(h) => return Opened::Spec(h),
             Turn::Closes(h) => return closed(h),

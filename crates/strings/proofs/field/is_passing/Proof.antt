@@ -1,0 +1,18 @@
+-- `strings::field::is_passing` meets its contract. Assumes nothing.
+use borrow.Author.Tests.{leb-true}
+use native.Mathlib.Omega.{arith}
+use mathlib.Core.Bool.{false≢true}
+use Rattle.definition.proofs.CharLaws.{inside-yes, inside-not}
+use Rattle.strings.proofs.field.is_passing.Statement.{statement}
+use Rattle.strings.proofs.field.is_passing.Tie as tie
+
+pub is-passing-spec : {M : Type 1} → statement M
+is-passing-spec =
+    tie.close
+    (tie.spec
+    (λ c e. absurd (false≢true e))  -- returns
+    (λ c e. let b = c .before .before .args .b in rw (inside-yes 42 57 b (c .before .if1 .left) (c .if2 .taken)))  -- returns-2
+    (λ c e. absurd (false≢true e))  -- returns-3
+    (λ c e. let b = c .before .before .before .before .args .b in rw (inside-not 42 57 b (λ p q. omega (arith, c .before .before .if2 .left)), inside-yes 63 90 b (c .before .if3 .left) (c .if4 .taken)))  -- returns-4
+    (λ c e. absurd (false≢true e))  -- returns-5
+    (λ c e. let b = c .before .before .before .before .before .args .b in rw (inside-not 42 57 b (λ p q. omega (arith, c .before .before .before .if2 .left)), inside-not 63 90 b (λ p q. omega (arith, c .before .if4 .left)), inside-yes 94 122 b (c .if5 .left) (leb-true b 122 e))))  -- returns-6
