@@ -5,6 +5,9 @@
 //! LIBRARY_RUNS has runs of literals, as crates/cases takes them. Where the Rust's source was not at hand,
 //! the library is timed alone.
 
+#[allow(dead_code)]
+#[path = "../../bindings/rust/src/call.rs"]
+mod call;
 mod inputs;
 mod reference {
     include!(env!("STUMPGARRET_REFERENCE_RS"));
@@ -16,20 +19,6 @@ use std::time::{Duration, Instant};
 /// Each input is timed so often, and the best time counts.
 const ROUNDS: usize = 7;
 
-extern "C" {
-    fn stumpgarret_read(
-        script: *const u8,
-        script_length: usize,
-        literals: *const u32,
-        literals_length: usize,
-        words: *mut u32,
-        words_length: usize,
-        text: *mut u8,
-        text_length: usize,
-        answer: *mut u32,
-    );
-}
-
 /// Buffers that are lent to each call.
 struct Buffers {
     words: Vec<u32>,
@@ -38,22 +27,7 @@ struct Buffers {
 
 impl Buffers {
     fn answer(&mut self, case: &Case) -> [u32; 12] {
-        let mut answer = [0; 12];
-        // SAFETY: each pointer is a vector's own, with its length; what is written to overlaps nothing.
-        unsafe {
-            stumpgarret_read(
-                case.script.as_ptr(),
-                case.script.len(),
-                case.list.as_ptr(),
-                case.list.len(),
-                self.words.as_mut_ptr(),
-                self.words.len(),
-                self.text.as_mut_ptr(),
-                self.text.len(),
-                answer.as_mut_ptr(),
-            );
-        }
-        answer
+        call::read(&case.script, &case.list, &mut self.words, &mut self.text)
     }
 
     /// Reads a case, which must be accepted, and gives its records and text bytes.
