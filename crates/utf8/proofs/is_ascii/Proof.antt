@@ -33,4 +33,4 @@ is-ascii-spec =
     let g = c .greater in
     below-append (a .s .now) (l .most + 1) (g .result + 1) (a .from) (l .i) (l .i + 1) (omega (arith, g .ensures)) (l .inv)
     (below-one (a .s .now) (g .result + 1) (l .i) (rw (← byte-is (a .s .now) (l .i) (omega (arith, c .before .before .loop-test .taken, c .before .before .before .before .before .pre))) (omega (arith, g .ensures)))))  -- loop-again
-    (λ c t k h l. let b = c .before .loop .inv k h (omega (arith, c .loop-test .left)) in omega (arith, ltb-true (c .before .loop .most) 128 t)))  -- returns
+    (λ c t k h l. let b = c .before .loop .inv k h (omega (arith, c .loop-test .left)) in let m = ltb-true (c .before .loop .most) _ t in omega arith))  -- returns
