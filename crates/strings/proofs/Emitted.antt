@@ -341,7 +341,7 @@ ordered-hold t o h = go (o .held)
     go true = omega arith
     go false = omega arith
 
-ordered-closed : (w : Whole) (o : Out) → Ordered o → Ordered (closed w o)
+pub ordered-closed : (w : Whole) (o : Out) → Ordered o → Ordered (closed w o)
 unfolding closed
 ordered-closed w o h = go (o .held) refl
   where

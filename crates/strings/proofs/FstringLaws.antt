@@ -25,7 +25,7 @@ use Rattle.strings.specs.declared.fstring.Read.{Read}
 use Rattle.strings.specs.declared.fstring.Read.the-variants.{Done, Refused}
 use Rattle.strings.specs.Emit as E
 use Rattle.strings.specs.Emit.{bit, emits, reserved, filledIn}
-use Rattle.strings.specs.Sinks.{wholeOf, outOf, loadOf, Fits, Emits, converted, specWords}
+use Rattle.strings.specs.Sinks.{wholeOf, outOf, isHeld, loadOf, Fits, Emits, converted, specWords}
 use Rattle.strings.specs.Fstring.{Room, Written, ReadIs, SpecIs, fieldEnd}
 use Rattle.strings.proofs.Emitted.{spec-last, emits-append, put-free}
 use Rattle.definition.proofs.Moves.{weight, fieldSize, filled-light, part-short}
@@ -97,7 +97,7 @@ field-inner fr depth ex c n at = refl
 
 -- A SPEC: its record is filled in once its parts are emitted
 pub spec-done : (fr : Frame) (depth : ℕ) (ps : List Piece) (words text words₁ text₁ words₂ : List ℕ) (k a b r : Sink)
-    → k .held ≡ false → direct depth ps ≡ 0
+    → isHeld k ≡ false → direct depth ps ≡ 0
     → ((words T : List ℕ) → outOf a words T ≡ reserved (outOf k words T)) → a .parts ≡ 0
     → Emits fr (suc depth) ps words text words₁ text₁ a b
     → ((T : List ℕ) → outOf r words₂ T ≡ filledIn (k .count) (specWords fr (k .used) (b .parts)) (outOf b words₁ T)) → r .parts ≡ k .parts
@@ -279,7 +279,7 @@ small-head m s from used h text text′ c = go (h .documented) refl
 
 -- nothing is held after a field
 pub free-field : (fr : Frame) (depth : ℕ) (ex : List ℕ) (h : Head) (parts at : ℕ) (words text words′ text′ : List ℕ) (k r : Sink)
-    → Emits fr depth (before-spec depth ex h parts at) words text words′ text′ k r → r .held ≡ false
+    → Emits fr depth (before-spec depth ex h parts at) words text words′ text′ k r → isHeld r ≡ false
 free-field fr depth ex h parts at words text words′ text′ k r m =
     ap (λ o. o .held) (m .out ∙ ap (λ xs. emits w xs (outOf k words text)) (map-append f front last) ∙ emits-append w (map f front) (map f last) (outOf k words text))
     ∙ put-free w (f (field depth ex (converted (h .documented) (h .conversion) parts) parts at)) (emits w (map f front) (outOf k words text)) (field-inner fr depth ex (converted (h .documented) (h .conversion) parts) parts at)
@@ -397,7 +397,7 @@ run-ended m kind s depth from used text text′ i end R = record { more = omega 
 -- THE SPEC OF A FIELD: its room, after what comes before it
 pub record SpecRoom (s : List ℕ) (from at : ℕ) (fr : Frame) (a : Sink) : Type 0 where
   pub room : Room s at fr a
-  pub free : a .held ≡ false
+  pub free : isHeld a ≡ false
   pub strict : loadOf a + 8 * (length s - at) < 16777216
   pub further : from < at
 
@@ -462,7 +462,7 @@ module _ (s : List ℕ) (depth i : ℕ) (fr : Frame) (words text words₁ text�
       room-on s i j (suc depth) fr (firstPiece s depth i) words text words₁ text₁ a b first-emits (room-kept s i fr k a R l q) (omega (arith, at)) (rw at (first-in s i (R .low)))
       (omega (arith, at, filled-light (suc depth) (part s i (firstEnd s i)), part-short s i (firstEnd s i)))
 
-  module _ (free : k .held ≡ false) (res : (words T : List ℕ) → outOf a words T ≡ reserved (outOf k words T)) (z : a .parts ≡ 0) where
+  module _ (free : isHeld k ≡ false) (res : (words T : List ℕ) → outOf a words T ≡ reserved (outOf k words T)) (z : a .parts ≡ 0) where
     -- the spec's record is filled in behind pieces that it gave
     spec-filled : (ps : List Piece) (n : ℕ) (words₂ text₂ words₃ : List ℕ) (c r : Sink)
         → specN (enough s) (fr .kind) s depth i ≡ got ps n → Emits fr (suc depth) ps words text words₂ text₂ a c

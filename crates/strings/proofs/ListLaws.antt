@@ -107,7 +107,7 @@ and-both xs ys (accepts zs) = ap accepts (sym (append-assoc xs ys zs))
 and-both xs ys (refuses r) = refl
 
 module _ (script ns : List ℕ) (n : ℕ) (w : Whole) (words text : List ℕ) (P : Passed script ns n) where
-  pub before-all : Listing script ns n (wholeOf w) words text words text 0 (record { count = 0; used = 0; held = false; from = 0; parts = 0 })
+  pub before-all : Listing script ns n (wholeOf w) words text words text 0 (record { count = 0; used = 0; held = 0; from = 0; parts = 0 })
   unfolding emits
   before-all =
       record {

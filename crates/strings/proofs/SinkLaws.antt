@@ -1,8 +1,8 @@
 -- What each write does to the counters and buffers is what emitting does. Assumes nothing.
-use mathlib.Core.Path.{_≡_, refl, sym, _∙_, ap, ap₂}
+use mathlib.Core.Path.{_≡_, refl, sym, _∙_, ap}
 use mathlib.Core.Bool.{Bool, true, false}
 use mathlib.Core.List.{List, [], _∷_, _++_, map, map-append, append-assoc}
-use Prim.Native.Nat.{ℕ, zero, suc, _+_, _-_, _*_, _≤_, min}
+use Prim.Native.Nat.{ℕ, zero, suc, _+_, _-_, _*_, _≤_, _<_, min}
 use native.Mathlib.Omega.{arith}
 use lib.ListN.{length, length-append, take, replicate, length-replicate}
 use Rattle.definition.specs.Records.{Item, item, itemOf, inner, raw, top, covers, wordsOf, recordAt}
@@ -11,63 +11,72 @@ use Rattle.definition.specs.Chars.{if_then_else_, part}
 use Rattle.definition.specs.Body.{Piece, literal, field, spec, filled, direct, selfDocumenting}
 use Rattle.buffers.proofs.Over.{over-nil, over-append, over-before, over-part, over-again, length-over}
 use lib.Dec.{eqb}
-use borrow.Author.Tests.{eq-eqb}
+use borrow.Author.Tests.{eq-eqb, ne-eqb}
 use Rattle.buffers.specs.Over.{over}
 use Rattle.strings.specs.declared.emit.Whole.{Whole}
 use Rattle.strings.specs.declared.emit.Frame.{Frame}
 use Rattle.strings.specs.declared.emit.Sink.{Sink}
 use Rattle.strings.specs.Emit as e
 use Rattle.strings.specs.Emit.{Out, hold, put, closed, heldWords, emit, emits}
-use Rattle.strings.specs.Sinks.{wholeOf, outOf, loadOf, Writes, Emits, documentation, Documents, UpTo, converted}
-use Rattle.strings.proofs.Emitted.{closed-free, emits-append, emit-used, load-emits, ordered-emits, direct-light}
+use Rattle.strings.specs.Sinks.{wholeOf, outOf, isHeld, loadOf, Fits, Closes, Writes, Emits, documentation, Documents, UpTo}
+use Rattle.strings.proofs.Emitted.{closed-free, emits-append, emit-used, load, load-closed, load-emits, ordered-closed, ordered-emits, direct-light}
 use Rattle.definition.proofs.Moves.{weight}
 
 -- A HELD TEXT IS CLOSED
-pub closed-held : (w : Whole) (k : Sink) (words words′ : List ℕ) → k .held ≡ true
+pub closed-held : (w : Whole) (k : Sink) (words words′ : List ℕ) → k .held ≡ 1
     → words′ ≡ over words (k .count * 8) (w .kind ∷ k .from ∷ (k .used - k .from) ∷ w .start ∷ w .end ∷ w .mark ∷ 0 ∷ 0 ∷ [])
-    → (T : List ℕ) → outOf (record { count = k .count + 1; used = k .used; held = false; from = 0; parts = k .parts }) words′ T ≡ closed (wholeOf w) (outOf k words T)
+    → Closes w words words′ k (record { count = k .count + 1; used = k .used; held = 0; from = 0; parts = k .parts })
 unfolding closed heldWords
-closed-held w k words words′ h e T = rw (h, e)
+closed-held w k words words′ h e = record { out = λ T. rw (eq-eqb (k .held) 1 h, e); parts = refl }
 
-pub closed-none : (w : Whole) (k : Sink) (words : List ℕ) → k .held ≡ false → (T : List ℕ) → outOf k words T ≡ closed (wholeOf w) (outOf k words T)
-closed-none w k words h T = sym (closed-free (wholeOf w) (outOf k words T) h)
+pub closed-none : (w : Whole) (k : Sink) (words : List ℕ) → (k .held ≡ 1 → ⊥) → Closes w words words k k
+closed-none w k words n = record { out = λ T. sym (closed-free (wholeOf w) (outOf k words T) (ne-eqb (k .held) 1 n)); parts = refl }
 
 -- what closing leaves as it was
 pub record After (k r : Sink) : Type 0 where
   pub used : r .used ≡ k .used
   pub count : r .count ≤ k .count + 1
 
-pub after-closed : (w : Whole) (k r : Sink) (words words′ : List ℕ) → ((T : List ℕ) → outOf r words′ T ≡ closed (wholeOf w) (outOf k words T)) → After k r
+pub after-closed : (w : Whole) (k r : Sink) (words words′ : List ℕ) → Closes w words words′ k r → After k r
 unfolding closed
-after-closed w k r words words′ e = go (k .held) refl (e [])
+after-closed w k r words words′ c = go (isHeld k) refl (c .out [])
   where
-    go : (b : Bool) → k .held ≡ b → outOf r words′ [] ≡ closed (wholeOf w) (outOf k words []) → After k r
+    go : (b : Bool) → isHeld k ≡ b → outOf r words′ [] ≡ closed (wholeOf w) (outOf k words []) → After k r
     go true h e = let z = rw h at e in record { used = ap (λ o. o .used) z; count = omega (arith, ap (λ o. o .count) z) }
     go false h e = let z = rw h at e in record { used = ap (λ o. o .used) z; count = omega (arith, ap (λ o. o .count) z) }
 
+pub closed-fits : (w : Whole) (k r : Sink) (words words′ : List ℕ) (to : ℕ) → Closes w words words′ k r → Fits k → k .used ≤ to → to < 4294967296
+    → Fits r × ((r .used ≤ to) × (to < 4294967296))
+closed-fits w k r words words′ to c f l m = (
+  record {
+    small = omega (arith, ap load (c .out []) ∙ load-closed (wholeOf w) (outOf k words []), c .parts, f .small);
+    ordered = rw (← c .out []) at (ordered-closed (wholeOf w) (outOf k words []) (f .ordered));
+  },
+  (omega (arith, after-closed w k r words words′ c .used), m),
+)
+
 -- A RECORD THAT IS NO TOP-LEVEL LITERAL IS PUT
 pub put-writes : (fr : Frame) (kind conversion parts place : ℕ) (t words words₁ words′ T : List ℕ) (k a : Sink) (to : ℕ)
-    → to ≡ k .used + length t
-    → ((T : List ℕ) → outOf a words₁ T ≡ closed (wholeOf (fr .whole)) (outOf k words T)) → a .parts ≡ k .parts
-    → words′ ≡ over words₁ (a .count * 8) (kind ∷ k .used ∷ (to - k .used) ∷ fr .start ∷ fr .end ∷ conversion ∷ parts ∷ place ∷ [])
+    → to ≡ k .used + length t → Closes (fr .whole) words words₁ k a
+    → words′ ≡ over words₁ (a .count * 8) (kind ∷ a .used ∷ (to - a .used) ∷ fr .start ∷ fr .end ∷ conversion ∷ parts ∷ place ∷ [])
     → Writes fr kind conversion parts place t words words′ T k (record { count = a .count + 1; used = to; held = a .held; from = a .from; parts = a .parts + 1 })
 unfolding put item wordsOf recordAt
-put-writes fr kind conversion parts place t words words₁ words′ T k a to l e p v =
+put-writes fr kind conversion parts place t words words₁ words′ T k a to l c v =
     record {
       out =
-          (λ i. record { words = W i; text = over T (sym same i) t; count = a .count + 1; used = U i; held = a .held; from = a .from })
-          ∙ ap (put (item inner kind t (fr .start) (fr .end) conversion parts place)) (e T);
-      parts-more = ap (λ n. n + 1) p;
+          (λ i. record { words = W i; text = over T (sym same i) t; count = a .count + 1; used = U i; held = isHeld a; from = a .from })
+          ∙ ap (put (item inner kind t (fr .start) (fr .end) conversion parts place)) (c .out T);
+      parts-more = ap (λ n. n + 1) (c .parts);
     }
   where
     same : a .used ≡ k .used
-    same = after-closed (fr .whole) k a words words₁ e .used
+    same = after-closed (fr .whole) k a words words₁ c .used
 
-    size : to - k .used ≡ length t
-    size = omega arith
+    size : to - a .used ≡ length t
+    size = omega (arith, same)
 
     W : words′ ≡ over words₁ (a .count * 8) (kind ∷ a .used ∷ length t ∷ fr .start ∷ fr .end ∷ conversion ∷ parts ∷ place ∷ [])
-    W = v ∙ ap₂ (λ u n. over words₁ (a .count * 8) (kind ∷ u ∷ n ∷ fr .start ∷ fr .end ∷ conversion ∷ parts ∷ place ∷ [])) (sym same) size
+    W = v ∙ ap (λ n. over words₁ (a .count * 8) (kind ∷ a .used ∷ n ∷ fr .start ∷ fr .end ∷ conversion ∷ parts ∷ place ∷ [])) size
 
     U : to ≡ a .used + length t
     U = omega (arith, same)
@@ -82,8 +91,8 @@ top-holds w kind start end base t o = go (isBytes kind)
     go false = refl
 
 -- PIECES: a literal that is held, and one that is a record
-pub held-literal : (fr : Frame) (t words T : List ℕ) (k : Sink) (from to : ℕ) → to ≡ k .used + length t → from ≡ (if k .held then k .from else k .used)
-    → Emits fr 0 (literal 0 t ∷ []) words T words (over T (k .used) t) k (record { count = k .count; used = to; held = true; from = from; parts = k .parts + 1 })
+pub held-literal : (fr : Frame) (t words T : List ℕ) (k : Sink) (from to : ℕ) → to ≡ k .used + length t → from ≡ (if isHeld k then k .from else k .used)
+    → Emits fr 0 (literal 0 t ∷ []) words T words (over T (k .used) t) k (record { count = k .count; used = to; held = 1; from = from; parts = k .parts + 1 })
 unfolding emits hold direct
 held-literal fr t words T k from to l f =
     record {
@@ -182,7 +191,7 @@ literal-text fr zero t = go (isBytes (fr .kind))
 literal-text fr (suc depth) t = refl
 
 -- A SELF-DOCUMENTING FIELD: the text before the expression is written again, and with it
-documentation-text : (T e : List ℕ) (u spaces : ℕ) → over (over (over T u e) (u + length e) (61 ∷ [])) (u + length e + 1) (replicate spaces 32) ≡ over T u (documentation e spaces)
+documentation-text : (T e : List ℕ) (u spaces : ℕ) → over (over (over T u e) (u + length e) (61 ∷ [])) (u + length e + 1) (replicate spaces 32) ≡ over T u (documentation true e spaces)
 documentation-text T e u spaces =
     ap (λ b. over b (u + length e + 1) (replicate spaces 32)) (over-append T u e (61 ∷ []))
     ∙ ap (λ n. over (over T u (e ++ (61 ∷ []))) n (replicate spaces 32)) far
@@ -191,11 +200,11 @@ documentation-text T e u spaces =
     far : u + length e + 1 ≡ u + length (e ++ (61 ∷ []))
     far = omega (arith, length-append e (61 ∷ []))
 
-again-text : (T e : List ℕ) (u spaces end : ℕ) → u + length e ≤ end → over (over T u (documentation e spaces)) end (part (over T u (documentation e spaces)) u (min (u + length e) end)) ≡ over (over T u (documentation e spaces)) end e
+again-text : (T e : List ℕ) (u spaces end : ℕ) → u + length e ≤ end → over (over T u (documentation true e spaces)) end (part (over T u (documentation true e spaces)) u (min (u + length e) end)) ≡ over (over T u (documentation true e spaces)) end e
 again-text T e u spaces end h = over-again D u e end h there
   where
     D : List ℕ
-    D = over T u (documentation e spaces)
+    D = over T u (documentation true e spaces)
 
     behind : D ≡ over (over T u e) (u + length e) ((61 ∷ []) ++ replicate spaces 32)
     behind = ap (over T u) (append-assoc e (61 ∷ []) (replicate spaces 32)) ∙ sym (over-append T u e ((61 ∷ []) ++ replicate spaces 32))
@@ -205,14 +214,14 @@ again-text T e u spaces end h = over-again D u e end h there
         ap (λ b. part b u (u + length e)) behind
         ∙ over-before (over T u e) (u + length e) ((61 ∷ []) ++ replicate spaces 32) u (u + length e) (omega arith)
         ∙ over-part T u e
-        ∙ ap (λ n. take (n - u) e) (sym (length-over T u (documentation e spaces)))
+        ∙ ap (λ n. take (n - u) e) (sym (length-over T u (documentation true e spaces)))
 
 pub documents : (fr : Frame) (depth : ℕ) (e : List ℕ) (spaces : ℕ) (T words words₁ words′ t₁ t₂ t₃ t₄ : List ℕ) (k a r : Sink) (to : ℕ)
     → to ≡ k .used + length e → t₁ ≡ over T (k .used) e
     → t₂ ≡ over t₁ to (61 ∷ []) → t₃ ≡ over t₂ (to + 1) (replicate spaces 32) → t₄ ≡ over t₃ (to + 1 + spaces) (part t₃ (k .used) (min to (to + 1 + spaces)))
     → ((t T : List ℕ) → to + 1 ≡ k .used + length t → Emits fr depth (literal depth t ∷ []) words T words₁ (over T (k .used) t) k a)
     → ((t T : List ℕ) → to + 1 + spaces ≡ a .used + length t → Emits fr depth (literal depth t ∷ []) words₁ T words′ (over T (a .used) t) a r)
-    → Documents fr depth e spaces words T words′ t₄ k r
+    → Documents fr depth true e spaces words T words′ t₄ k r
 unfolding selfDocumenting
 documents fr depth e spaces T words words₁ words′ t₁ t₂ t₃ t₄ k a r to l p₁ p₂ p₃ p₄ h g =
     record {
@@ -239,7 +248,7 @@ documents fr depth e spaces T words words₁ words′ t₁ t₂ t₃ t₄ k a r 
     both : Emits fr depth (literal depth t ∷ literal depth (replicate spaces 32) ∷ []) words T words′ (over (over T (k .used) t) (a .used) (replicate spaces 32)) k r
     both = emits-both fr depth (literal depth t ∷ []) (literal depth (replicate spaces 32) ∷ []) words T words₁ (over T (k .used) t) words′ _ k a r first second
 
-    text : over T (k .used) (documentation e spaces) ≡ over (over T (k .used) t) (a .used) (replicate spaces 32)
+    text : over T (k .used) (documentation true e spaces) ≡ over (over T (k .used) t) (a .used) (replicate spaces 32)
     text = sym (ap (λ n. over (over T (k .used) t) n (replicate spaces 32)) middle ∙ over-append T (k .used) t (replicate spaces 32))
 
     end : r .used ≡ to + 1 + spaces
@@ -250,14 +259,14 @@ documents fr depth e spaces T words words₁ words′ t₁ t₂ t₃ t₄ k a r 
         sizes : a .used + length (replicate {A = ℕ} spaces 32) ≡ to + 1 + spaces
         sizes = omega (arith, length-replicate {A = ℕ} spaces 32, middle, size)
 
-    used : r .used ≡ k .used + length (documentation e spaces)
+    used : r .used ≡ k .used + length (documentation true e spaces)
     used = omega (arith, end, size, length-append t (replicate spaces 32), length-replicate {A = ℕ} spaces 32)
 
-    whole : t₃ ≡ over T (k .used) (documentation e spaces)
+    whole : t₃ ≡ over T (k .used) (documentation true e spaces)
     whole = rw (p₃, p₂, p₁, l) (documentation-text T e (k .used) spaces)
 
     D : List ℕ
-    D = over T (k .used) (documentation e spaces)
+    D = over T (k .used) (documentation true e spaces)
 
     last : over D (to + 1 + spaces) (part D (k .used) (min to (to + 1 + spaces))) ≡ over D (r .used) e
     last =
@@ -283,20 +292,22 @@ literal-upto fr depth to words words′ k r l h =
     g : Grown (literal depth t ∷ []) k r
     g = grown fr depth (literal depth t ∷ []) words [] words′ _ k r e
 
-pub upto-both : (to to′ : ℕ) (k a r : Sink) → UpTo 1 to k a → UpTo 1 to′ a r → UpTo 2 to′ k r
-upto-both to to′ k a r h g = record { used = g .used; load = omega (arith, h .load, h .used, g .load); ordered = λ o. g .ordered (h .ordered o) }
+pub upto-both : (to to′ : ℕ) (k a r : Sink) → UpTo 1 to k a → UpTo 1 to′ a r → UpTo 2 (r .used) k r
+upto-both to to′ k a r h g = record { used = refl; load = omega (arith, h .load, h .used, g .load, g .used); ordered = λ o. g .ordered (h .ordered o) }
 
 -- A FIELD, WITH WHAT COMES BEFORE ITS SPEC
-pub plain-field : (fr : Frame) (depth : ℕ) (e : List ℕ) (spaces c parts at : ℕ) (T words words′ text : List ℕ) (k r : Sink) (d : Bool) → d ≡ false
-    → text ≡ over T (k .used) e → Emits fr depth (field depth e c parts at ∷ []) words T words′ (over T (k .used) e) k r
-    → Emits fr depth (selfDocumenting depth d e spaces ++ (field depth e (converted d c parts) parts at ∷ [])) words T words′ text k r
-unfolding selfDocumenting
-plain-field fr depth e spaces c parts at T words words′ text k r d h p g = rw (h, p) g
+pub documents-none : (fr : Frame) (depth : ℕ) (e : List ℕ) (spaces : ℕ) (T words text : List ℕ) (k : Sink) → text ≡ over T (k .used) e → Documents fr depth false e spaces words T words text k k
+unfolding selfDocumenting filled
+documents-none fr depth e spaces T words text k p =
+    record { emitted = no-text fr depth [] words T k refl; used = omega arith; again = p ∙ ap (λ b. over b (k .used) e) (sym (over-nil T (k .used))) }
 
-pub documented-field : (fr : Frame) (depth : ℕ) (e : List ℕ) (spaces c parts at : ℕ) (T words words₁ words′ text : List ℕ) (k a r : Sink) (d : Bool) → d ≡ true
-    → Documents fr depth e spaces words T words₁ text k a
-    → ((T : List ℕ) → Emits fr depth (field depth e (converted true c parts) parts at ∷ []) words₁ T words′ (over T (a .used) e) a r)
-    → Emits fr depth (selfDocumenting depth d e spaces ++ (field depth e (converted d c parts) parts at ∷ [])) words T words′ text k r
-documented-field fr depth e spaces c parts at T words words₁ words′ text k a r d h g f =
-    rw (h, g .again)
-    (emits-both fr depth (selfDocumenting depth true e spaces) (field depth e (converted true c parts) parts at ∷ []) words T words₁ (over T (k .used) (documentation e spaces)) words′ _ k a r (g .emitted) (f (over T (k .used) (documentation e spaces))))
+pub documented-field : (fr : Frame) (depth : ℕ) (d : Bool) (e : List ℕ) (spaces c parts at : ℕ) (T words words₁ words′ text : List ℕ) (k a r : Sink)
+    → Documents fr depth d e spaces words T words₁ text k a
+    → ((T : List ℕ) → Emits fr depth (field depth e c parts at ∷ []) words₁ T words′ (over T (a .used) e) a r)
+    → Emits fr depth (selfDocumenting depth d e spaces ++ (field depth e c parts at ∷ [])) words T words′ text k r
+documented-field fr depth d e spaces c parts at T words words₁ words′ text k a r g f =
+    rw (g .again)
+    (emits-both fr depth (selfDocumenting depth d e spaces) (field depth e c parts at ∷ []) words T words₁ D words′ _ k a r (g .emitted) (f D))
+  where
+    D : List ℕ
+    D = over T (k .used) (documentation d e spaces)

@@ -6,13 +6,12 @@ use buffers::add_spaces;
 use buffers::put;
 use buffers::put_record;
 ghost use mathlib.Core.Path.{_≡_};
-ghost use mathlib.Core.Bool.{true};
 ghost use mathlib.Core.List.{List, [], _∷_, _++_};
 ghost use Prim.Native.Nat.{ℕ, _+_, _<_, _≤_};
 ghost use lib.ListN.{length};
 ghost use Rattle.buffers.specs.Over.{over};
-ghost use Rattle.strings.specs.Emit.{closed, reserved, filledIn};
-ghost use Rattle.strings.specs.Sinks.{loadOf, Fits, outOf, wholeOf, Writes, Emits, Documents, UpTo, converted, specWords};
+ghost use Rattle.strings.specs.Emit.{reserved, filledIn};
+ghost use Rattle.strings.specs.Sinks.{isHeld, loadOf, Fits, outOf, Closes, Writes, Emits, Documents, UpTo, converted, specWords};
 ghost use Rattle.definition.specs.Chars.{if_then_else_};
 ghost use Rattle.definition.specs.Body.{literal as aLiteral, field as aField, filled, selfDocumenting};
 
@@ -33,11 +32,11 @@ pub(crate) struct Frame {
     pub(crate) whole: Whole,
 }
 
-// What is written so far: records, text bytes, whether a top-level text is held open and from where, and the parts at this depth.
+// What is written so far: records, text bytes, 1 if a top-level text is held open and from where, and the parts at this depth.
 pub(crate) struct Sink {
     pub(crate) count: usize,
     pub(crate) used: usize,
-    pub(crate) held: bool,
+    pub(crate) held: usize,
     pub(crate) from: usize,
     pub(crate) parts: usize,
 }
@@ -45,9 +44,9 @@ pub(crate) struct Sink {
 // The held text becomes a record.
 pub(crate) fn close_held(words: &mut [u32], w: Whole, k: Sink) -> Sink
     requires { ⌜ Fits k ⌝ }
-    ensures { λ r. ⌜ ((T : List ℕ) → outOf r (now (words .exit)) T ≡ closed (wholeOf w) (outOf k (now (words .entry)) T)) × (r .parts ≡ k .parts) ⌝ }
+    ensures { λ r. ⌜ Closes w (now (words .entry)) (now (words .exit)) k r ⌝ }
 {
-    if k.held {
+    if k.held == 1 {
         let record = Record {
             kind: w.kind,
             offset: k.from as u32,
@@ -62,7 +61,7 @@ pub(crate) fn close_held(words: &mut [u32], w: Whole, k: Sink) -> Sink
         return Sink {
             count: k.count + 1,
             used: k.used,
-            held: false,
+            held: 0,
             from: 0,
             parts: k.parts,
         };
@@ -70,26 +69,25 @@ pub(crate) fn close_held(words: &mut [u32], w: Whole, k: Sink) -> Sink
     k
 }
 
-// A record that is no top-level literal, of the text from the used length up to `to`.
+// A record that is no top-level literal, of the text from the used length up to `to`; what was held is closed.
 fn put_inner(
     words: &mut [u32],
     fr: Frame,
-    k: Sink,
+    a: Sink,
     to: usize,
     kind: u32,
     conversion: u32,
     parts: u32,
     place: u32,
 ) -> Sink
-    requires { ⌜ Fits k ⌝ }
-    requires { ⌜ (k .used ≤ to) × (to < 4294967296) ⌝ }
-    ensures { λ r. ⌜ ((t T : List ℕ) → to ≡ k .used + length t → Writes fr kind conversion parts place t (now (words .entry)) (now (words .exit)) T k r) ⌝ }
+    requires { ⌜ Fits a ⌝ }
+    requires { ⌜ (a .used ≤ to) × (to < 4294967296) ⌝ }
+    ensures { λ r. ⌜ ((k : Sink) (t words₀ T : List ℕ) → to ≡ k .used + length t → Closes (fr .whole) words₀ (now (words .entry)) k a → Writes fr kind conversion parts place t words₀ (now (words .exit)) T k r) ⌝ }
 {
-    let a = close_held(words, fr.whole, k);
     let record = Record {
         kind,
-        offset: k.used as u32,
-        length: (to - k.used) as u32,
+        offset: a.used as u32,
+        length: (to - a.used) as u32,
         start: fr.start,
         end: fr.end,
         conversion,
@@ -108,9 +106,9 @@ fn put_inner(
 
 // Where a top-level text that goes on from the used length begins.
 fn held_from(k: Sink) -> usize
-    ensures { λ r. ⌜ r ≡ (if k .held then k .from else k .used) ⌝ }
+    ensures { λ r. ⌜ r ≡ (if isHeld k then k .from else k .used) ⌝ }
 {
-    if k.held {
+    if k.held == 1 {
         return k.from;
     }
     k.used
@@ -126,12 +124,13 @@ pub(crate) fn literal(words: &mut [u32], fr: Frame, k: Sink, to: usize, nested: 
         return Sink {
             count: k.count,
             used: to,
-            held: true,
+            held: 1,
             from: held_from(k),
             parts: k.parts + 1,
         };
     }
-    put_inner(words, fr, k, to, 1, 0, 0, 0)
+    let a = close_held(words, fr.whole, k);
+    put_inner(words, fr, a, to, 1, 0, 0, 0)
 }
 
 // A literal of the text from the used length up to `to`, if there is any.
@@ -162,7 +161,8 @@ fn put_field(
 {
     let base = fr.base as usize;
     let place = (base + at) as u32;
-    put_inner(words, fr, k, to, 2, conversion, parts, place)
+    let a = close_held(words, fr.whole, k);
+    put_inner(words, fr, a, to, 2, conversion, parts, place)
 }
 
 // A record place is kept for a spec, whose parts are counted from none.
@@ -205,44 +205,48 @@ pub(crate) fn fill_spec(words: &mut [u32], fr: Frame, before: Sink, k: Sink) -> 
     }
 }
 
-// The literals of a self-documenting field, whose expression stands from the used length up to `to`; the expression follows them again.
+// If a field documents itself, its literals, with its expression once more behind them.
 fn put_documented(
     words: &mut [u32],
     text: &mut [u8],
     fr: Frame,
     k: Sink,
-    to: usize,
-    spaces: usize,
+    h: Head,
     nested: usize,
 ) -> Sink
     requires { ⌜ Fits k ⌝ }
-    requires { ⌜ (k .used ≤ to) × (loadOf k + to + to + spaces < 4294967280) ⌝ }
-    ensures { λ r. ⌜ UpTo 2 (to + 1 + spaces) k r ⌝ }
-    ensures { λ r. ⌜ ((e T : List ℕ) → to ≡ k .used + length e → now (text .entry) ≡ over T (k .used) e → Documents fr nested e spaces (now (words .entry)) T (now (words .exit)) (now (text .exit)) k r) ⌝ }
+    requires { ⌜ (k .used ≤ h .used) × (loadOf k + h .used + h .used + h .spaces < 4294967280) ⌝ }
+    ensures { λ r. ⌜ UpTo 2 (r .used) k r × (r .used ≤ h .used + 1 + h .spaces) ⌝ }
+    ensures { λ r. ⌜ ((e T : List ℕ) → h .used ≡ k .used + length e → now (text .entry) ≡ over T (k .used) e → Documents fr nested (h .documented) e (h .spaces) (now (words .entry)) T (now (words .exit)) (now (text .exit)) k r) ⌝ }
 {
-    let equal = to + 1;
-    let end = equal + spaces;
-    put(text, to, b'=');
-    add_spaces(text, equal, spaces);
-    add_again(text, end, k.used, to);
-    let a = literal(words, fr, k, equal, nested);
-    literal(words, fr, a, end, nested)
-}
-
-// A self-documenting field has conversion r exactly if it has neither conversion nor spec.
-fn documented_conversion(conversion: u32, parts: u32) -> u32
-    ensures { λ r. ⌜ r ≡ converted true conversion parts ⌝ }
-{
-    if parts == 0 {
-        if conversion == 0 {
-            return 114;
-        }
-        return conversion;
+    if h.documented {
+        let to = h.used;
+        let equal = to + 1;
+        let end = equal + h.spaces;
+        put(text, to, b'=');
+        add_spaces(text, equal, h.spaces);
+        add_again(text, end, k.used, to);
+        let a = literal(words, fr, k, equal, nested);
+        return literal(words, fr, a, end, nested);
     }
-    conversion
+    k
 }
 
-// A field whose expression stands from the used length up to `to`, with its literals if it documents itself, up to its spec.
+// A field's conversion; a self-documenting one with neither conversion nor spec has r.
+fn conversion_of(h: Head, parts: u32) -> u32
+    ensures { λ r. ⌜ r ≡ converted (h .documented) (h .conversion) parts ⌝ }
+{
+    if h.documented {
+        if parts == 0 {
+            if h.conversion == 0 {
+                return 114;
+            }
+        }
+    }
+    h.conversion
+}
+
+// A field whose expression stands from the used length up to the head's, with its literals if it documents itself, up to its spec.
 pub(crate) fn emit_field(
     words: &mut [u32],
     text: &mut [u8],
@@ -257,11 +261,7 @@ pub(crate) fn emit_field(
     requires { ⌜ (k .used ≤ h .used) × (loadOf k + h .used + h .used + h .used + h .spaces + h .spaces < 4294967200) × (fr .base + at < 4294967296) ⌝ }
     ensures { λ r. ⌜ ((e T : List ℕ) → h .used ≡ k .used + length e → now (text .entry) ≡ over T (k .used) e → Emits fr nested (selfDocumenting nested (h .documented) e (h .spaces) ++ (aField nested e (converted (h .documented) (h .conversion) parts) parts at ∷ [])) (now (words .entry)) T (now (words .exit)) (now (text .exit)) k r) ⌝ }
 {
-    if h.documented {
-        let n = h.used - k.used;
-        let a = put_documented(words, text, fr, k, h.used, h.spaces, nested);
-        let conversion = documented_conversion(h.conversion, parts);
-        return put_field(words, fr, a, a.used + n, conversion, parts, at);
-    }
-    put_field(words, fr, k, h.used, h.conversion, parts, at)
+    let a = put_documented(words, text, fr, k, h, nested);
+    let to = a.used + (h.used - k.used);
+    put_field(words, fr, a, to, conversion_of(h, parts), parts, at)
 }

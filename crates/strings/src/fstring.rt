@@ -24,7 +24,7 @@ ghost use Rattle.definition.specs.Chars.{part};
 ghost use Rattle.definition.specs.Body.{textN, fieldN, fresh, specN, enough};
 ghost use Rattle.definition.proofs.Steps.{firstEnd};
 ghost use Rattle.buffers.specs.Over.{over};
-ghost use Rattle.strings.specs.Sinks.{loadOf};
+ghost use Rattle.strings.specs.Sinks.{isHeld, loadOf};
 ghost use Rattle.strings.specs.Fstring.{Room, ReadIs, SpecIs, fieldEnd};
 
 const EXPRESSION_NESTED_TOO_DEEPLY: u32 = 24;
@@ -109,7 +109,7 @@ fn parse_spec(
     k: Sink,
 ) -> Read
     requires { ⌜ Room (now s) (at .at) fr k ⌝ }
-    requires { ⌜ (nested ≤ 1) × (k .held ≡ false) × (loadOf k + 8 * (length (now s) - at .at) < 16777216) ⌝ }
+    requires { ⌜ (nested ≤ 1) × (isHeld k ≡ false) × (loadOf k + 8 * (length (now s) - at .at) < 16777216) ⌝ }
     ensures { λ r. ⌜ SpecIs (specN (enough (now (s .entry))) (fr .kind) (now (s .entry)) nested (at .at)) fr nested (now (words .entry)) (now (text .entry)) (now (words .exit)) (now (text .exit)) k r ⌝ }
 {
     let first = read_first(s, at, text, k.used);

@@ -128,7 +128,7 @@ fn read_list(
     let mut sink = Sink {
         count: 0,
         used: 0,
-        held: false,
+        held: 0,
         from: 0,
         parts: 0,
     };

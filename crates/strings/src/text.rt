@@ -312,15 +312,15 @@ fn is_plain(s: &[u8], from: usize, to: usize, kind: u32) -> bool
     !is_foreign(wide(most), kind)
 }
 
-// How far from an index on whole blocks of 64 bytes are plain.
-fn plain_blocks(s: &[u8], at: usize, kind: u32) -> usize
-    requires { ⌜ at ≤ length (now s) ⌝ }
+// How far from an index on whole blocks of a size are plain.
+fn plain_blocks(s: &[u8], at: usize, size: usize, kind: u32) -> usize
+    requires { ⌜ (at ≤ length (now s)) × (0 < size) ⌝ }
     ensures { λ r. ⌜ (at ≤ r) × (r ≤ length (now (s .entry))) × AllPlain kind (now (s .entry)) at r ⌝ }
 {
     let mut i = at;
-    while 64 <= s.len() - i {
-        if is_plain(s, i, i + 64, kind) {
-            i += 64;
+    while size <= s.len() - i {
+        if is_plain(s, i, i + size, kind) {
+            i += size;
         } else {
             return i;
         }
@@ -328,18 +328,34 @@ fn plain_blocks(s: &[u8], at: usize, kind: u32) -> usize
     i
 }
 
-// Where the plain bytes from an index on end: byte by byte at first, then by blocks.
+// Where the plain bytes from an index on end, by blocks: the last eight bytes may be looked at twice.
+fn plain_far(s: &[u8], at: usize, kind: u32) -> usize
+    requires { ⌜ (8 ≤ at) × (at ≤ length (now s)) ⌝ }
+    ensures { λ r. ⌜ r ≡ plainEnd kind (now (s .entry)) at ⌝ }
+{
+    let n = s.len();
+    let i = plain_blocks(s, at, 64, kind);
+    let j = plain_blocks(s, i, 8, kind);
+    if n - j < 8 {
+        if is_plain(s, n - 8, n, kind) {
+            return n;
+        }
+    }
+    plain_to(s, j, n, kind)
+}
+
+// Where the plain bytes from an index on end: by blocks if the first eight are plain.
 fn plain_end(s: &[u8], at: usize, kind: u32) -> usize
     requires { ⌜ at ≤ length (now s) ⌝ }
     ensures { λ r. ⌜ r ≡ plainEnd kind (now (s .entry)) at ⌝ }
 {
-    let to = utf8::near(at, s.len());
-    let i = plain_to(s, at, to, kind);
-    if i < to {
-        return i;
+    let n = s.len();
+    if 8 <= n - at {
+        if is_plain(s, at, at + 8, kind) {
+            return plain_far(s, at + 8, kind);
+        }
     }
-    let j = plain_blocks(s, i, kind);
-    plain_to(s, j, s.len(), kind)
+    plain_to(s, at, n, kind)
 }
 
 // The plain bytes from a cursor on go into the text, as one run.

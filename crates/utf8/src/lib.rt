@@ -224,7 +224,7 @@ fn ascii_bytes(s: &[u8], from: usize, to: usize) -> usize
 }
 
 // The index 16 bytes further, or the end where that is nearer.
-pub fn near(at: usize, len: usize) -> usize
+fn near(at: usize, len: usize) -> usize
     ensures { λ r. ⌜ r ≡ min (at + 16) len ⌝ }
 {
     if len < 16 {

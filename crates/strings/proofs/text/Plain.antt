@@ -18,7 +18,7 @@ use Rattle.definition.proofs.Moves.{part-short}
 use Rattle.definition.proofs.Whole.{string-on, text-on}
 use Rattle.buffers.proofs.Over.{over-append}
 use Rattle.strings.specs.declared.text.Reached.{Reached}
-use Rattle.strings.specs.Text.{special, plainEnd, AllPlain, PlainIs, Upto, TextFrom}
+use Rattle.strings.specs.Text.{special, plainEnd, PlainTo, AllPlain, PlainIs, Upto, TextFrom}
 use Rattle.strings.proofs.text.Laws.{StringFrom}
 
 either : (a b : Bool) → (a || b) ≡ false → (a ≡ false) × (b ≡ false)
@@ -77,6 +77,11 @@ module _ (kind : ℕ) (s : List ℕ) where
   end-all i j h l f =
       let e : i + (j - i) ≡ j = omega arith in
       rw e at (end-skip i (j - i) (omega arith) (λ k a b. f k a (omega arith)))
+
+  -- a run that ends before a byte that is not plain, or where the body ends
+  pub end-to : (i r : ℕ) → PlainTo kind s i (length s) r → plainEnd kind s i ≡ r
+  end-to i r q =
+      q .same ∙ cases (leb (length s) r) (λ t. end-past r (q .within) (leb-true _ _ t)) (λ t. q .ends (leb-false _ _ t))
 
   -- a byte that no character begins with is plain, but in bytes
   tail-plain : (b : ℕ) → isBytes kind ≡ false → 0x80 ≤ b → special kind b ≡ false

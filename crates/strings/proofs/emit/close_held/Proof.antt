@@ -1,6 +1,5 @@
 -- `strings::emit::close_held` meets its contract. Assumes nothing.
 use borrow.Author.Needs.{needs}
-use mathlib.Core.Path.{refl}
 use Rattle.strings.proofs.SinkLaws.{closed-held, closed-none}
 use Rattle.strings.proofs.emit.close_held.Statement.{statement}
 use Rattle.strings.proofs.emit.close_held.Tie as tie
@@ -15,5 +14,5 @@ close-held-spec =
     (λ c κs. search needs)  -- put-record-requires
     (λ c. search needs)  -- add-t7
     (λ c. search needs)  -- same-length
-    (λ c. let a = c .before .before .before .before .before .before .before .before .before .args in (closed-held (a .w) (a .k) (a .words .now) _ (c .before .before .before .before .before .before .before .if1 .taken) (c .before .before .before .put-record .ensures), refl))  -- returns
-    (λ c. let a = c .before .before .args in (closed-none (a .w) (a .k) (a .words .now) (c .if1 .left), refl)))  -- returns-2
+    (λ c. let a = c .before .before .before .before .before .before .before .before .before .before .args in closed-held (a .w) (a .k) (a .words .now) _ (c .before .before .before .before .before .before .before .if1 .taken) (c .before .before .before .put-record .ensures))  -- returns
+    (λ c. let a = c .before .before .before .args in closed-none (a .w) (a .k) (a .words .now) (c .if1 .left)))  -- returns-2

@@ -1,4 +1,5 @@
 -- `strings::emit::held_from` meets its contract. Assumes nothing.
+use borrow.Author.Tests.{eq-eqb, ne-eqb}
 use Rattle.strings.proofs.emit.held_from.Statement.{statement}
 use Rattle.strings.proofs.emit.held_from.Tie as tie
 
@@ -6,5 +7,5 @@ pub held-from-spec : {M : Type 1} → statement M
 held-from-spec =
     tie.close
     (tie.spec
-    (λ c. rw (c .if1 .taken))  -- returns
-    (λ c. rw (c .if1 .left)))  -- returns-2
+    (λ c. rw (eq-eqb _ _ (c .if1 .taken)))  -- returns
+    (λ c. rw (ne-eqb _ _ (c .if1 .left))))  -- returns-2

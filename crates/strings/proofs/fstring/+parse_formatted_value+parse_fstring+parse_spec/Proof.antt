@@ -156,20 +156,20 @@ pub +parse-formatted-value+parse-fstring+parse-spec-spec : {M : Type 1} → stat
     (λ c κs. search needs)  -- read-first-requires
     (λ c κs. let R = (c .before .before .before .before .before .before .before .before .before .pre .1 .0) in fits _ _ _ _ R)  -- reserve-requires
     (λ c. let Z = (c .before .before .before .before .before .before .before .before .before .before .pre .1 .1) in let z = Z .0 in search needs)  -- add-end-text
-    (λ c κs. let a = (c .before .before .before .before .before .before .before .before .before .before .args) in let R = (c .before .before .before .before .before .before .before .before .before .before .pre .1 .0) in let K = kept (a .k) _ (c .reserve .ensures .0) (c .reserve .ensures .1) in let F = (c .before .before .before .before .before .read-first .ensures) in let lo = first-in (a .s .now) (a .at .at) (R .low) in (record { small = omega (arith, K .load, R .load); ordered = K .ordered (R .ordered) }, (omega (arith, K .used, F .0, F .1), omega (arith, F .0, F .1, R .load, R .small))))  -- end-text-requires
+    (λ c κs. let a = (c .before .before .before .before .before .before .before .before .before .before .args) in let R = (c .before .before .before .before .before .before .before .before .before .before .pre .1 .0) in let K = kept (a .k) (c .reserve .result) (c .reserve .ensures .0) (c .reserve .ensures .1) in let F = (c .before .before .before .before .before .read-first .ensures) in let lo = first-in (a .s .now) (a .at .at) (R .low) in (record { small = omega (arith, K .load, R .load); ordered = K .ordered (R .ordered) }, (omega (arith, K .used, F .0, F .1), omega (arith, F .0, F .1, R .load, R .small))))  -- end-text-requires
     (λ c κs. search needs)  -- peek-requires
-    (λ c κs. let a = (c .before .before .before .before .before .before .before .before .before .before .before .before .before .before .before .before .args) in let R = (c .before .before .before .before .before .before .before .before .before .before .before .before .before .before .before .before .pre .1 .0) in let Z = (c .before .before .before .before .before .before .before .before .before .before .before .before .before .before .before .before .pre .1 .1) in let K = kept (a .k) _ (c .before .before .before .before .before .before .reserve .ensures .0) (c .before .before .before .before .before .before .reserve .ensures .1) in let F = (c .before .before .before .before .before .before .before .before .before .before .before .read-first .ensures) in let g = rw (add-one (a .nested)) at (c .before .before .before .before .before .end-text .ensures) in (fits _ _ _ _ R, fits _ _ _ _ (first-room (a .s .now) (a .nested) (a .at .at) (a .fr) _ _ _ _ (a .k) _ _ _ _ R (Z .2) K (F .0) (F .1) (F .2) g)))  -- fill-spec-requires
+    (λ c κs. let a = (c .before .before .before .before .before .before .before .before .before .before .before .before .before .before .before .before .args) in let R = (c .before .before .before .before .before .before .before .before .before .before .before .before .before .before .before .before .pre .1 .0) in let Z = (c .before .before .before .before .before .before .before .before .before .before .before .before .before .before .before .before .pre .1 .1) in let K = kept (a .k) (c .before .before .before .before .before .before .reserve .result) (c .before .before .before .before .before .before .reserve .ensures .0) (c .before .before .before .before .before .before .reserve .ensures .1) in let F = (c .before .before .before .before .before .before .before .before .before .before .before .read-first .ensures) in let g = rw (add-one (a .nested)) at (c .before .before .before .before .before .end-text .ensures) in (fits _ _ _ _ R, fits _ _ _ _ (first-room (a .s .now) (a .nested) (a .at .at) (a .fr) _ _ _ _ (a .k) _ _ _ _ R (Z .2) K (F .0) (F .1) (F .2) g)))  -- fill-spec-requires
     (λ c. search needs)  -- same-length
     (λ c. search needs)  -- same-length-2
-    (λ c. let a = (c .before .before .before .before .before .before .before .before .before .before .before .before .before .before .before .before .before .before .before .args) in let R = (c .before .before .before .before .before .before .before .before .before .before .before .before .before .before .before .before .before .before .before .pre .1 .0) in let Z = (c .before .before .before .before .before .before .before .before .before .before .before .before .before .before .before .before .before .before .before .pre .1 .1) in let K = kept (a .k) _ (c .before .before .before .before .before .before .before .before .before .reserve .ensures .0) (c .before .before .before .before .before .before .before .before .before .reserve .ensures .1) in let F = (c .before .before .before .before .before .before .before .before .before .before .before .before .before .before .read-first .ensures) in let g = rw (add-one (a .nested)) at (c .before .before .before .before .before .before .before .before .end-text .ensures) in spec-plain (a .s .now) (a .nested) (a .at .at) (a .fr) _ _ _ _ (a .k) _ _ _ _ R (Z .2) K (F .0) (F .1) (F .2) g (Z .1) (c .before .before .before .before .before .before .before .before .before .reserve .ensures .0) (c .before .before .before .before .before .before .before .before .before .reserve .ensures .1) _ _ _ refl (ne-eqb _ _ (λ e. (c .before .before .before .before .if1 .taken) ((c .before .before .before .before .before .peek .ensures) ∙ e))) (c .before .before .fill-spec .ensures .0) (c .before .before .fill-spec .ensures .1))  -- returns
+    (λ c. let a = (c .before .before .before .before .before .before .before .before .before .before .before .before .before .before .before .before .before .before .before .args) in let R = (c .before .before .before .before .before .before .before .before .before .before .before .before .before .before .before .before .before .before .before .pre .1 .0) in let Z = (c .before .before .before .before .before .before .before .before .before .before .before .before .before .before .before .before .before .before .before .pre .1 .1) in let K = kept (a .k) (c .before .before .before .before .before .before .before .before .before .reserve .result) (c .before .before .before .before .before .before .before .before .before .reserve .ensures .0) (c .before .before .before .before .before .before .before .before .before .reserve .ensures .1) in let F = (c .before .before .before .before .before .before .before .before .before .before .before .before .before .before .read-first .ensures) in let g = rw (add-one (a .nested)) at (c .before .before .before .before .before .before .before .before .end-text .ensures) in spec-plain (a .s .now) (a .nested) (a .at .at) (a .fr) _ _ _ _ (a .k) _ _ _ _ R (Z .2) K (F .0) (F .1) (F .2) g (Z .1) (c .before .before .before .before .before .before .before .before .before .reserve .ensures .0) (c .before .before .before .before .before .before .before .before .before .reserve .ensures .1) _ _ _ refl (ne-eqb _ _ (λ e. (c .before .before .before .before .if1 .taken) ((c .before .before .before .before .before .peek .ensures) ∙ e))) (c .before .before .fill-spec .ensures .0) (c .before .before .fill-spec .ensures .1))  -- returns
     (λ c. let Z = (c .before .before .before .before .before .before .before .before .before .before .before .before .before .before .before .pre .1 .1) in let z = Z .0 in search needs)  -- add-parse-fstring
-    (λ c κs. let a = (c .before .before .before .before .before .before .before .before .before .before .before .before .before .before .before .before .before .args) in let R = (c .before .before .before .before .before .before .before .before .before .before .before .before .before .before .before .before .before .pre .1 .0) in let Z = (c .before .before .before .before .before .before .before .before .before .before .before .before .before .before .before .before .before .pre .1 .1) in let K = kept (a .k) _ (c .before .before .before .before .before .before .before .reserve .ensures .0) (c .before .before .before .before .before .before .before .reserve .ensures .1) in let F = (c .before .before .before .before .before .before .before .before .before .before .before .before .read-first .ensures) in let g = rw (add-one (a .nested)) at (c .before .before .before .before .before .before .end-text .ensures) in let lo = first-in (a .s .now) (a .at .at) (R .low) in let q = first-room (a .s .now) (a .nested) (a .at .at) (a .fr) _ _ _ _ (a .k) _ _ _ _ R (Z .2) K (F .0) (F .1) (F .2) g in (omega (arith, (c .before .before .before .before .before .before .before .before .before .before .before .before .before .before .before .before .before .pre .0), Z .0, F .0, q .low), (q, omega (arith, Z .0))))  -- parse-fstring-requires
+    (λ c κs. let a = (c .before .before .before .before .before .before .before .before .before .before .before .before .before .before .before .before .before .args) in let R = (c .before .before .before .before .before .before .before .before .before .before .before .before .before .before .before .before .before .pre .1 .0) in let Z = (c .before .before .before .before .before .before .before .before .before .before .before .before .before .before .before .before .before .pre .1 .1) in let K = kept (a .k) (c .before .before .before .before .before .before .before .reserve .result) (c .before .before .before .before .before .before .before .reserve .ensures .0) (c .before .before .before .before .before .before .before .reserve .ensures .1) in let F = (c .before .before .before .before .before .before .before .before .before .before .before .before .read-first .ensures) in let g = rw (add-one (a .nested)) at (c .before .before .before .before .before .before .end-text .ensures) in let lo = first-in (a .s .now) (a .at .at) (R .low) in let q = first-room (a .s .now) (a .nested) (a .at .at) (a .fr) _ _ _ _ (a .k) _ _ _ _ R (Z .2) K (F .0) (F .1) (F .2) g in (omega (arith, (c .before .before .before .before .before .before .before .before .before .before .before .before .before .before .before .before .before .pre .0), Z .0, F .0, q .low), (q, omega (arith, Z .0))))  -- parse-fstring-requires
     (λ c. search needs)  -- enum-known-r
     (λ c. search needs)  -- enum-known-next
-    (λ c κs. let a = (c .before .before .before .before .before .before .before .before .before .before .before .before .before .before .before .before .before .before .before .before .before .before .before .before .before .before .args) in let R = (c .before .before .before .before .before .before .before .before .before .before .before .before .before .before .before .before .before .before .before .before .before .before .before .before .before .before .pre .1 .0) in let Z = (c .before .before .before .before .before .before .before .before .before .before .before .before .before .before .before .before .before .before .before .before .before .before .before .before .before .before .pre .1 .1) in let K = kept (a .k) _ (c .before .before .before .before .before .before .before .before .before .before .before .before .before .before .before .before .reserve .ensures .0) (c .before .before .before .before .before .before .before .before .before .before .before .before .before .before .before .before .reserve .ensures .1) in let F = (c .before .before .before .before .before .before .before .before .before .before .before .before .before .before .before .before .before .before .before .before .before .read-first .ensures) in let g = rw (add-one (a .nested)) at (c .before .before .before .before .before .before .before .before .before .before .before .before .before .before .before .end-text .ensures) in let Q = rw (add-one (a .nested), (c .before .before .next .given .1)) at (c .before .before .before .before .before .before .before .before .parse-fstring .ensures) in let H = gave _ _ _ _ _ _ _ _ _ _ _ Q in (fits _ _ _ _ R, spec-fits (a .s .now) (a .nested) (a .at .at) (a .fr) _ _ _ _ (a .k) _ _ _ _ R (Z .2) K (F .0) (F .1) (F .2) g (Z .1) (c .before .before .before .before .before .before .before .before .before .before .before .before .before .before .before .before .reserve .ensures .0) (c .before .before .before .before .before .before .before .before .before .before .before .before .before .before .before .before .reserve .ensures .1) _ _ _ _ H))  -- fill-spec-requires-2
+    (λ c κs. let a = (c .before .before .before .before .before .before .before .before .before .before .before .before .before .before .before .before .before .before .before .before .before .before .before .before .before .before .args) in let R = (c .before .before .before .before .before .before .before .before .before .before .before .before .before .before .before .before .before .before .before .before .before .before .before .before .before .before .pre .1 .0) in let Z = (c .before .before .before .before .before .before .before .before .before .before .before .before .before .before .before .before .before .before .before .before .before .before .before .before .before .before .pre .1 .1) in let K = kept (a .k) (c .before .before .before .before .before .before .before .before .before .before .before .before .before .before .before .before .reserve .result) (c .before .before .before .before .before .before .before .before .before .before .before .before .before .before .before .before .reserve .ensures .0) (c .before .before .before .before .before .before .before .before .before .before .before .before .before .before .before .before .reserve .ensures .1) in let F = (c .before .before .before .before .before .before .before .before .before .before .before .before .before .before .before .before .before .before .before .before .before .read-first .ensures) in let g = rw (add-one (a .nested)) at (c .before .before .before .before .before .before .before .before .before .before .before .before .before .before .before .end-text .ensures) in let Q = rw (add-one (a .nested), (c .before .before .next .given .1)) at (c .before .before .before .before .before .before .before .before .parse-fstring .ensures) in let H = gave _ _ _ _ _ _ _ _ _ _ _ Q in (fits _ _ _ _ R, spec-fits (a .s .now) (a .nested) (a .at .at) (a .fr) _ _ _ _ (a .k) _ _ _ _ R (Z .2) K (F .0) (F .1) (F .2) g (Z .1) (c .before .before .before .before .before .before .before .before .before .before .before .before .before .before .before .before .reserve .ensures .0) (c .before .before .before .before .before .before .before .before .before .before .before .before .before .before .before .before .reserve .ensures .1) _ _ _ _ H))  -- fill-spec-requires-2
     (λ c. let l0 = (c .before .before .before .before .text2 .given) in let l1 = (c .before .before .before .before .before .before .words3 .given) in let l2 = (c .before .before .before .before .before .before .before .before .before .before .before .before .before .words .given) in let l3 = (c .before .before .before .before .before .before .before .before .before .before .before .before .before .before .before .before .before .before .before .text .given) in search needs)  -- same-length-3
     (λ c. let l0 = (c .before .before .before .before .text2 .given) in let l1 = (c .before .before .before .before .before .before .words3 .given) in let l2 = (c .before .before .before .before .before .before .before .before .before .before .before .before .before .words .given) in let l3 = (c .before .before .before .before .before .before .before .before .before .before .before .before .before .before .before .before .before .before .before .text .given) in search needs)  -- same-length-4
-    (λ c. let a = (c .before .before .before .before .before .before .before .before .before .before .before .before .before .before .before .before .before .before .before .before .before .before .before .before .before .args) in let R = (c .before .before .before .before .before .before .before .before .before .before .before .before .before .before .before .before .before .before .before .before .before .before .before .before .before .pre .1 .0) in let Z = (c .before .before .before .before .before .before .before .before .before .before .before .before .before .before .before .before .before .before .before .before .before .before .before .before .before .pre .1 .1) in let K = kept (a .k) _ (c .before .before .before .before .before .before .before .before .before .before .before .before .before .before .before .reserve .ensures .0) (c .before .before .before .before .before .before .before .before .before .before .before .before .before .before .before .reserve .ensures .1) in let F = (c .before .before .before .before .before .before .before .before .before .before .before .before .before .before .before .before .before .before .before .before .read-first .ensures) in let g = rw (add-one (a .nested)) at (c .before .before .before .before .before .before .before .before .before .before .before .before .before .before .end-text .ensures) in let Q = rw (add-one (a .nested), (c .before .r .given .1)) at (c .before .before .before .before .before .before .before .parse-fstring .ensures) in spec-refused (a .s .now) (a .nested) (a .at .at) (a .fr) _ _ _ _ (a .k) _ _ _ _ R (Z .2) K (F .0) (F .1) (F .2) g (Z .1) (c .before .before .before .before .before .before .before .before .before .before .before .before .before .before .before .reserve .ensures .0) (c .before .before .before .before .before .before .before .before .before .before .before .before .before .before .before .reserve .ensures .1) (eq-eqb _ _ (sym (c .before .before .before .before .before .before .before .before .before .before .before .peek .ensures) ∙ (c .before .before .before .before .before .before .before .before .before .before .if1 .left))) _ _ _ (refuses _ _ _ _ _ _ _ _ _ _ Q))  -- returns-2
+    (λ c. let a = (c .before .before .before .before .before .before .before .before .before .before .before .before .before .before .before .before .before .before .before .before .before .before .before .before .before .args) in let R = (c .before .before .before .before .before .before .before .before .before .before .before .before .before .before .before .before .before .before .before .before .before .before .before .before .before .pre .1 .0) in let Z = (c .before .before .before .before .before .before .before .before .before .before .before .before .before .before .before .before .before .before .before .before .before .before .before .before .before .pre .1 .1) in let K = kept (a .k) (c .before .before .before .before .before .before .before .before .before .before .before .before .before .before .before .reserve .result) (c .before .before .before .before .before .before .before .before .before .before .before .before .before .before .before .reserve .ensures .0) (c .before .before .before .before .before .before .before .before .before .before .before .before .before .before .before .reserve .ensures .1) in let F = (c .before .before .before .before .before .before .before .before .before .before .before .before .before .before .before .before .before .before .before .before .read-first .ensures) in let g = rw (add-one (a .nested)) at (c .before .before .before .before .before .before .before .before .before .before .before .before .before .before .end-text .ensures) in let Q = rw (add-one (a .nested), (c .before .r .given .1)) at (c .before .before .before .before .before .before .before .parse-fstring .ensures) in spec-refused (a .s .now) (a .nested) (a .at .at) (a .fr) _ _ _ _ (a .k) _ _ _ _ R (Z .2) K (F .0) (F .1) (F .2) g (Z .1) (c .before .before .before .before .before .before .before .before .before .before .before .before .before .before .before .reserve .ensures .0) (c .before .before .before .before .before .before .before .before .before .before .before .before .before .before .before .reserve .ensures .1) (eq-eqb _ _ (sym (c .before .before .before .before .before .before .before .before .before .before .before .peek .ensures) ∙ (c .before .before .before .before .before .before .before .before .before .before .if1 .left))) _ _ _ (refuses _ _ _ _ _ _ _ _ _ _ Q))  -- returns-2
     (λ c. let l0 = (c .before .words4 .given) in let l1 = (c .before .before .before .before .before .before .before .before .text2 .given) in let l2 = (c .before .before .before .before .before .before .before .before .before .before .words3 .given) in let l3 = (c .before .before .before .before .before .before .before .before .before .before .before .before .before .before .before .before .before .words .given) in let l4 = (c .before .before .before .before .before .before .before .before .before .before .before .before .before .before .before .before .before .before .before .before .before .before .before .text .given) in search needs)  -- same-length-5
     (λ c. let l0 = (c .before .words4 .given) in let l1 = (c .before .before .before .before .before .before .before .before .text2 .given) in let l2 = (c .before .before .before .before .before .before .before .before .before .before .words3 .given) in let l3 = (c .before .before .before .before .before .before .before .before .before .before .before .before .before .before .before .before .before .words .given) in let l4 = (c .before .before .before .before .before .before .before .before .before .before .before .before .before .before .before .before .before .before .before .before .before .before .before .text .given) in search needs)  -- same-length-6
-    (λ c. let a = (c .before .before .before .before .before .before .before .before .before .before .before .before .before .before .before .before .before .before .before .before .before .before .before .before .before .before .before .before .before .args) in let R = (c .before .before .before .before .before .before .before .before .before .before .before .before .before .before .before .before .before .before .before .before .before .before .before .before .before .before .before .before .before .pre .1 .0) in let Z = (c .before .before .before .before .before .before .before .before .before .before .before .before .before .before .before .before .before .before .before .before .before .before .before .before .before .before .before .before .before .pre .1 .1) in let K = kept (a .k) _ (c .before .before .before .before .before .before .before .before .before .before .before .before .before .before .before .before .before .before .before .reserve .ensures .0) (c .before .before .before .before .before .before .before .before .before .before .before .before .before .before .before .before .before .before .before .reserve .ensures .1) in let F = (c .before .before .before .before .before .before .before .before .before .before .before .before .before .before .before .before .before .before .before .before .before .before .before .before .read-first .ensures) in let g = rw (add-one (a .nested)) at (c .before .before .before .before .before .before .before .before .before .before .before .before .before .before .before .before .before .before .end-text .ensures) in let Q = rw (add-one (a .nested), (c .before .before .before .before .before .next .given .1)) at (c .before .before .before .before .before .before .before .before .before .before .before .parse-fstring .ensures) in spec-braced (a .s .now) (a .nested) (a .at .at) (a .fr) _ _ _ _ (a .k) _ _ _ _ R (Z .2) K (F .0) (F .1) (F .2) g (Z .1) (c .before .before .before .before .before .before .before .before .before .before .before .before .before .before .before .before .before .before .before .reserve .ensures .0) (c .before .before .before .before .before .before .before .before .before .before .before .before .before .before .before .before .before .before .before .reserve .ensures .1) (eq-eqb _ _ (sym (c .before .before .before .before .before .before .before .before .before .before .before .before .before .before .before .peek .ensures) ∙ (c .before .before .before .before .before .before .before .before .before .before .before .before .before .before .if1 .left))) _ _ _ _ _ _ (gave _ _ _ _ _ _ _ _ _ _ _ Q) (c .before .before .fill-spec2 .ensures .0) (c .before .before .fill-spec2 .ensures .1)))  -- returns-3
+    (λ c. let a = (c .before .before .before .before .before .before .before .before .before .before .before .before .before .before .before .before .before .before .before .before .before .before .before .before .before .before .before .before .before .args) in let R = (c .before .before .before .before .before .before .before .before .before .before .before .before .before .before .before .before .before .before .before .before .before .before .before .before .before .before .before .before .before .pre .1 .0) in let Z = (c .before .before .before .before .before .before .before .before .before .before .before .before .before .before .before .before .before .before .before .before .before .before .before .before .before .before .before .before .before .pre .1 .1) in let K = kept (a .k) (c .before .before .before .before .before .before .before .before .before .before .before .before .before .before .before .before .before .before .before .reserve .result) (c .before .before .before .before .before .before .before .before .before .before .before .before .before .before .before .before .before .before .before .reserve .ensures .0) (c .before .before .before .before .before .before .before .before .before .before .before .before .before .before .before .before .before .before .before .reserve .ensures .1) in let F = (c .before .before .before .before .before .before .before .before .before .before .before .before .before .before .before .before .before .before .before .before .before .before .before .before .read-first .ensures) in let g = rw (add-one (a .nested)) at (c .before .before .before .before .before .before .before .before .before .before .before .before .before .before .before .before .before .before .end-text .ensures) in let Q = rw (add-one (a .nested), (c .before .before .before .before .before .next .given .1)) at (c .before .before .before .before .before .before .before .before .before .before .before .parse-fstring .ensures) in spec-braced (a .s .now) (a .nested) (a .at .at) (a .fr) _ _ _ _ (a .k) _ _ _ _ R (Z .2) K (F .0) (F .1) (F .2) g (Z .1) (c .before .before .before .before .before .before .before .before .before .before .before .before .before .before .before .before .before .before .before .reserve .ensures .0) (c .before .before .before .before .before .before .before .before .before .before .before .before .before .before .before .before .before .before .before .reserve .ensures .1) (eq-eqb _ _ (sym (c .before .before .before .before .before .before .before .before .before .before .before .before .before .before .before .peek .ensures) ∙ (c .before .before .before .before .before .before .before .before .before .before .before .before .before .before .if1 .left))) _ _ _ _ _ _ (gave _ _ _ _ _ _ _ _ _ _ _ Q) (c .before .before .fill-spec2 .ensures .0) (c .before .before .fill-spec2 .ensures .1)))  -- returns-3
