@@ -17,7 +17,7 @@ use inputs::{Case, Input};
 use std::time::{Duration, Instant};
 
 /// Each input is timed so often, and the best time counts.
-const ROUNDS: usize = 7;
+const ROUNDS: usize = 15;
 
 /// Buffers that are lent to each call.
 struct Buffers {

@@ -103,7 +103,6 @@ module _ (s : List ℕ) (i : ℕ) where
     three : 2 < n → Tail (i + 2)
     four : 3 < n → Tail (i + 3)
     wide : 0x80 ≤ byte s i → 0x80 ≤ decoded n s i
-    below : decoded n s i < noCode
 
   formed : Formed (width s i)
   unfolding table37 decoded
@@ -152,10 +151,6 @@ module _ (s : List ℕ) (i : ℕ) where
           (λ (k : length s < next s i).
           let t = between (next s i - 1) (omega arith) (omega arith) in
           omega (arith, byte-in s (next s i - 1) (omega arith)))
-
-  pub code-below : i < length s → code s i < noCode
-  unfolding code
-  code-below h = rw (lt-leb _ _ h) (formed .below)
 
   -- every character of more than a byte is above ASCII, and what stands past the end
   pub code-wide : 0x80 ≤ byte s i → 0x80 ≤ code s i

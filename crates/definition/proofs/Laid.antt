@@ -2,7 +2,7 @@
 use mathlib.Core.Path.{_≡_, refl, sym, _∙_, ap, ap₂}
 use mathlib.Core.Bool.{Bool, true, false}
 use mathlib.Core.List.{List, [], _∷_, _++_, map, append-assoc, append-nil}
-use Prim.Native.Nat.{ℕ, _+_}
+use Prim.Native.Nat.{ℕ, suc, _+_}
 use native.Mathlib.Nat.{add-assoc, add-zero, zero-add}
 use lib.ListN.{length, length-append}
 use Rattle.definition.specs.Records.{Role, touching, Item, Record, glue, merge, bothItems, merged, texts, recordAt, laid, cover, Sort, answerOf}
@@ -25,6 +25,12 @@ items-assoc a b c = ap (λ t. texted t a) (append-assoc (a .text) (b .text) (c .
 at-both : (n m : ℕ) (a b : Item) → recordAt n (bothItems a b) ≡ bothRecords (recordAt n a) (recordAt m b)
 unfolding recordAt bothItems bothRecords
 at-both n m a b = ap (λ l. textAt n l (recordAt n a)) (length-append (a .text) (b .text))
+
+-- a record for each item
+pub laid-length : (f : Record → Record) (n : ℕ) (xs : List Item) → length (map f (laid n xs)) ≡ length xs
+unfolding laid
+laid-length f n [] = refl
+laid-length f n (x ∷ xs) = ap suc (laid-length f (n + length (x .text)) xs)
 
 -- the text is kept
 texts-glue : (a : Item) (ys : List Item) → texts (glue itemRole bothItems a ys) ≡ a .text ++ texts ys

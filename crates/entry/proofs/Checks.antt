@@ -4,14 +4,20 @@ use mathlib.Core.List.{List, [], _∷_}
 use mathlib.Core.Option.{Option, none, some}
 use Prim.Native.Nat.{ℕ, _*_, _%_, _≤_, _<_}
 use native.Mathlib.Omega.{arith}
-use borrow.Author.Tests.{lt-ltb, le-ltb}
+use borrow.Author.Tests.{lt-ltb, le-ltb, ltb-false}
+use lib.Dec.{ltb}
 use lib.ListN.{length}
 use Rattle.definition.specs.Numbers.{emptyList, notSixes, tooManyLiterals}
 use Rattle.definition.specs.Entry.{Refusal, refusal, notEmpty, notMany, firstOf, entry}
 use Rattle.definition.specs.Reading.{accepts, refuses}
-use Rattle.entry.specs.Answers.{outcomeOf, laterChecks, checkNumbers}
+use Rattle.definition.proofs.CharLaws.{cases}
+use Rattle.entry.specs.Answers.{outcomeOf, laterChecks, checkNumbers, roomFor}
 use Rattle.entry.specs.Literals.{literals}
 use Rattle.entry.proofs.Literals.{first-is, length-literals, sixes-some, sixes-none}
+
+-- nothing is left to show
+pub clash : {P : Type 0} → _≡_ {A = ℕ} 0 1 → P
+clash e = absurd (omega arith)
 
 -- what a check gave, by what it says
 pub passes : (n k : ℕ) (c : Option Refusal) → accepts k ≡ outcomeOf n c → c ≡ none
@@ -64,3 +70,10 @@ module _ (script ns : List ℕ) (n : ℕ) (six : length ns ≡ n * 6) where
   pub checked-few : 0 < n → n ≤ 1024 → checkNumbers script ns ≡ outcomeOf n (laterChecks script (literals ns 0 n))
   unfolding entry notMany firstOf laterChecks
   checked-few h few = rw (checked, not-empty h, length-literals ns 0 n, le-ltb 1024 n few)
+
+-- no refusal for want of room: all that is needed is there
+pub room-enough : (places bytes records used : ℕ) → roomFor places bytes records used ≡ none → (records ≤ places) × (used ≤ bytes)
+unfolding roomFor
+room-enough places bytes records used e =
+    cases (ltb places records) (λ t. clash (let z = rw t at e in cc))
+    (λ t. cases (ltb bytes used) (λ u. clash (let z = rw (t, u) at e in cc)) (λ u. (ltb-false _ _ t, ltb-false _ _ u)))

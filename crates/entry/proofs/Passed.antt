@@ -18,17 +18,13 @@ use Rattle.definition.proofs.CharLaws.{cases}
 use Rattle.entry.specs.Answers.{checkNumbers}
 use Rattle.entry.specs.Literals.{literalAt, literals}
 use Rattle.entry.proofs.Literals.{endBefore, badFrom, bad-turn, bad-found, none-left, one-left, length-literals, sixes-some}
-use Rattle.entry.proofs.Checks.{passes, passes-all, refused, checked-not-sixes, checked}
+use Rattle.entry.proofs.Checks.{clash, passes, passes-all, refused, checked-not-sixes, checked}
 
 -- A good descriptor
 pub record Good (script : List ℕ) (l : Literal) : Type 0 where
   pub known : l .kind ≤ 6
   pub inside : l .offset + l .size ≤ length script
   pub fits : l .start + opening l + l .size ≤ l .end
-
--- nothing is left to show
-pub clash : {P : Type 0} → _≡_ {A = ℕ} 0 1 → P
-clash e = absurd (omega arith)
 
 -- tests that all failed
 pub both : (a b : Bool) → a || b ≡ false → (a ≡ false) × (b ≡ false)

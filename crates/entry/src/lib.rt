@@ -1,4 +1,4 @@
-// What is lent: the literals' descriptors, and the entry checks 1 to 7. Nothing is written here.
+// What is lent: the literals' descriptors with the entry checks 1 to 7, and the room with its checks 30 and 31. Nothing is written here.
 ghost use mathlib.Core.Path.{_≡_};
 ghost use mathlib.Core.Bool.{_||_};
 ghost use mathlib.Core.Option.{none};
@@ -7,7 +7,7 @@ ghost use lib.ListN.{getD};
 ghost use Rattle.definition.specs.Numbers.{prefix};
 ghost use Rattle.definition.specs.Entry.{refusal, opening, placeOf, bad, allGood, total, notLong, allUtf8, anyOf, notMixed};
 ghost use Rattle.definition.specs.Reading.{refuses};
-ghost use Rattle.entry.specs.Answers.{described, says, outcomeOf, isOf, laterChecks, checkNumbers};
+ghost use Rattle.entry.specs.Answers.{described, says, outcomeOf, isOf, laterChecks, checkNumbers, roomFor};
 ghost use Rattle.entry.specs.Literals.{literalAt, literals};
 
 // A literal's descriptor: six numbers.
@@ -55,6 +55,10 @@ const BODIES_TOO_LONG: u32 = 5;
 const NOT_UTF8: u32 = 6;
 
 const MIXED_BYTES: u32 = 7;
+
+const TOO_FEW_RECORD_PLACES: u32 = 30;
+
+const TOO_LITTLE_TEXT_ROOM: u32 = 31;
 
 // By kind: the length of the prefix.
 const PREFIX: [u8; 7] = [0, 1, 1, 1, 2, 2, 1];
@@ -287,4 +291,30 @@ pub fn check(script: &[u8], numbers: &[u32]) -> Checked
         return refuse(TOO_MANY_LITERALS, 0, 0);
     }
     check_literals(script, numbers, count as u32)
+}
+
+// A refusal for want of room, with what is needed.
+fn short(number: u32, records: u32, used: u32) -> Checked
+    ensures { λ r. ⌜ says r ≡ refuses (refusal number 0 0 records used) ⌝ }
+{
+    Checked::Refused(Refusal {
+        number,
+        literal: 0,
+        place: 0,
+        a: records,
+        b: used,
+    })
+}
+
+// 30 and 31: whether the record places and text bytes that are lent are as many as are needed.
+pub fn room(places: usize, bytes: usize, records: u32, used: u32) -> Checked
+    ensures { λ r. ⌜ says r ≡ outcomeOf records (roomFor places bytes records used) ⌝ }
+{
+    if places < records as usize {
+        return short(TOO_FEW_RECORD_PLACES, records, used);
+    }
+    if bytes < used as usize {
+        return short(TOO_LITTLE_TEXT_ROOM, records, used);
+    }
+    Checked::Passed(records)
 }

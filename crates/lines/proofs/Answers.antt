@@ -12,7 +12,7 @@ use Rattle.definition.specs.Entry.{Literal}
 use Rattle.definition.specs.Reading.{Outcome, accepts, refuses, read, numbers, wordsAfter, textAfter, called, readNumbers}
 use Rattle.definition.proofs.Outcomes.{Sane, read-sane}
 use Rattle.entry.specs.declared.Refusal.{Refusal as Why}
-use Rattle.entry.proofs.Passed.{clash}
+use Rattle.entry.proofs.Checks.{clash}
 use Rattle.strings.specs.declared.Answer.{Answer as Given}
 use Rattle.strings.specs.declared.Outcome.{Outcome as Said}
 use Rattle.strings.specs.declared.Outcome.the-variants.{Accepted, Refused}

@@ -8,13 +8,13 @@ use native.Mathlib.Omega.{arith}
 use lib.ListN.{length, length-append}
 use Rattle.definition.specs.Escapes.{Read, got, refused}
 use Rattle.definition.specs.Body.{Piece, literal, field, spec, readBody}
-use Rattle.definition.specs.Records.{touching, Item, item, itemOf, Record, glue, merge, bothItems, merged, texts, laid, cover, Sort, Answer, answerOf}
+use Rattle.definition.specs.Records.{touching, Item, item, itemOf, glue, merge, bothItems, merged, texts, cover, Sort, Answer, answerOf}
 use Rattle.definition.specs.Entry.{Literal, Refusal, body, sixes, oneMore, entry, placeOf}
 use Rattle.definition.specs.Reading.{Outcome, accepts, refuses, readLiteral, andThen, readFrom, answered, read, roomed, called, readInto, readNumbers}
 use Rattle.definition.proofs.Moves.{weight, part-short}
 use Rattle.definition.proofs.Fuel.{Reading, body-reading}
 use Rattle.definition.proofs.Seam.{glue-true, glue-false}
-use Rattle.definition.proofs.Laid.{itemRole, texts-merged}
+use Rattle.definition.proofs.Laid.{itemRole, laid-length, texts-merged}
 use Rattle.definition.proofs.Room.{roomed-enough}
 use Rattle.definition.specs.Lines.{oneLiteral}
 
@@ -47,14 +47,9 @@ unfolding merged merge
 merged-fewer [] = omega arith
 merged-fewer (x ∷ xs) = omega (arith, glued-fewer x (merged xs), merged-fewer xs)
 
-laid-count : (f : Record → Record) (n : ℕ) (xs : List Item) → length (map f (laid n xs)) ≡ length xs
-unfolding laid
-laid-count f n [] = refl
-laid-count f n (x ∷ xs) = ap suc (laid-count f (n + length (x .text)) xs)
-
 answer-needs : (q : Sort) (u s e : ℕ) (xs : List Item) (n : ℕ) → length xs + length (texts xs) ≤ n → Needs n (accepts (answerOf q u s e xs))
 unfolding answerOf
-answer-needs q u s e xs n h = omega (arith, laid-count (cover s e u) 0 (merged xs), merged-fewer xs, ap length (texts-merged xs))
+answer-needs q u s e xs n h = omega (arith, laid-length (cover s e u) 0 (merged xs), merged-fewer xs, ap length (texts-merged xs))
 
 -- A BODY'S NEED
 module _ (s : List ℕ) where

@@ -1,21 +1,25 @@
 -- What a call answers and leaves, once all items are emitted and closed. Assumes nothing.
 use mathlib.Core.Path.{_≡_, refl, sym, _∙_, ap, ap₂, subst}
-use mathlib.Core.Bool.{true, false}
+use mathlib.Core.Bool.{Bool, true, false}
 use mathlib.Core.List.{List, [], _∷_, map}
-use Prim.Native.Nat.{ℕ, suc, _+_, _*_, _/_, _≤_, _<_}
+use mathlib.Core.Option.{Option, none, some}
+use Prim.Native.Nat.{ℕ, _*_, _/_, _≤_}
 use native.Mathlib.Omega.{arith}
-use borrow.Author.Tests.{lt-ltb, le-ltb}
 use lib.Dec.{ltb}
 use lib.ListN.{length, replicate}
 use Rattle.definition.specs.Records.{Role, covers, Item, Record, Answer, Sort, answerOf, merged, texts, laid, cover, wordsOf}
-use Rattle.definition.specs.Entry.{Literal, refusal, firstStart, anyOf}
+use Rattle.definition.specs.Chars.{if_then_else_}
+use Rattle.definition.specs.Entry.{Literal, Refusal as Why, refusal, firstStart, anyOf}
 use Rattle.definition.specs.Numbers.{isBytes, isFString}
 use Rattle.definition.specs.Reading.{accepts, refuses, readFrom, sortOf, sortNumber, uMark, lastEnd, answered, roomed, Call, called, readNumbers, wordsAfter, textAfter, allWords, numbers, zeros}
 use Rattle.definition.specs.Reading as o
+use Rattle.definition.proofs.Laid.{laid-length}
 use Rattle.buffers.specs.Over.{over}
 use Rattle.buffers.proofs.Over.{length-over, over-front}
 use Rattle.entry.specs.Literals.{literals}
 use Rattle.entry.specs.declared.Refusal.{Refusal}
+use Rattle.entry.specs.Answers.{roomFor}
+use Rattle.entry.proofs.Checks.{room-enough}
 use Rattle.entry.proofs.Passed.{Passed, passed-reads}
 use Rattle.strings.specs.declared.Outcome.{Outcome}
 use Rattle.strings.specs.declared.Outcome.the-variants.{Accepted, Refused}
@@ -41,12 +45,7 @@ pub sort-plain : (ls : List Literal) → anyOf isFString ls ≡ false → anyOf 
 unfolding sortOf sortNumber
 sort-plain ls h g = rw (h, g)
 
--- how many records there are, and words of them
-length-laid : (f : Record → Record) (n : ℕ) (xs : List Item) → length (map f (laid n xs)) ≡ length xs
-unfolding laid
-length-laid f n [] = refl
-length-laid f n (x ∷ xs) = ap suc (length-laid f (n + length (x .text)) xs)
-
+-- how many words records have
 length-words : (rs : List Record) → length (allWords rs) ≡ length rs * 8
 unfolding allWords wordsOf
 length-words [] = refl
@@ -83,7 +82,7 @@ landed : (w : Whole) (s : Sort) (role : Role) (xs : List Item) (words₀ text₀
 unfolding answerOf
 landed w s role xs words₀ text₀ words text words′ k r c t h e =
     record {
-      count = ap (λ o. o .count) z ∙ count-done (wholeOf w) words₀ text₀ (merged xs) ∙ sym (length-laid (cover (w .start) (w .end) (w .mark)) 0 (merged xs));
+      count = ap (λ o. o .count) z ∙ count-done (wholeOf w) words₀ text₀ (merged xs) ∙ sym (laid-length (cover (w .start) (w .end) (w .mark)) 0 (merged xs));
       used = ap (λ o. o .used) z ∙ used-done (wholeOf w) words₀ text₀ (merged xs);
       words-are = ap (λ o. o .words) z ∙ words-done (wholeOf w) words₀ text₀ (merged xs);
       text-is = ap (λ o. o .text) z ∙ text-done (wholeOf w) words₀ text₀ (merged xs);
@@ -111,85 +110,6 @@ same-words {x} {words₀} h = ap length (h .words-are) ∙ length-over words₀ 
 same-text : {x : Answer} {words₀ text₀ words text : List ℕ} {k : Sink} → Landed x words₀ text₀ words text k → length text ≡ length text₀
 same-text {x} {words₀} {text₀} h = ap length (h .text-is) ∙ length-over text₀ 0 (x .text)
 
--- THE THREE ANSWERS
-too-few : (x : Answer) (words₀ text₀ words text W T : List ℕ) (k : Sink) (r : Outcome) → Landed x words₀ text₀ words text k
-    → length words / 8 < k .count → says r ≡ 30 ∷ 0 ∷ 0 ∷ k .count ∷ k .used ∷ [] → W ≡ zeros words → T ≡ zeros text
-    → CallIs (called (roomed (length words₀) (length text₀) (accepts x)) words₀ text₀) W T r
-unfolding called roomed wordsAfter textAfter numbers refusal
-too-few x words₀ text₀ words text W T k r h l s p q =
-    rw test
-    (record {
-      answer = s ∙ ap₂ (λ m n. 30 ∷ 0 ∷ 0 ∷ m ∷ n ∷ []) (h .count) (h .used);
-      words = p ∙ ap (λ n. replicate n 0) (same-words h);
-      text = q ∙ ap (λ n. replicate n 0) (same-text h);
-    })
-  where
-    test : ltb (length words₀ / 8) (length (x .records)) ≡ true
-    test = lt-ltb (length words₀ / 8) (length (x .records)) (rw (← same-words h, ← h .count) l)
-
-too-little : (x : Answer) (words₀ text₀ words text W T : List ℕ) (k : Sink) (r : Outcome) → Landed x words₀ text₀ words text k
-    → k .count ≤ length words / 8 → length text < k .used → says r ≡ 31 ∷ 0 ∷ 0 ∷ k .count ∷ k .used ∷ [] → W ≡ zeros words → T ≡ zeros text
-    → CallIs (called (roomed (length words₀) (length text₀) (accepts x)) words₀ text₀) W T r
-unfolding called roomed wordsAfter textAfter numbers refusal
-too-little x words₀ text₀ words text W T k r h g l s p q =
-    rw (enough, test)
-    (record {
-      answer = s ∙ ap₂ (λ m n. 31 ∷ 0 ∷ 0 ∷ m ∷ n ∷ []) (h .count) (h .used);
-      words = p ∙ ap (λ n. replicate n 0) (same-words h);
-      text = q ∙ ap (λ n. replicate n 0) (same-text h);
-    })
-  where
-    enough : ltb (length words₀ / 8) (length (x .records)) ≡ false
-    enough = le-ltb (length words₀ / 8) (length (x .records)) (rw (← same-words h, ← h .count) g)
-
-    test : ltb (length text₀) (length (x .text)) ≡ true
-    test = lt-ltb (length text₀) (length (x .text)) (rw (← same-text h, ← h .used) l)
-
-accepted : (x : Answer) (words₀ text₀ words text : List ℕ) (k : Sink) (r : Outcome) → Landed x words₀ text₀ words text k
-    → k .count ≤ length words / 8 → k .used ≤ length text → says r ≡ 0 ∷ sortNumber (x .sort) ∷ x .uMark ∷ x .start ∷ x .end ∷ k .count ∷ k .used ∷ []
-    → CallIs (called (roomed (length words₀) (length text₀) (accepts x)) words₀ text₀) words text r
-unfolding called roomed wordsAfter textAfter numbers
-accepted x words₀ text₀ words text k r h g l s =
-    rw (enough, fits)
-    (record {
-      answer = s ∙ ap₂ (λ m n. 0 ∷ sortNumber (x .sort) ∷ x .uMark ∷ x .start ∷ x .end ∷ m ∷ n ∷ []) (h .count) (h .used);
-      words = h .words-are ∙ over-front words₀ (allWords (x .records)) (omega (arith, length-words (x .records), same-words h, h .count));
-      text = h .text-is ∙ over-front text₀ (x .text) (omega (arith, same-text h, h .used));
-    })
-  where
-    enough : ltb (length words₀ / 8) (length (x .records)) ≡ false
-    enough = le-ltb (length words₀ / 8) (length (x .records)) (rw (← same-words h, ← h .count) g)
-
-    fits : ltb (length text₀) (length (x .text)) ≡ false
-    fits = le-ltb (length text₀) (length (x .text)) (rw (← same-text h, ← h .used) l)
-
--- what the end of a call owes
-abbrev pub Finished : Whole → List Literal → List ℕ → List ℕ → Sink → List ℕ → List ℕ → Outcome → Type 0
-Finished w ls words text k W T r =
-    (role : Role) (xs : List Item) (words₀ text₀ : List ℕ) → covers role ≡ true → Tops (wholeOf w) role xs → wholeOf w ≡ wholeFor ls → Wrote (wholeOf w) xs words₀ text₀ words text k
-    → CallIs (called (roomed (length words₀) (length text₀) (answered ls (accepts xs))) words₀ text₀) W T r
-
-module _ (w : Whole) (ls : List Literal) (words text words′ : List ℕ) (k a : Sink) (closing : (T : List ℕ) → outOf a words′ T ≡ closed (wholeOf w) (outOf k words T)) where
-  pub finish-places : (W T : List ℕ) (r : Outcome) → length words′ / 8 < a .count → says r ≡ 30 ∷ 0 ∷ 0 ∷ a .count ∷ a .used ∷ [] → W ≡ zeros words′ → T ≡ zeros text
-      → Finished w ls words text k W T r
-  unfolding answered
-  finish-places W T r l s p q role xs words₀ text₀ c t e h =
-      too-few (answerFor ls xs) words₀ text₀ words′ text W T a r (landed-for w ls role xs words₀ text₀ words text words′ k a c t e h closing) l s p q
-
-  pub finish-room : (W T : List ℕ) (r : Outcome) → a .count ≤ length words′ / 8 → length text < a .used → says r ≡ 31 ∷ 0 ∷ 0 ∷ a .count ∷ a .used ∷ [] → W ≡ zeros words′ → T ≡ zeros text
-      → Finished w ls words text k W T r
-  unfolding answered
-  finish-room W T r g l s p q role xs words₀ text₀ c t e h =
-      too-little (answerFor ls xs) words₀ text₀ words′ text W T a r (landed-for w ls role xs words₀ text₀ words text words′ k a c t e h closing) g l s p q
-
-  pub finish-accepted : (n : ℕ) → n ≡ sortNumber (sortOf ls) → a .count ≤ length words′ / 8 → a .used ≤ length text
-      → Finished w ls words text k words′ text (Accepted (record { sort = n; mark = w .mark; start = w .start; end = w .end; records = a .count; text = a .used }))
-  unfolding answered answerOf
-  finish-accepted n s g l role xs words₀ text₀ c t p h =
-      accepted (answerFor ls xs) words₀ text₀ words′ text a (Accepted (record { sort = n; mark = w .mark; start = w .start; end = w .end; records = a .count; text = a .used }))
-      (landed-for w ls role xs words₀ text₀ words text words′ k a c t p h closing) g l
-      (ap₂ (λ (m : ℕ) (v : e.Whole). 0 ∷ m ∷ v .mark ∷ v .start ∷ v .end ∷ a .count ∷ a .used ∷ []) s p)
-
 -- the definition's refusal of a refusal
 abbrev why : Refusal → o.Outcome Answer
 why x = refuses (refusal (x .number) (x .literal) (x .place) (x .a) (x .b))
@@ -203,6 +123,68 @@ module _ (words text words₁ text₁ words′ text′ : List ℕ) (x : Refusal)
   refused-call call e lw lt h =
       rw e
       record { answer = rw (h .0) refl; words = h .1 ∙ ap (λ n. replicate n 0) lw; text = h .2 ∙ ap (λ n. replicate n 0) lt }
+
+-- THE ROOM: what is needed is there, or is refused
+afterRoom : Answer → Option Why → o.Outcome Answer
+afterRoom x none = accepts x
+afterRoom x (some r) = refuses r
+
+roomed-by : (w t : ℕ) (x : Answer) → roomed w t (accepts x) ≡ afterRoom x (roomFor (w / 8) t (length (x .records)) (length (x .text)))
+unfolding roomed roomFor afterRoom
+roomed-by w t x = go (ltb (w / 8) (length (x .records))) (ltb t (length (x .text)))
+  where
+    few : Why
+    few = refusal 30 0 0 (length (x .records)) (length (x .text))
+
+    little : Why
+    little = refusal 31 0 0 (length (x .records)) (length (x .text))
+
+    go : (a b : Bool) → (if a then refuses few else if b then refuses little else accepts x) ≡ afterRoom x (if a then some few else if b then some little else none)
+    go true b = refl
+    go false true = refl
+    go false false = refl
+
+-- of buffers that an answer lies over
+room-there : (x : Answer) (words₀ text₀ words text : List ℕ) (k : Sink) → Landed x words₀ text₀ words text k
+    → roomed (length words₀) (length text₀) (accepts x) ≡ afterRoom x (roomFor (length words / 8) (length text) (k .count) (k .used))
+room-there x words₀ text₀ words text k h = rw (same-words h, same-text h, h .count, h .used) (roomed-by (length words₀) (length text₀) x)
+
+accepted : (x : Answer) (words₀ text₀ words text : List ℕ) (k : Sink) (r : Outcome) → Landed x words₀ text₀ words text k
+    → roomFor (length words / 8) (length text) (k .count) (k .used) ≡ none → says r ≡ 0 ∷ sortNumber (x .sort) ∷ x .uMark ∷ x .start ∷ x .end ∷ k .count ∷ k .used ∷ []
+    → CallIs (called (roomed (length words₀) (length text₀) (accepts x)) words₀ text₀) words text r
+unfolding called wordsAfter textAfter numbers afterRoom
+accepted x words₀ text₀ words text k r h n s =
+    rw (room-there x words₀ text₀ words text k h, n)
+    (record {
+      answer = s ∙ ap₂ (λ m n. 0 ∷ sortNumber (x .sort) ∷ x .uMark ∷ x .start ∷ x .end ∷ m ∷ n ∷ []) (h .count) (h .used);
+      words = h .words-are ∙ over-front words₀ (allWords (x .records)) (omega (arith, length-words (x .records), same-words h, h .count, enough .0));
+      text = h .text-is ∙ over-front text₀ (x .text) (omega (arith, same-text h, h .used, enough .1));
+    })
+  where
+    enough : (k .count ≤ length words / 8) × (k .used ≤ length text)
+    enough = room-enough (length words / 8) (length text) (k .count) (k .used) n
+
+-- what the end of a call owes
+abbrev pub Finished : Whole → List Literal → List ℕ → List ℕ → Sink → List ℕ → List ℕ → Outcome → Type 0
+Finished w ls words text k W T r =
+    (role : Role) (xs : List Item) (words₀ text₀ : List ℕ) → covers role ≡ true → Tops (wholeOf w) role xs → wholeOf w ≡ wholeFor ls → Wrote (wholeOf w) xs words₀ text₀ words text k
+    → CallIs (called (roomed (length words₀) (length text₀) (answered ls (accepts xs))) words₀ text₀) W T r
+
+module _ (w : Whole) (ls : List Literal) (words text words′ : List ℕ) (k a : Sink) (closing : (T : List ℕ) → outOf a words′ T ≡ closed (wholeOf w) (outOf k words T)) where
+  pub finish-short : (y : Refusal) (W T : List ℕ) (r : Outcome) → roomFor (length words′ / 8) (length text) (a .count) (a .used) ≡ some (refusal (y .number) (y .literal) (y .place) (y .a) (y .b))
+      → (r ≡ Refused y) × (W ≡ zeros words′) × (T ≡ zeros text) → Finished w ls words text k W T r
+  unfolding answered afterRoom
+  finish-short y W T r n v role xs words₀ text₀ c t p h =
+      let l = landed-for w ls role xs words₀ text₀ words text words′ k a c t p h closing in
+      refused-call words₀ text₀ words′ text W T y r _ (ap (λ o. called o words₀ text₀) (room-there (answerFor ls xs) words₀ text₀ words′ text a l ∙ ap (afterRoom (answerFor ls xs)) n)) (same-words l) (same-text l) v
+
+  pub finish-accepted : (n : ℕ) → n ≡ sortNumber (sortOf ls) → roomFor (length words′ / 8) (length text) (a .count) (a .used) ≡ none
+      → Finished w ls words text k words′ text (Accepted (record { sort = n; mark = w .mark; start = w .start; end = w .end; records = a .count; text = a .used }))
+  unfolding answered answerOf
+  finish-accepted n s g role xs words₀ text₀ c t p h =
+      accepted (answerFor ls xs) words₀ text₀ words′ text a (Accepted (record { sort = n; mark = w .mark; start = w .start; end = w .end; records = a .count; text = a .used }))
+      (landed-for w ls role xs words₀ text₀ words text words′ k a c t p h closing) g
+      (ap₂ (λ (m : ℕ) (v : e.Whole). 0 ∷ m ∷ v .mark ∷ v .start ∷ v .end ∷ a .count ∷ a .used ∷ []) s p)
 
 -- LITERALS THAT PASSED THE CHECKS
 module _ (script ns : List ℕ) (n : ℕ) (words text : List ℕ) (P : Passed script ns n) where

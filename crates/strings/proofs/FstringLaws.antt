@@ -4,16 +4,14 @@ use mathlib.Core.Bool.{Bool, true, false}
 use mathlib.Core.Option.{Option, none, some}
 use mathlib.Core.List.{List, [], _∷_, _++_, map, map-append, append-assoc}
 use Prim.Native.Nat.{ℕ, suc, _+_, _-_, _*_, _≤_, _<_}
-use native.Mathlib.Numerals.{add-one}
 use native.Mathlib.Omega.{arith}
 use borrow.Author.Tests.{le-leb}
-use lib.ListN.{length, drop, getD, drop-of-length-le, length-append, length-replicate, length-take, length-drop}
-use lib.Seq.{drop-cons}
-use Rattle.definition.specs.Chars.{_is_, part, atEnd, code, next, before}
+use lib.ListN.{length, drop, length-append, length-replicate, length-take, length-drop}
+use Rattle.definition.specs.Chars.{_is_, part, atEnd, code, next}
 use Rattle.definition.specs.Numbers.{unclosedLbrace, emptyExpression, expressionNestedTooDeeply}
 use Rattle.definition.specs.Escapes as d
 use Rattle.definition.specs.Escapes.{got, refused}
-use Rattle.definition.specs.Body.{Piece, field, spec, filled, plainRun, direct, Field, fresh, Move, calls, ends, textCase, textMove, textN, fieldN, specN, enough, conversionOf, fieldPieces, selfDocumenting, finished, specified}
+use Rattle.definition.specs.Body.{Piece, field, spec, filled, direct, Field, fresh, Move, calls, ends, textCase, textMove, textN, fieldN, specN, enough, conversionOf, fieldPieces, selfDocumenting, finished, specified}
 use Rattle.definition.specs.Records.{Item, item, itemOf, covers, wordsOf, recordAt}
 use Rattle.utf8.specs.declared.Cursor.{Cursor}
 use Rattle.buffers.specs.Over.{over}
@@ -25,7 +23,8 @@ use Rattle.strings.specs.declared.fstring.Read.{Read}
 use Rattle.strings.specs.declared.fstring.Read.the-variants.{Done, Refused}
 use Rattle.strings.specs.Emit as E
 use Rattle.strings.specs.Emit.{bit, emits, reserved, filledIn}
-use Rattle.strings.specs.Sinks.{wholeOf, outOf, isHeld, loadOf, Fits, Emits, converted, specWords}
+use Rattle.strings.specs.Sinks.{wholeOf, outOf, isHeld, loadOf, Fits, Emits, specWords}
+use Rattle.marks.specs.Marks.{converted}
 use Rattle.strings.specs.Fstring.{Room, Written, ReadIs, SpecIs, fieldEnd}
 use Rattle.strings.proofs.Emitted.{spec-last, emits-append, put-free}
 use Rattle.definition.proofs.Moves.{weight, fieldSize, filled-light, part-short}
@@ -38,25 +37,6 @@ use Rattle.definition.proofs.Fuel.{Reading, text-reading, field-reading, first-
 use Rattle.definition.proofs.Depths.{spec-apart}
 use Rattle.definition.proofs.Prefix.{following, text-prefix}
 use Rattle.strings.specs.FieldTurns.{headState, HeadIs, ClosedIs}
-
--- A SPEC'S FIRST PIECE, byte by byte
-first-stops : (s : List ℕ) (i : ℕ) → i < length s → (getD s i 0 is "{}") ≡ true → plainRun (drop i s) ≡ 0
-unfolding plainRun before
-first-stops s i h e = rw (drop-cons s i 0 h) (rw (e, before))
-
-first-goes : (s : List ℕ) (i : ℕ) → i < length s → (getD s i 0 is "{}") ≡ false → plainRun (drop i s) ≡ suc (plainRun (drop (i + 1) s))
-unfolding plainRun before
-first-goes s i h e = rw (drop-cons s i 0 h, add-one i) (rw (e, before))
-
-pub first-here : (s : List ℕ) (i : ℕ) → i < length s → (getD s i 0 is "{}") ≡ true → i ≡ firstEnd s i
-first-here s i h e = omega (arith, first-stops s i h e)
-
-pub first-on : (s : List ℕ) (i : ℕ) → i < length s → (getD s i 0 is "{}") ≡ false → firstEnd s i ≡ firstEnd s (i + 1)
-first-on s i h e = omega (arith, first-goes s i h e)
-
-pub first-end : (s : List ℕ) (i : ℕ) → length s ≤ i → i ≡ firstEnd s i
-unfolding plainRun before
-first-end s i h = rw (drop-of-length-le s h) (omega arith)
 
 part-length : (s : List ℕ) (i j : ℕ) → j ≤ length s → length (part s i j) ≡ j - i
 part-length s i j h = omega (arith, length-take (j - i) (drop i s), length-drop i s)

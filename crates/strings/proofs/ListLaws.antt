@@ -21,7 +21,8 @@ use Rattle.entry.specs.Answers.{described}
 use Rattle.entry.specs.Literals.{literalAt, literals}
 use Rattle.entry.specs.declared.Descriptor.{Descriptor}
 use Rattle.entry.proofs.Literals.{total-turn}
-use Rattle.entry.proofs.Passed.{clash, Passed, Good, length-body, read-turn, read-end}
+use Rattle.entry.proofs.Checks.{clash}
+use Rattle.entry.proofs.Passed.{Passed, Good, length-body, read-turn, read-end}
 use Rattle.strings.specs.declared.Refusal.{Refusal}
 use Rattle.strings.specs.declared.emit.Whole.{Whole}
 use Rattle.strings.specs.declared.emit.Frame.{Frame}

@@ -13,7 +13,8 @@ use Rattle.definition.specs.Entry.{Literal, placeOf, body, anyOf, firstStart, n
 use Rattle.definition.specs.Reading.{Outcome, accepts, refuses, readLiteral, andThen, readFrom, uMark, lastEnd}
 use Rattle.entry.specs.Literals.{literalAt, literals}
 use Rattle.entry.proofs.Literals.{first-is, last-end}
-use Rattle.entry.proofs.Passed.{clash, both}
+use Rattle.entry.proofs.Checks.{clash}
+use Rattle.entry.proofs.Passed.{both}
 use Rattle.strings.specs.Emit as e
 use Rattle.strings.specs.Emit.{Top, Tops}
 use Rattle.strings.specs.Strings.{wholeFor, roleFor}

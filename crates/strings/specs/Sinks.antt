@@ -3,7 +3,6 @@ use Prim.Native.Nat.{ℕ, _+_, _*_, _≤_, _<_}
 use mathlib.Core.Path.{_≡_}
 use mathlib.Core.Bool.{Bool, true, false}
 use lib.Dec.{eqb}
-use Rattle.definition.specs.Chars.{if_then_else_}
 use mathlib.Core.List.{List, [], _∷_, _++_, map}
 use lib.ListN.{length, replicate}
 use Rattle.definition.specs.Records.{item, itemOf, inner}
@@ -65,11 +64,6 @@ pub record UpTo (n to : ℕ) (k r : Sink) : Type 0 where
   pub used : r .used ≡ to
   pub load : loadOf r + 2 * k .used ≤ loadOf k + 2 * to + 2 * n
   pub ordered : k .from ≤ k .used → r .from ≤ r .used
-
--- a field's conversion, by the number of its parts: 1 with a spec, else 0
-abbrev pub converted : Bool → ℕ → ℕ → ℕ
-converted false c parts = c
-converted true c parts = if eqb parts 0 then (if eqb c 0 then 114 else c) else c
 
 -- a spec's words
 abbrev pub specWords : Frame → ℕ → ℕ → List ℕ

@@ -15,7 +15,6 @@ use Rattle.definition.specs.Reading.{accepts, refuses, uMark, lastEnd, Call, nu
 use Rattle.definition.specs.Reading as lists
 use Rattle.entry.specs.Answers.{described}
 use Rattle.entry.specs.declared.Descriptor.{Descriptor}
-use Rattle.entry.specs.declared.Refusal.{Refusal as Why}
 use Rattle.strings.specs.declared.Outcome.{Outcome}
 use Rattle.strings.specs.declared.Outcome.the-variants.{Accepted, Refused}
 use Rattle.strings.specs.declared.Listed.{Listed}
@@ -33,10 +32,6 @@ use Rattle.strings.specs.Sinks.{loadOf, outOf, Fits, Emits}
 abbrev pub says : Outcome → List ℕ
 says (Accepted x) = 0 ∷ x .sort ∷ x .mark ∷ x .start ∷ x .end ∷ x .records ∷ x .text ∷ []
 says (Refused r) = r .number ∷ r .literal ∷ r .place ∷ r .a ∷ r .b ∷ []
-
--- a refusal for want of room
-abbrev pub shortOf : ℕ → ℕ → ℕ → Why
-shortOf number records used = record { number = number; literal = 0; place = 0; a = records; b = used }
 
 -- a call of the definition: what is answered, and both buffers afterwards
 pub record CallIs (call : Call) (words′ text′ : List ℕ) (r : Outcome) : Type 0 where

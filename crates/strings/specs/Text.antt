@@ -1,14 +1,13 @@
 -- What the readers of a text answer and write, by the definition's moves and readings.
 use Prim.Native.Nat.{ℕ, _+_, _*_, _≤_, _<_, _^_}
 use mathlib.Core.Path.{_≡_}
-use mathlib.Core.Bool.{Bool, false, _&&_, _||_}
+use mathlib.Core.Bool.{false}
 use mathlib.Core.List.{List, []}
-use lib.Dec.{leb}
 use lib.ListN.{length, drop}
-use Rattle.definition.specs.Numbers.{isBytes}
-use Rattle.definition.specs.Chars.{_is_, byte, part, next, before}
+use Rattle.definition.specs.Chars.{byte, part, next, before}
 use Rattle.definition.specs.Escapes.{Read, got, refused}
 use Rattle.definition.specs.Body.{Piece as Record, Move, goes, stops, calls, ends, textN, textMove, enough}
+use Rattle.marks.specs.Marks.{special}
 use Rattle.buffers.specs.Over.{over}
 use Rattle.strings.specs.declared.Refusal.{Refusal}
 use Rattle.strings.specs.declared.text.Piece.{Piece}
@@ -37,10 +36,6 @@ Does (goes j t) s i used text text′ r = (r ≡ On (record { at = j }) (used + 
 Does (stops n j a b) s i used text text′ r = r ≡ Refused (refusal n j a b)
 Does calls s i used text text′ r = (r ≡ Field (record { at = next s i })) × (text′ ≡ text)
 Does ends s i used text text′ r = (r ≡ Over) × (text′ ≡ text)
-
--- a byte that may be no plain text: a brace, a backslash, or in bytes one above ASCII
-abbrev pub special : ℕ → ℕ → Bool
-special kind b = b is "{}\\" || (isBytes kind && leb 0x80 b)
 
 -- where the plain bytes from i on end
 abbrev pub plainEnd : ℕ → List ℕ → ℕ → ℕ

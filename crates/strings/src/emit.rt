@@ -5,13 +5,15 @@ use buffers::add_again;
 use buffers::add_spaces;
 use buffers::put;
 use buffers::put_record;
+use marks::conversion_of;
 ghost use mathlib.Core.Path.{_≡_};
 ghost use mathlib.Core.List.{List, [], _∷_, _++_};
 ghost use Prim.Native.Nat.{ℕ, _+_, _<_, _≤_};
 ghost use lib.ListN.{length};
 ghost use Rattle.buffers.specs.Over.{over};
+ghost use Rattle.marks.specs.Marks.{converted};
 ghost use Rattle.strings.specs.Emit.{reserved, filledIn};
-ghost use Rattle.strings.specs.Sinks.{isHeld, loadOf, Fits, outOf, Closes, Writes, Emits, Documents, UpTo, converted, specWords};
+ghost use Rattle.strings.specs.Sinks.{isHeld, loadOf, Fits, outOf, Closes, Writes, Emits, Documents, UpTo, specWords};
 ghost use Rattle.definition.specs.Chars.{if_then_else_};
 ghost use Rattle.definition.specs.Body.{literal as aLiteral, field as aField, filled, selfDocumenting};
 
@@ -232,20 +234,6 @@ fn put_documented(
     k
 }
 
-// A field's conversion; a self-documenting one with neither conversion nor spec has r.
-fn conversion_of(h: Head, parts: u32) -> u32
-    ensures { λ r. ⌜ r ≡ converted (h .documented) (h .conversion) parts ⌝ }
-{
-    if h.documented {
-        if parts == 0 {
-            if h.conversion == 0 {
-                return 114;
-            }
-        }
-    }
-    h.conversion
-}
-
 // A field whose expression stands from the used length up to the head's, with its literals if it documents itself, up to its spec.
 pub(crate) fn emit_field(
     words: &mut [u32],
@@ -263,5 +251,6 @@ pub(crate) fn emit_field(
 {
     let a = put_documented(words, text, fr, k, h, nested);
     let to = a.used + (h.used - k.used);
-    put_field(words, fr, a, to, conversion_of(h, parts), parts, at)
+    let conversion = conversion_of(h.documented, h.conversion, parts);
+    put_field(words, fr, a, to, conversion, parts, at)
 }

@@ -3,6 +3,10 @@ use crate::EMPTY_EXPRESSION;
 use crate::Refusal;
 use crate::UNCLOSED_LBRACE;
 use buffers::add_run;
+use marks::ends_head;
+use marks::is_blank;
+use marks::is_conversion;
+use marks::matches;
 use utf8::Cursor;
 use utf8::Step;
 ghost use mathlib.Core.Path.{_≡_};
@@ -12,7 +16,7 @@ ghost use Prim.Native.Nat.{ℕ, _+_, _^_, _≤_, _<_};
 ghost use lib.Dec.{eqb};
 ghost use lib.ListN.{length, drop};
 ghost use Rattle.definition.specs.Chars.{if_then_else_, _is_, byte, code, before};
-ghost use Rattle.definition.specs.Body.{pair, isBlank, fieldCase, conversionMove, openMove, matching, closeMove, quoteMove, fieldMove};
+ghost use Rattle.definition.specs.Body.{pair, isBlank, fieldCase, conversionMove, openMove, closeMove, quoteMove, fieldMove};
 ghost use Rattle.utf8.proofs.Steps.{Stepped};
 ghost use Rattle.buffers.specs.Over.{over};
 ghost use Rattle.strings.specs.FieldTurns.{caseIs, plainCase, passing, Passed, pending, keptTo, skippedTo, headAt, Room, Fits, TurnIs, closedAs, OpenedIs};
@@ -141,52 +145,6 @@ fn class_of(s: &[u8], at: usize, c: u32, after: Cursor, out: bool, documented: b
         },
         92 => Class::Backslash,
         _ => plain_class(documented),
-    }
-}
-
-// Whether a code is a space or U+0009 to U+000D.
-fn is_blank(c: u32) -> bool
-    ensures { λ r. ⌜ r ≡ isBlank c ⌝ }
-{
-    match c {
-        9..=13 => true,
-        32 => true,
-        _ => false,
-    }
-}
-
-// Whether a closing bracket is of an open one's kind.
-fn matches(opener: u32, closer: u32) -> bool
-    ensures { λ r. ⌜ r ≡ matching opener closer ⌝ }
-{
-    match opener {
-        40 => closer == 41,
-        91 => closer == 93,
-        123 => closer == 125,
-        _ => false,
-    }
-}
-
-// Whether a code is `s`, `a` or `r`.
-fn is_conversion(c: u32) -> bool
-    ensures { λ r. ⌜ r ≡ c is "sar" ⌝ }
-{
-    match c {
-        115 => true,
-        97 => true,
-        114 => true,
-        _ => false,
-    }
-}
-
-// Whether a code is `}` or `:`.
-fn ends_head(c: u32) -> bool
-    ensures { λ r. ⌜ r ≡ c is "}:" ⌝ }
-{
-    match c {
-        125 => true,
-        58 => true,
-        _ => false,
     }
 }
 

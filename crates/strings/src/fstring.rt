@@ -13,6 +13,7 @@ use crate::field::read_head;
 use crate::text::Run;
 use crate::text::text_run;
 use buffers::add_run;
+use marks::brace_from;
 use utf8::Cursor;
 use utf8::Step;
 ghost use mathlib.Core.Path.{_≡_};
@@ -39,25 +40,6 @@ pub(crate) enum Read {
 struct Raw {
     at: Cursor,
     used: usize,
-}
-
-// The index of the first brace from an index on, or the end.
-fn brace_from(s: &[u8], from: usize) -> usize
-    requires { ⌜ from ≤ length (now s) ⌝ }
-    ensures { λ r. ⌜ r ≡ firstEnd (now (s .entry)) from ⌝ }
-{
-    let mut i = from;
-    while i < s.len() {
-        let b = s[i];
-        if b == b'{' {
-            return i;
-        }
-        if b == b'}' {
-            return i;
-        }
-        i += 1;
-    }
-    i
 }
 
 // A spec's first piece, as it stands up to the first brace.

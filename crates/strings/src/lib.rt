@@ -35,7 +35,7 @@ ghost use Rattle.strings.specs.declared.Outcome.the-variants.{Refused};
 ghost use Rattle.strings.specs.Emit.{Tops};
 ghost use Rattle.strings.specs.Sinks.{Fits, wholeOf};
 ghost use Rattle.strings.specs.Fstring.{Room as BodyRoom};
-ghost use Rattle.strings.specs.Strings.{CallIs, wholeFor, Room, frameOf, BodyIs, Wrote, ListIs, shortOf};
+ghost use Rattle.strings.specs.Strings.{CallIs, wholeFor, Room, frameOf, BodyIs, Wrote, ListIs};
 
 // Why a body is refused: the number, the bytes taken at its place, two details.
 pub(crate) struct Refusal {
@@ -69,10 +69,6 @@ pub(crate) enum Listed {
 pub(crate) const UNCLOSED_LBRACE: u32 = 20;
 
 pub(crate) const EMPTY_EXPRESSION: u32 = 22;
-
-const TOO_FEW_RECORD_PLACES: u32 = 30;
-
-const TOO_LITTLE_TEXT_ROOM: u32 = 31;
 
 // A literal's body, read and written.
 fn read_body(s: &[u8], fr: Frame, words: &mut [u32], text: &mut [u8], k: Sink) -> Read
@@ -212,19 +208,6 @@ fn sort_of(numbers: &[u32], count: u32) -> u32
     0
 }
 
-// A refusal for want of room, with what is needed.
-fn short(number: u32, records: u32, used: u32) -> entry::Refusal
-    ensures { λ r. ⌜ r ≡ shortOf number records used ⌝ }
-{
-    entry::Refusal {
-        number,
-        literal: 0,
-        place: 0,
-        a: records,
-        b: used,
-    }
-}
-
 // The answer, if both buffers have room for what it needs.
 fn finish(
     numbers: &[u32],
@@ -240,20 +223,17 @@ fn finish(
     let k = close_held(words, whole, sink);
     let records = k.count as u32;
     let used = k.used as u32;
-    if words.len() / 8 < k.count {
-        return refuse(words, text, short(TOO_FEW_RECORD_PLACES, records, used));
+    match entry::room(words.len() / 8, text.len(), records, used) {
+        Checked::Refused(r) => refuse(words, text, r),
+        Checked::Passed(_) => Outcome::Accepted(Answer {
+            sort: sort_of(numbers, count),
+            mark: whole.mark,
+            start: whole.start,
+            end: whole.end,
+            records,
+            text: used,
+        }),
     }
-    if text.len() < k.used {
-        return refuse(words, text, short(TOO_LITTLE_TEXT_ROOM, records, used));
-    }
-    Outcome::Accepted(Answer {
-        sort: sort_of(numbers, count),
-        mark: whole.mark,
-        start: whole.start,
-        end: whole.end,
-        records,
-        text: used,
-    })
 }
 
 // The literals that passed the checks, read.

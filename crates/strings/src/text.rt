@@ -4,6 +4,9 @@ use crate::UNCLOSED_LBRACE;
 use crate::field::wide;
 use escapes::Escaped;
 use escapes::is_any_bytes;
+use marks::is_escape;
+use marks::is_foreign;
+use marks::is_special;
 use utf8::Cursor;
 use utf8::Step;
 use utf8::greater;
@@ -11,14 +14,13 @@ ghost use mathlib.Core.Path.{_≡_};
 ghost use mathlib.Core.Bool.{_&&_, not, true};
 ghost use mathlib.Core.List.{[]};
 ghost use Prim.Native.Nat.{ℕ, _+_, _≤_, _<_, _^_};
-ghost use lib.Dec.{leb};
 ghost use lib.ListN.{length};
-ghost use Rattle.definition.specs.Numbers.{isBytes, isRaw};
+ghost use Rattle.definition.specs.Numbers.{isRaw};
 ghost use Rattle.definition.specs.Chars.{_is_, part, code, next};
 ghost use Rattle.definition.specs.Escapes.{encode, escape};
 ghost use Rattle.definition.specs.Body.{goes, withEscape, stringMove, stringN, textMove, enough};
 ghost use Rattle.buffers.specs.Over.{over};
-ghost use Rattle.strings.specs.Text.{Room, Taken, refusal, special, plainEnd, PlainTo, AllPlain, PlainIs, Does, StringIs, RunIs};
+ghost use Rattle.strings.specs.Text.{Room, Taken, refusal, plainEnd, PlainTo, AllPlain, PlainIs, Does, StringIs, RunIs};
 
 const NON_ASCII_IN_BYTES: u32 = 12;
 
@@ -60,16 +62,6 @@ fn refuse(number: u32, taken: usize) -> Piece
         a: 0,
         b: 0,
     })
-}
-
-// Whether a kind is raw.
-fn is_raw(kind: u32) -> bool
-    ensures { λ r. ⌜ r ≡ isRaw kind ⌝ }
-{
-    if kind < 3 {
-        return false;
-    }
-    kind <= 5
 }
 
 // Writes the bytes of a body from `from` up to `to` at the used length, and gives the new one.
@@ -125,26 +117,6 @@ fn escape_text(
         Escaped::Gone(to) => Piece::On(to, used),
         Escaped::Refused(r) => refuse(r.number, r.at),
     }
-}
-
-// Whether a character of a string begins an escape: a backslash does, but not in a raw one.
-fn is_escape(c: u32, kind: u32) -> bool
-    ensures { λ r. ⌜ r ≡ (c is "\\" && not (isRaw kind)) ⌝ }
-{
-    if c != 0x5C {
-        return false;
-    }
-    !is_raw(kind)
-}
-
-// Whether a character may not stand in a literal of the kind: in bytes it must be ASCII.
-fn is_foreign(c: u32, kind: u32) -> bool
-    ensures { λ r. ⌜ r ≡ (isBytes kind && leb 0x80 c) ⌝ }
-{
-    if is_any_bytes(kind) {
-        return 0x80 <= c;
-    }
-    false
 }
 
 // The character of a string or bytes at a cursor.
@@ -252,18 +224,6 @@ fn text_piece(
         return escape_text(s, from, after, kind, text, used);
     }
     take(s, from, after, after, text, used)
-}
-
-// Whether a byte may be no plain text: a brace, a backslash, or in bytes one above ASCII.
-fn is_special(b: u8, kind: u32) -> bool
-    ensures { λ r. ⌜ r ≡ special kind b ⌝ }
-{
-    match b {
-        0x7B => true,
-        0x7D => true,
-        0x5C => true,
-        _ => is_foreign(b as u32, kind),
-    }
 }
 
 // How far the bytes from an index on, and up to another, are plain.

@@ -16,9 +16,10 @@ use Rattle.definition.specs.Body.{goes, stringCase, stringMove, textCase, textM
 use Rattle.definition.proofs.CharLaws.{cases, no, between, next-from, next-past, next-in, next-ascii, code-ascii, code-is, before-in}
 use Rattle.definition.proofs.Moves.{part-short}
 use Rattle.definition.proofs.Whole.{string-on, text-on}
+use Rattle.marks.specs.Marks.{special}
 use Rattle.buffers.proofs.Over.{over-append}
 use Rattle.strings.specs.declared.text.Reached.{Reached}
-use Rattle.strings.specs.Text.{special, plainEnd, PlainTo, AllPlain, PlainIs, Upto, TextFrom}
+use Rattle.strings.specs.Text.{plainEnd, PlainTo, AllPlain, PlainIs, Upto, TextFrom}
 use Rattle.strings.proofs.text.Laws.{StringFrom}
 
 either : (a b : Bool) → (a || b) ≡ false → (a ≡ false) × (b ≡ false)

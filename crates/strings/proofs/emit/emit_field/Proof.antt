@@ -1,7 +1,7 @@
 -- `strings::emit::emit_field` meets its contract. Assumes nothing.
 use borrow.Author.Needs.{needs}
 use native.Mathlib.Omega.{arith}
-use Rattle.strings.specs.Sinks.{converted}
+use Rattle.marks.specs.Marks.{converted}
 use Rattle.strings.proofs.SinkLaws.{documented-field}
 use Rattle.strings.proofs.emit.emit_field.Statement.{statement}
 use Rattle.strings.proofs.emit.emit_field.Tie as tie
@@ -20,4 +20,4 @@ emit-field-spec =
     (λ c.
     let a = c .before .before .before .before .before .before .before .before .before .before .before .before .before .before .before .before .before .args in
     let d = c .before .before .before .before .before .before .before .before .before .before .before .before .put-documented in
-    λ e T l p. documented-field (a .fr) (a .nested) (a .h .documented) e (a .h .spaces) (converted (a .h .documented) (a .h .conversion) (a .parts)) (a .parts) (a .at) T _ _ _ _ (a .k) (d .result) _ (d .ensures .1 e T l p) (λ T′. rw (← c .before .before .before .conversion-of .ensures) (c .before .before .put-field .ensures (a .nested) e T′ (omega arith)))))  -- returns
+    λ e T l p. documented-field (a .fr) (a .nested) (a .h .documented) e (a .h .spaces) (converted (a .h .documented) (a .h .conversion) (a .parts)) (a .parts) (a .at) T _ _ _ _ (a .k) (d .result) _ (d .ensures .1 e T l p) (λ T′. rw (← c .before .before .before .before .conversion-of .ensures) (c .before .before .put-field .ensures (a .nested) e T′ (omega arith)))))  -- returns

@@ -10,7 +10,7 @@ use lib.Dec.{ltb, leb}
 use Rattle.definition.specs.Numbers.{isBytes}
 use Rattle.definition.specs.Chars.{byte}
 use Rattle.definition.proofs.CharLaws.{cases, byte-is}
-use Rattle.strings.specs.Text.{special}
+use Rattle.marks.specs.Marks.{special}
 use Rattle.strings.proofs.text.is_plain.Statement.{statement}
 use Rattle.strings.proofs.text.is_plain.Tie as tie
 

@@ -5,7 +5,8 @@ use mathlib.Core.Path.{_≡_, refl, sym, _∙_}
 use Prim.Native.Nat.{_-_, _≤_}
 use Rattle.definition.specs.Chars.{byte}
 use Rattle.definition.proofs.CharLaws.{byte-is}
-use Rattle.strings.specs.Text.{special, plainEnd}
+use Rattle.marks.specs.Marks.{special}
+use Rattle.strings.specs.Text.{plainEnd}
 use Rattle.strings.proofs.text.Plain.{end-special, end-plain}
 use Rattle.strings.proofs.text.plain_to.Statement.{statement}
 use Rattle.strings.proofs.text.plain_to.Tie as tie

@@ -1,8 +1,8 @@
--- `strings::text::is_special` meets its contract. Assumes nothing.
+-- `marks::is_special` meets its contract. Assumes nothing.
 use borrow.Author.Needs.{needs}
 use borrow.Author.Tests.{ne-eqb}
-use Rattle.strings.proofs.text.is_special.Statement.{statement}
-use Rattle.strings.proofs.text.is_special.Tie as tie
+use Rattle.marks.proofs.is_special.Statement.{statement}
+use Rattle.marks.proofs.is_special.Tie as tie
 
 pub is-special-spec : {M : Type 1} → statement M
 is-special-spec =

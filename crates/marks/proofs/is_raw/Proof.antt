@@ -1,7 +1,7 @@
--- `strings::text::is_raw` meets its contract. Assumes nothing.
+-- `marks::is_raw` meets its contract. Assumes nothing.
 use borrow.Author.Tests.{lt-leb, le-leb}
-use Rattle.strings.proofs.text.is_raw.Statement.{statement}
-use Rattle.strings.proofs.text.is_raw.Tie as tie
+use Rattle.marks.proofs.is_raw.Statement.{statement}
+use Rattle.marks.proofs.is_raw.Tie as tie
 
 pub is-raw-spec : {M : Type 1} → statement M
 is-raw-spec =

@@ -1,8 +1,8 @@
--- `strings::text::is_escape` meets its contract. Assumes nothing.
+-- `marks::is_escape` meets its contract. Assumes nothing.
 use borrow.Author.Needs.{needs}
 use borrow.Author.Tests.{ne-eqb}
-use Rattle.strings.proofs.text.is_escape.Statement.{statement}
-use Rattle.strings.proofs.text.is_escape.Tie as tie
+use Rattle.marks.proofs.is_escape.Statement.{statement}
+use Rattle.marks.proofs.is_escape.Tie as tie
 
 pub is-escape-spec : {M : Type 1} → statement M
 is-escape-spec =

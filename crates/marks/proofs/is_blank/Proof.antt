@@ -1,9 +1,9 @@
--- `strings::field::is_blank` meets its contract. Assumes nothing.
+-- `marks::is_blank` meets its contract. Assumes nothing.
 use native.Mathlib.Omega.{arith}
 use borrow.Author.Tests.{ne-eqb}
 use Rattle.definition.proofs.CharLaws.{inside-yes, inside-not}
-use Rattle.strings.proofs.field.is_blank.Statement.{statement}
-use Rattle.strings.proofs.field.is_blank.Tie as tie
+use Rattle.marks.proofs.is_blank.Statement.{statement}
+use Rattle.marks.proofs.is_blank.Tie as tie
 
 pub is-blank-spec : {M : Type 1} → statement M
 is-blank-spec =

@@ -1,7 +1,7 @@
--- `strings::text::is_foreign` meets its contract. Assumes nothing.
+-- `marks::is_foreign` meets its contract. Assumes nothing.
 use borrow.Author.Needs.{needs}
-use Rattle.strings.proofs.text.is_foreign.Statement.{statement}
-use Rattle.strings.proofs.text.is_foreign.Tie as tie
+use Rattle.marks.proofs.is_foreign.Statement.{statement}
+use Rattle.marks.proofs.is_foreign.Tie as tie
 
 pub is-foreign-spec : {M : Type 1} → statement M
 is-foreign-spec =

@@ -1,7 +1,7 @@
--- `strings::field::is_conversion` meets its contract. Assumes nothing.
+-- `marks::is_conversion` meets its contract. Assumes nothing.
 use borrow.Author.Tests.{ne-eqb}
-use Rattle.strings.proofs.field.is_conversion.Statement.{statement}
-use Rattle.strings.proofs.field.is_conversion.Tie as tie
+use Rattle.marks.proofs.is_conversion.Statement.{statement}
+use Rattle.marks.proofs.is_conversion.Tie as tie
 
 pub is-conversion-spec : {M : Type 1} → statement M
 is-conversion-spec =

@@ -1,8 +1,8 @@
--- `strings::field::matches` meets its contract. Assumes nothing.
+-- `marks::matches` meets its contract. Assumes nothing.
 use borrow.Author.Tests.{ne-eqb}
 use mathlib.Core.Bool.{or-false}
-use Rattle.strings.proofs.field.matches.Statement.{statement}
-use Rattle.strings.proofs.field.matches.Tie as tie
+use Rattle.marks.proofs.matches.Statement.{statement}
+use Rattle.marks.proofs.matches.Tie as tie
 
 pub matches-spec : {M : Type 1} → statement M
 matches-spec =

@@ -1,7 +1,7 @@
--- `strings::field::ends_head` meets its contract. Assumes nothing.
+-- `marks::ends_head` meets its contract. Assumes nothing.
 use borrow.Author.Tests.{ne-eqb}
-use Rattle.strings.proofs.field.ends_head.Statement.{statement}
-use Rattle.strings.proofs.field.ends_head.Tie as tie
+use Rattle.marks.proofs.ends_head.Statement.{statement}
+use Rattle.marks.proofs.ends_head.Tie as tie
 
 pub ends-head-spec : {M : Type 1} → statement M
 ends-head-spec =

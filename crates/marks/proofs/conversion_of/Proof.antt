@@ -1,0 +1,13 @@
+-- `marks::conversion_of` meets its contract. Assumes nothing.
+use borrow.Author.Tests.{eq-eqb, ne-eqb}
+use Rattle.marks.proofs.conversion_of.Statement.{statement}
+use Rattle.marks.proofs.conversion_of.Tie as tie
+
+pub conversion-of-spec : {M : Type 1} → statement M
+conversion-of-spec =
+    tie.close
+    (tie.spec
+    (λ c. rw (c .before .before .if1 .taken, eq-eqb _ 0 (c .before .if2 .taken), eq-eqb _ 0 (c .if3 .taken)))  -- returns
+    (λ c. rw (c .before .before .if1 .taken, eq-eqb _ 0 (c .before .if2 .taken), ne-eqb _ 0 (c .if3 .left)))  -- returns-2
+    (λ c. rw (c .before .if1 .taken, ne-eqb _ 0 (c .if2 .left)))  -- returns-3
+    (λ c. rw (c .if1 .left)))  -- returns-4

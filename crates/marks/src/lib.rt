@@ -1,0 +1,130 @@
+// What characters and bytes are in a text, a field or a spec. Nothing is written here.
+use escapes::is_any_bytes;
+ghost use mathlib.Core.Path.{_≡_};
+ghost use mathlib.Core.Bool.{_&&_, not};
+ghost use lib.Dec.{leb};
+ghost use Rattle.definition.specs.Numbers.{isBytes, isRaw};
+ghost use Rattle.definition.specs.Chars.{_is_};
+ghost use Rattle.definition.specs.Body.{isBlank, matching};
+ghost use Rattle.definition.proofs.Steps.{firstEnd};
+ghost use Rattle.marks.specs.Marks.{special, converted};
+
+// Whether a kind is raw.
+fn is_raw(kind: u32) -> bool
+    ensures { λ r. ⌜ r ≡ isRaw kind ⌝ }
+{
+    if kind < 3 {
+        return false;
+    }
+    kind <= 5
+}
+
+// Whether a character of a string begins an escape: a backslash does, but not in a raw one.
+pub fn is_escape(c: u32, kind: u32) -> bool
+    ensures { λ r. ⌜ r ≡ (c is "\\" && not (isRaw kind)) ⌝ }
+{
+    if c != 0x5C {
+        return false;
+    }
+    !is_raw(kind)
+}
+
+// Whether a character may not stand in a literal of the kind: in bytes it must be ASCII.
+pub fn is_foreign(c: u32, kind: u32) -> bool
+    ensures { λ r. ⌜ r ≡ (isBytes kind && leb 0x80 c) ⌝ }
+{
+    if is_any_bytes(kind) {
+        return 0x80 <= c;
+    }
+    false
+}
+
+// Whether a byte may be no plain text: a brace, a backslash, or in bytes one above ASCII.
+pub fn is_special(b: u8, kind: u32) -> bool
+    ensures { λ r. ⌜ r ≡ special kind b ⌝ }
+{
+    match b {
+        0x7B => true,
+        0x7D => true,
+        0x5C => true,
+        _ => is_foreign(b as u32, kind),
+    }
+}
+
+// The index of the first brace from an index on, or the end.
+pub fn brace_from(s: &[u8], from: usize) -> usize
+    ensures { λ r. ⌜ r ≡ firstEnd (now (s .entry)) from ⌝ }
+{
+    let mut i = from;
+    while i < s.len() {
+        let b = s[i];
+        if b == b'{' {
+            return i;
+        }
+        if b == b'}' {
+            return i;
+        }
+        i += 1;
+    }
+    i
+}
+
+// Whether a code is a space or U+0009 to U+000D.
+pub fn is_blank(c: u32) -> bool
+    ensures { λ r. ⌜ r ≡ isBlank c ⌝ }
+{
+    match c {
+        9..=13 => true,
+        32 => true,
+        _ => false,
+    }
+}
+
+// Whether a closing bracket is of an open one's kind.
+pub fn matches(opener: u32, closer: u32) -> bool
+    ensures { λ r. ⌜ r ≡ matching opener closer ⌝ }
+{
+    match opener {
+        40 => closer == 41,
+        91 => closer == 93,
+        123 => closer == 125,
+        _ => false,
+    }
+}
+
+// Whether a code is `s`, `a` or `r`.
+pub fn is_conversion(c: u32) -> bool
+    ensures { λ r. ⌜ r ≡ c is "sar" ⌝ }
+{
+    match c {
+        115 => true,
+        97 => true,
+        114 => true,
+        _ => false,
+    }
+}
+
+// Whether a code is `}` or `:`.
+pub fn ends_head(c: u32) -> bool
+    ensures { λ r. ⌜ r ≡ c is "}:" ⌝ }
+{
+    match c {
+        125 => true,
+        58 => true,
+        _ => false,
+    }
+}
+
+// A field's conversion; a self-documenting field with neither conversion nor spec has r.
+pub fn conversion_of(documented: bool, conversion: u32, parts: u32) -> u32
+    ensures { λ r. ⌜ r ≡ converted documented conversion parts ⌝ }
+{
+    if documented {
+        if parts == 0 {
+            if conversion == 0 {
+                return 114;
+            }
+        }
+    }
+    conversion
+}
