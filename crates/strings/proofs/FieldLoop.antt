@@ -23,7 +23,7 @@ use Rattle.strings.specs.declared.field.State.{State}
 use Rattle.strings.specs.declared.field.Head.{Head}
 use Rattle.strings.specs.declared.field.Opened.the-variants as opened
 use Rattle.strings.proofs.FieldLaws.{part-none, and-false, and-true, keeps, plain-goes}
-use Rattle.strings.specs.FieldTurns.{passing, Passed, pending, Room, Fits, keptTo, skippedTo, headAt, brackets, stateOf, headState, Went, Stopped, closedAs, HeadIs, OpenedIs}
+use Rattle.strings.specs.FieldTurns.{passing, Passed, pending, Room, Fits, keptTo, skippedTo, headAt, brackets, stateOf, headState, Went, Stopped, closedAs, HeadIs, EndedIs, OpenedIs}
 
 -- a blank expression is refused at its `}`
 abbrev blankOf : Field → Bool
@@ -140,15 +140,15 @@ module _ {s : List ℕ} {from used : ℕ} {lent : List ℕ} {f : State} {places 
           small = h .small;
         }
 
-  pub formats : {b : Head} {text′ : List ℕ} → Stopped fieldMove calls s f b places text text′ → HeadIs calls s from used b lent text′
-  formats t = head t (moved calls (t .moves expression))
+  pub formats : {b : Head} {text′ : List ℕ} → Stopped fieldMove calls s f b places text text′ → EndedIs s from used b 1 lent text′
+  formats t = record { head = head t (moved calls (t .moves expression)); few = omega arith; full = λ e. absurd (omega arith) }
 
   module _ {b : Head} {text′ : List ℕ} (t : Stopped fieldMove ends s f b places text text′) where
     last : HeadIs ends s from used b lent text′
     last = head t (moved ends (t .moves expression))
 
-    by-blank : (blank : Bool) → b .blank ≡ blank → OpenedIs s from used (if blank then opened.Refused (record { number = emptyExpression; taken = b .at .at; a = 0; b = 0 }) else opened.Closed b) lent text′
-    by-blank false e = record { head = last; full = e }
+    by-blank : (blank : Bool) → b .blank ≡ blank → OpenedIs s from used (if blank then opened.Refused (record { number = emptyExpression; taken = b .at .at; a = 0; b = 0 }) else opened.Ended b 0) lent text′
+    by-blank false e = record { head = last; few = omega arith; full = λ z. e }
     by-blank true e =
         λ kind depth. last .same kind depth ∙ field-end kind s depth from (last .place) (headState (last .expression) b) (last .moves) ∙ blank-refused depth from (next s (last .place)) (headState (last .expression) b) e ∙ ap (λ (n : ℕ). refused emptyExpression n 0 0) (sym (last .after))
 

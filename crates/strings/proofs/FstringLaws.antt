@@ -36,7 +36,7 @@ use Rattle.definition.proofs.Whole.{text-stop, text-end, text-field, text-field
 use Rattle.definition.proofs.Fuel.{Reading, text-reading, field-reading, first-in}
 use Rattle.definition.proofs.Depths.{spec-apart}
 use Rattle.definition.proofs.Prefix.{following, text-prefix}
-use Rattle.strings.specs.FieldTurns.{headState, HeadIs, ClosedIs}
+use Rattle.strings.specs.FieldTurns.{headState, HeadIs, EndedIs}
 
 part-length : (s : List ℕ) (i j : ℕ) → j ≤ length s → length (part s i j) ≡ j - i
 part-length s i j h = omega (arith, length-take (j - i) (drop i s), length-drop i s)
@@ -193,15 +193,19 @@ specified-field s depth from used fr words text text₁ words₁ text₂ words�
     read : d.Read (List Piece)
     read = fieldN (enough s) (fr .kind) s depth from from fresh
 
+-- a head that no `}` ended has one part
+pub one-part : (s : List ℕ) (from used : ℕ) (h : Head) (parts : ℕ) (text text′ : List ℕ) → EndedIs s from used h parts text text′ → (parts ≡ 0 → ⊥) → parts ≡ 1
+one-part s from used h parts text text′ c n = omega (arith, c .few)
+
 -- a field that its `}` ends
-pub closed-field : (s : List ℕ) (depth from used : ℕ) (fr : Frame) (words text words′ text₁ text′ : List ℕ) (k r : Sink) (h : Head) → (c : ClosedIs s from used h text text₁)
+pub closed-field : (s : List ℕ) (depth from used : ℕ) (fr : Frame) (words text words′ text₁ text′ : List ℕ) (k r : Sink) (h : Head) → (c : EndedIs s from used h 0 text text₁)
     → Emits fr depth (before-spec depth (c .head .expression) h 0 from) words text words′ text′ k r
     → ReadIs (fieldN (enough s) (fr .kind) s depth from from fresh) fr depth words text words′ text′ k (Done (h .at) r)
 closed-field s depth from used fr words text words′ text₁ text′ k r h c m =
     to-give (λ l. l) fr depth words text words′ text′ k (fieldN (enough s) (fr .kind) s depth from from fresh) (before-spec depth (c .head .expression) h 0 from) (h .at) r
     (c .head .same (fr .kind) depth
     ∙ field-end (fr .kind) s depth from (c .head .place) (headState (c .head .expression) h) (c .head .moves)
-    ∙ finished-plain s depth from (c .head .expression) h (next s (c .head .place)) (c .full)
+    ∙ finished-plain s depth from (c .head .expression) h (next s (c .head .place)) (c .full refl)
     ∙ ap (λ n. got (before-spec depth (c .head .expression) h 0 from) n) (sym (c .head .after)))
     m
 

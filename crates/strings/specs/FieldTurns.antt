@@ -130,7 +130,7 @@ TurnIs m s f (turn.Refused x) places places′ text text′ = (e : List ℕ) →
 -- a head that a `}` ends: a blank expression is refused after it
 abbrev pub closedAs : Head → Opened
 closedAs h =
-    if h .blank then opened.Refused (record { number = emptyExpression; taken = h .at .at; a = 0; b = 0 }) else opened.Closed h
+    if h .blank then opened.Refused (record { number = emptyExpression; taken = h .at .at; a = 0; b = 0 }) else opened.Ended h 0
 
 -- the head h of the field that began at `from`: the definition comes to its end, and makes the move there
 pub record HeadIs (move : Move Field) (s : List ℕ) (from used : ℕ) (h : Head) (text text′ : List ℕ) : Type 0 where
@@ -145,14 +145,18 @@ pub record HeadIs (move : Move Field) (s : List ℕ) (from used : ℕ) (h : Head
   pub grown : h .used ≡ used + length expression
   pub small : fieldSize (headState expression h) + 4 * from ≤ 4 * place
 
--- a `}` does not end a blank one
-pub record ClosedIs (s : List ℕ) (from used : ℕ) (h : Head) (text text′ : List ℕ) : Type 0 where
-  pub head : HeadIs ends s from used h text text′
-  pub full : h .blank ≡ false
+-- how a head ends, by the number of its field's parts: 0 at a `}`, 1 at a `:`
+abbrev pub endOf : ℕ → Move Field
+endOf parts = if eqb parts 0 then ends else calls
+
+-- a head that ended so; a `}` does not end a blank one
+pub record EndedIs (s : List ℕ) (from used : ℕ) (h : Head) (parts : ℕ) (text text′ : List ℕ) : Type 0 where
+  pub head : HeadIs (endOf parts) s from used h text text′
+  pub few : parts ≤ 1
+  pub full : parts ≡ 0 → h .blank ≡ false
 
 -- what the answer says of the field that began at `from`, and of the text
 abbrev pub OpenedIs : List ℕ → ℕ → ℕ → Opened → List ℕ → List ℕ → Type 0
-OpenedIs s from used (opened.Closed h) text text′ = ClosedIs s from used h text text′
-OpenedIs s from used (opened.Spec h) text text′ = HeadIs calls s from used h text text′
+OpenedIs s from used (opened.Ended h parts) text text′ = EndedIs s from used h parts text text′
 OpenedIs s from used (opened.Refused x) text text′ =
     (kind depth : ℕ) → fieldN (enough s) kind s depth from from fresh ≡ refused (x .number) (x .taken) (x .a) (x .b)

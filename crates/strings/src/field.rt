@@ -41,10 +41,9 @@ pub(crate) struct Head {
     pub(crate) documented: bool,
 }
 
-// A head that a `}` ends, one that a `:` ends, or a refusal.
+// A head that was read, with the number of its field's parts, 0 if a `}` ends it and 1 if a `:` does; or a refusal.
 pub(crate) enum Opened {
-    Closed(Head),
-    Spec(Head),
+    Ended(Head, u32),
     Refused(Refusal),
 }
 
@@ -411,7 +410,7 @@ fn closed(h: Head) -> Opened
             b: 0,
         });
     }
-    Opened::Closed(h)
+    Opened::Ended(h, 0)
 }
 
 // The head after a `{`; the expression's text is written from the used length on.
@@ -434,7 +433,7 @@ pub(crate) fn read_head(s: &[u8], from: Cursor, text: &mut [u8], used: usize) ->
         let here = pass(s, f);
         match read_turn(s, here, text, &mut places) {
             Turn::On(g) => f = g,
-            Turn::Formats(h) => return Opened::Spec(h),
+            Turn::Formats(h) => return Opened::Ended(h, 1),
             Turn::Closes(h) => return closed(h),
             Turn::Refused(x) => return Opened::Refused(x),
         }

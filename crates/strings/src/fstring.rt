@@ -122,15 +122,13 @@ fn parse_formatted_value(
 {
     match read_head(s, at, text, k.used) {
         Opened::Refused(r) => Read::Refused(r),
-        Opened::Closed(h) => {
-            let end = h.at;
-            let a = emit_field(words, text, fr, k, h, 0, at.at, nested);
-            Read::Done(end, a)
-        }
-        Opened::Spec(h) => {
-            let start = h.at;
-            let a = emit_field(words, text, fr, k, h, 1, at.at, nested);
-            match parse_spec(s, start, nested, fr, words, text, a) {
+        Opened::Ended(h, parts) => {
+            let after = h.at;
+            let a = emit_field(words, text, fr, k, h, parts, at.at, nested);
+            if parts == 0 {
+                return Read::Done(after, a);
+            }
+            match parse_spec(s, after, nested, fr, words, text, a) {
                 Read::Refused(r) => Read::Refused(r),
                 Read::Done(next, b) => end_field(s, next, h.blank, b),
             }

@@ -8,7 +8,7 @@ use borrow.Author.Tests.{eq-eqb, ne-eqb}
 use Rattle.definition.proofs.CharLaws.{next-past, next-in}
 use Rattle.definition.proofs.Fuel.{first-in}
 use lib.ListN.{length}
-use Rattle.strings.proofs.FstringLaws.{gave, refuses, to-refuse, fits, small-head, spec-room, closed-field, unformatted-field, specified-field, Sofar, start, deep-result, run-ended, room-text, text-over, field-refused, field-read, field-further, kept, first-room, spec-plain, spec-braced, spec-refused, spec-fits}
+use Rattle.strings.proofs.FstringLaws.{gave, refuses, to-refuse, fits, small-head, one-part, spec-room, closed-field, unformatted-field, specified-field, Sofar, start, deep-result, run-ended, room-text, text-over, field-refused, field-read, field-further, kept, first-room, spec-plain, spec-braced, spec-refused, spec-fits}
 use Prim.Native.Nat.{ℕ, _<_}
 use borrow.Fn.Kinds.{In}
 use borrow.Fn.PlainCycle.{Measures, is, falls, and}
@@ -108,24 +108,22 @@ pub +parse-formatted-value+parse-fstring+parse-spec-spec : {M : Type 1} → stat
     (λ c κs. search needs)  -- read-head-requires
     (λ c. search needs)  -- enum-known-r
     (λ c. search needs)  -- enum-known-h
-    (λ c κs. let R = (c .before .before .before .before .before .before .before .before .before .before .before .before .before .pre .1 .0) in let C = rw (c .before .before .before .before .h .given .1) at (c .before .before .before .before .before .before .before .before .read-head .ensures) in let S = small-head _ _ _ _ _ _ _ (C .head) in (fits _ _ _ _ R, (S .more, omega (arith, R .load, R .small, S .bounded), omega (arith, R .places, R .low))))  -- emit-field-requires
-    (λ c. search needs)  -- enum-known-h-2
-    (λ c κs. let R = (c .before .before .before .before .before .before .before .before .before .before .before .before .before .pre .1 .0) in let C = rw (c .before .before .before .before .h2 .given .1) at (c .before .before .before .before .before .before .before .before .read-head .ensures) in let S = small-head _ _ _ _ _ _ _ C in (fits _ _ _ _ R, (S .more, omega (arith, R .load, R .small, S .bounded), omega (arith, R .places, R .low))))  -- emit-field-requires-2
-    (λ c κs. let a = (c .before .before .before .before .before .before .before .before .before .before .before .before .before .before .before .before .before .before .before .before .args) in let R = (c .before .before .before .before .before .before .before .before .before .before .before .before .before .before .before .before .before .before .before .before .pre .1 .0) in let C = rw (c .before .before .before .before .before .before .before .before .before .before .before .h2 .given .1) at (c .before .before .before .before .before .before .before .before .before .before .before .before .before .before .before .read-head .ensures) in let m = (c .before .before .before .before .before .before .emit-field2 .ensures) (C .expression) (a .text .now) (C .grown) (C .wrote) in let q = spec-room _ _ _ _ _ _ _ _ _ _ _ _ _ C R m in let e = (c .before .before .before .before .before .before .before .before .before .before .before .before .before .before .before .before .before .before .before .before .pre .0) in (omega (arith, e, q .further, q .room .low), (q .room, ((c .before .before .before .before .before .before .before .before .before .before .before .before .before .before .before .before .before .before .before .before .pre .1 .1), q .free, q .strict))))  -- parse-spec-requires
+    (λ c κs. let R = c .before .before .before .before .before .before .before .before .before .before .before .before .before .pre .1 .0 in let E = rw (c .before .before .before .before .h .given .1) at (c .before .before .before .before .before .before .before .before .read-head .ensures) in let S = small-head _ _ _ _ _ _ _ (E .head) in (fits _ _ _ _ R, (S .more, omega (arith, R .load, R .small, S .bounded), omega (arith, R .places, R .low))))  -- emit-field-requires
+    (λ c. search needs)  -- same-length
+    (λ c. search needs)  -- same-length-2
+    (λ c. let a = c .before .before .before .before .before .before .before .before .before .before .before .before .before .before .before .before .before .before .before .args in let E = rw (c .before .before .before .before .before .before .before .before .before .before .h .given .1) at (c .before .before .before .before .before .before .before .before .before .before .before .before .before .before .read-head .ensures) in let C = rw (c .if1 .taken) at E in closed-field _ (a .nested) _ _ (a .fr) _ _ _ _ _ (a .k) _ _ C (rw (c .if1 .taken) at (c .before .before .before .before .before .emit-field .ensures (C .head .expression) (a .text .now) (C .head .grown) (C .head .wrote))))  -- returns
+    (λ c κs. let s = c .before .before .before .before .before .before .before .before .before .before .before .before .before .before .before .before .before .before .before .before .before in let a = s .args in let R = s .pre .1 .0 in let E = rw (c .before .before .before .before .before .before .before .before .before .before .before .before .h .given .1) at (c .before .before .before .before .before .before .before .before .before .before .before .before .before .before .before .before .read-head .ensures) in let p = one-part _ _ _ _ _ _ _ E (c .before .before .if1 .left) in let C = rw p at E in let m = rw p at (c .before .before .before .before .before .before .before .emit-field .ensures (C .head .expression) (a .text .now) (C .head .grown) (C .head .wrote)) in let q = spec-room _ _ _ _ _ _ _ _ _ _ _ _ _ (C .head) R m in let e = s .pre .0 in (omega (arith, e, q .further, q .room .low), (q .room, (s .pre .1 .1, q .free, q .strict))))  -- parse-spec-requires
     (λ c. search needs)  -- enum-known-r-2
     (λ c. search needs)  -- enum-known-next
     (λ c κs. search needs)  -- end-field-requires
-    (λ c. search needs)  -- same-length
-    (λ c. let a = (c .before .before .before .before .before .before .before .before .before .before .args) in let E = rw (c .before .r .given .1) at (c .before .before .before .before .before .read-head .ensures) in to-refuse (λ l. l) _ _ _ _ _ _ _ _ _ (E (a .fr .kind) (a .nested)))  -- returns
-    (λ c. search needs)  -- same-length-2
     (λ c. search needs)  -- same-length-3
-    (λ c. let a = (c .before .before .before .before .before .before .before .before .before .before .before .before .before .before .before .before .before .before .args) in let C = rw (c .before .before .before .before .before .before .before .before .before .h .given .1) at (c .before .before .before .before .before .before .before .before .before .before .before .before .before .read-head .ensures) in closed-field _ (a .nested) _ _ (a .fr) _ _ _ _ _ (a .k) _ _ C ((c .before .before .before .before .emit-field .ensures) (C .head .expression) (a .text .now) (C .head .grown) (C .head .wrote)))  -- returns-2
-    (λ c. let l0 = (c .before .before .before .before .text4 .given) in let l1 = (c .before .before .before .before .before .before .words3 .given) in let l2 = (c .before .before .before .before .before .before .before .before .before .before .before .text3 .given) in let l3 = (c .before .before .before .before .before .before .before .before .before .before .before .before .before .words2 .given) in let l4 = (c .before .before .before .before .before .before .before .before .before .before .before .before .before .before .before .before .before .before .before .before .before .before .text .given) in search needs)  -- same-length-4
-    (λ c. let l0 = (c .before .before .before .before .text4 .given) in let l1 = (c .before .before .before .before .before .before .words3 .given) in let l2 = (c .before .before .before .before .before .before .before .before .before .before .before .text3 .given) in let l3 = (c .before .before .before .before .before .before .before .before .before .before .before .before .before .words2 .given) in let l4 = (c .before .before .before .before .before .before .before .before .before .before .before .before .before .before .before .before .before .before .before .before .before .before .text .given) in search needs)  -- same-length-5
-    (λ c. let a = (c .before .before .before .before .before .before .before .before .before .before .before .before .before .before .before .before .before .before .before .before .before .before .before .before .before .before .before .before .args) in let C = rw (c .before .before .before .before .before .before .before .before .before .before .before .before .before .before .before .before .before .before .before .h2 .given .1) at (c .before .before .before .before .before .before .before .before .before .before .before .before .before .before .before .before .before .before .before .before .before .before .before .read-head .ensures) in let Q = rw (c .before .r2 .given .1) at (c .before .before .before .before .before .before .before .parse-spec .ensures) in let z = refuses _ _ _ _ _ _ _ _ _ _ Q in to-refuse (λ l. l) _ _ _ _ _ _ _ _ _ (unformatted-field _ _ _ _ _ _ _ _ C _ _ _ _ z))  -- returns-3
-    (λ c. let l0 = (c .before .before .before .before .before .text4 .given) in let l1 = (c .before .before .before .before .before .before .before .words3 .given) in let l2 = (c .before .before .before .before .before .before .before .before .before .before .before .before .text3 .given) in let l3 = (c .before .before .before .before .before .before .before .before .before .before .before .before .before .before .words2 .given) in let l4 = (c .before .before .before .before .before .before .before .before .before .before .before .before .before .before .before .before .before .before .before .before .before .before .before .text .given) in search needs)  -- same-length-6
-    (λ c. let l0 = (c .before .before .before .before .before .text4 .given) in let l1 = (c .before .before .before .before .before .before .before .words3 .given) in let l2 = (c .before .before .before .before .before .before .before .before .before .before .before .before .text3 .given) in let l3 = (c .before .before .before .before .before .before .before .before .before .before .before .before .before .before .words2 .given) in let l4 = (c .before .before .before .before .before .before .before .before .before .before .before .before .before .before .before .before .before .before .before .before .before .before .before .text .given) in search needs)  -- same-length-7
-    (λ c. let a = (c .before .before .before .before .before .before .before .before .before .before .before .before .before .before .before .before .before .before .before .before .before .before .before .before .before .before .before .before .before .args) in let C = rw (c .before .before .before .before .before .before .before .before .before .before .before .before .before .before .before .before .before .before .before .before .h2 .given .1) at (c .before .before .before .before .before .before .before .before .before .before .before .before .before .before .before .before .before .before .before .before .before .before .before .before .read-head .ensures) in let m = (c .before .before .before .before .before .before .before .before .before .before .before .before .before .before .before .emit-field2 .ensures) (C .expression) (a .text .now) (C .grown) (C .wrote) in let Q = rw (c .before .before .next .given .1) at (c .before .before .before .before .before .before .before .before .parse-spec .ensures) in specified-field (a .s .now) (a .nested) (a .at .at) _ (a .fr) _ _ _ _ _ _ _ (a .k) _ _ _ _ _ C m (gave _ _ _ _ _ _ _ _ _ _ _ Q) (c .end-field .ensures)))  -- returns-4
+    (λ c. let a = c .before .before .before .before .before .before .before .before .before .before .args in let E = rw (c .before .r .given .1) at (c .before .before .before .before .before .read-head .ensures) in to-refuse (λ l. l) _ _ _ _ _ _ _ _ _ (E (a .fr .kind) (a .nested)))  -- returns-2
+    (λ c. let l0 = (c .before .before .before .before .text3 .given) in let l1 = (c .before .before .before .before .before .before .words2 .given) in let l2 = (c .before .before .before .before .before .before .before .before .before .before .before .before .text2 .given) in let l3 = (c .before .before .before .before .before .before .before .before .before .before .before .before .before .before .words .given) in let l4 = (c .before .before .before .before .before .before .before .before .before .before .before .before .before .before .before .before .before .before .before .before .before .before .before .text .given) in search needs)  -- same-length-4
+    (λ c. let l0 = (c .before .before .before .before .text3 .given) in let l1 = (c .before .before .before .before .before .before .words2 .given) in let l2 = (c .before .before .before .before .before .before .before .before .before .before .before .before .text2 .given) in let l3 = (c .before .before .before .before .before .before .before .before .before .before .before .before .before .before .words .given) in let l4 = (c .before .before .before .before .before .before .before .before .before .before .before .before .before .before .before .before .before .before .before .before .before .before .before .text .given) in search needs)  -- same-length-5
+    (λ c. let a = c .before .before .before .before .before .before .before .before .before .before .before .before .before .before .before .before .before .before .before .before .before .before .before .before .before .before .before .before .before .args in let E = rw (c .before .before .before .before .before .before .before .before .before .before .before .before .before .before .before .before .before .before .before .before .h .given .1) at (c .before .before .before .before .before .before .before .before .before .before .before .before .before .before .before .before .before .before .before .before .before .before .before .before .read-head .ensures) in let p = one-part _ _ _ _ _ _ _ E (c .before .before .before .before .before .before .before .before .before .before .if1 .left) in let C = rw p at E in let Q = rw (c .before .r2 .given .1) at (c .before .before .before .before .before .before .before .parse-spec .ensures) in let z = refuses _ _ _ _ _ _ _ _ _ _ Q in to-refuse (λ l. l) _ _ _ _ _ _ _ _ _ (unformatted-field _ _ _ _ _ _ _ _ (C .head) _ _ _ _ z))  -- returns-3
+    (λ c. let l0 = (c .before .before .before .before .before .text3 .given) in let l1 = (c .before .before .before .before .before .before .before .words2 .given) in let l2 = (c .before .before .before .before .before .before .before .before .before .before .before .before .before .text2 .given) in let l3 = (c .before .before .before .before .before .before .before .before .before .before .before .before .before .before .before .words .given) in let l4 = (c .before .before .before .before .before .before .before .before .before .before .before .before .before .before .before .before .before .before .before .before .before .before .before .before .text .given) in search needs)  -- same-length-6
+    (λ c. let l0 = (c .before .before .before .before .before .text3 .given) in let l1 = (c .before .before .before .before .before .before .before .words2 .given) in let l2 = (c .before .before .before .before .before .before .before .before .before .before .before .before .before .text2 .given) in let l3 = (c .before .before .before .before .before .before .before .before .before .before .before .before .before .before .before .words .given) in let l4 = (c .before .before .before .before .before .before .before .before .before .before .before .before .before .before .before .before .before .before .before .before .before .before .before .before .text .given) in search needs)  -- same-length-7
+    (λ c. let a = c .before .before .before .before .before .before .before .before .before .before .before .before .before .before .before .before .before .before .before .before .before .before .before .before .before .before .before .before .before .before .args in let E = rw (c .before .before .before .before .before .before .before .before .before .before .before .before .before .before .before .before .before .before .before .before .before .h .given .1) at (c .before .before .before .before .before .before .before .before .before .before .before .before .before .before .before .before .before .before .before .before .before .before .before .before .before .read-head .ensures) in let p = one-part _ _ _ _ _ _ _ E (c .before .before .before .before .before .before .before .before .before .before .before .if1 .left) in let C = rw p at E in let m = rw p at (c .before .before .before .before .before .before .before .before .before .before .before .before .before .before .before .before .emit-field .ensures (C .head .expression) (a .text .now) (C .head .grown) (C .head .wrote)) in let Q = rw (c .before .before .next .given .1) at (c .before .before .before .before .before .before .before .before .parse-spec .ensures) in specified-field (a .s .now) (a .nested) (a .at .at) _ (a .fr) _ _ _ _ _ _ _ (a .k) _ _ _ _ _ (C .head) m (gave _ _ _ _ _ _ _ _ _ _ _ Q) (c .end-field .ensures)))  -- returns-4
     (λ t. parse-fstring-lts.spec (parse-fstring-calls t) (parse-fstring-at t) parse-fstring.Post
     parse-fstring-Inv-loop
     parse-fstring-μ-loop
