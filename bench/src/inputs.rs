@@ -81,7 +81,7 @@ fn lists() -> Input {
     Input { name: "lists", cases: vec![case], times: 20_000 }
 }
 
-/// Up to 100,000 runs of literals that are accepted, from a file as crates/cases takes it, each script one piece.
+/// Up to 100,000 runs of literals that are accepted, from a file as crates/try_readings takes it, each script one piece.
 pub fn runs(file: &[u8], mut accepted: impl FnMut(&Case) -> bool) -> Input {
     let number = |at: usize| {
         u32::from_le_bytes([file[at], file[at + 1], file[at + 2], file[at + 3]]) as usize

@@ -2,7 +2,7 @@
 //!
 //!   bench LIBRARY_RUNS
 //!
-//! LIBRARY_RUNS has runs of literals, as crates/cases takes them. Where the Rust's source was not at hand,
+//! LIBRARY_RUNS has runs of literals, as crates/try_readings takes them. Where the Rust's source was not at hand,
 //! the library is timed alone.
 
 #[allow(dead_code)]

@@ -1,4 +1,5 @@
-# Run with Python 3.11, `python3 crates/try_readings/expected.py`: writes the cases to `stdin` beside it and what must come out to `stdout`.
+# Run with Python 3.11, `python3 crates/try_readings/expected.py`: writes the cases to `stdin` beside it and what must come out to `stdout`, and
+# keeps what stands there behind them, the reference's list; `--reference STDIN STDOUT` at the end puts another one there (oracle/fixed).
 # With `--check` it writes nothing and fails if one of them is not what it would write.
 """Document 01's readings, refusals and limits. What each row expects stands there in 01's terms, worked out from 01 by hand."""
 import itertools
@@ -227,7 +228,7 @@ def files():
     for numbers, pieces, answer, words, text in cases:
         stdin += encoded(numbers, pieces, words, text)
         stdout += line("answer", answer + [0] * (12 - len(answer))) + line("words", words) + line("text", text)
-    return {"stdin": stdin, "stdout": stdout.encode()}
+    return stdin, stdout.encode()
 
 
 def fill_cases():
@@ -237,14 +238,30 @@ def fill_cases():
     assert met == NUMBERS | {0}, met
 
 
+def behind(stdin, stdout):
+    """What stands in both files behind the first list. Three lines are written of a case."""
+    count, at = struct.unpack_from("<I", stdin)[0], 4
+    for _ in range(count):
+        numbers, pieces = struct.unpack_from("<2I", stdin, at)
+        at += 16 + 4 * numbers
+        for _ in range(pieces):
+            at += 8 + struct.unpack_from("<I", stdin, at + 4)[0]
+    return [stdin[at:], b"".join(stdout.splitlines(keepends=True)[3 * count :])]
+
+
 def main():
+    check, reference = "--check" in sys.argv, sys.argv[-2:] if "--reference" in sys.argv else None
+    beside = [os.path.join(os.path.dirname(os.path.abspath(__file__)), name) for name in ("stdin", "stdout")]
     fill_cases()
-    for name, content in files().items():
-        path = os.path.join(os.path.dirname(os.path.abspath(__file__)), name)
-        if sys.argv[1:] != ["--check"]:
-            open(path, "wb").write(content)
-        elif open(path, "rb").read() != content:
-            sys.exit(f"expected.py: {path} is not what this script writes")
+    kept = [open(path, "rb").read() for path in beside]
+    rest = [open(path, "rb").read() for path in reference] if reference else behind(*kept)
+    if not all(rest):
+        sys.exit("expected.py: the reference's list is missing")
+    for path, old, own, other in zip(beside, kept, files(), rest):
+        if not check:
+            open(path, "wb").write(own + other)
+        elif old != own + other:
+            sys.exit(f"expected.py: {path} is not what is expected")
 
 
 if __name__ == "__main__":

@@ -1,7 +1,7 @@
 //! Writes the fixed list of answers, for a replay without the Rust at hand.
 //!
-//!   fixed cases     the inputs, as crates/cases takes them
-//!   fixed answers   what document 01 expects of each, as crates/cases writes it
+//!   fixed cases     the inputs, as crates/try_readings takes them
+//!   fixed answers   what document 01 expects of each, as crates/try_readings writes it
 //!
 //! Before a call every word is A5A5A5A5 and every text byte A5 (hexadecimal).
 
@@ -17,7 +17,7 @@ use oracle::rules::{self, RECORD_WORDS};
 const SEED: u64 = 1;
 const CASES: usize = 2_300;
 
-/// What crates/cases has room for: bytes of all inputs, and of one input list numbers, words
+/// What crates/try_readings has room for: bytes of all inputs, and of one input list numbers, words
 /// and bytes.
 const MOST_BYTES: usize = 1_048_640;
 const MOST_NUMBERS: usize = 8_192;

@@ -1,9 +1,9 @@
--- `cases::large` has its length. Assumes nothing.
+-- `try_readings::large` has its length. Assumes nothing.
 use Prim.Native.Nat.{ℕ}
 use mathlib.Core.Path.{_≡_, sym}
 use lib.ListN.{length, replicate, length-replicate}
-use Rattle.cases.proofs.large.Statement.{statement}
-use Rattle.cases.proofs.large.Tie as tie
+use Rattle.try_readings.proofs.large.Statement.{statement}
+use Rattle.try_readings.proofs.large.Tie as tie
 
 counted : (n x : ℕ) → n ≡ length (replicate n x)
 counted n x = sym (length-replicate n x)

@@ -1,8 +1,8 @@
--- `cases::take_piece` stays within the input. Assumes nothing.
+-- `try_readings::take_piece` stays within the input. Assumes nothing.
 use borrow.Author.Needs.{needs}
 use native.Mathlib.Omega.{arith}
-use Rattle.cases.proofs.take_piece.Statement.{statement}
-use Rattle.cases.proofs.take_piece.Tie as tie
+use Rattle.try_readings.proofs.take_piece.Statement.{statement}
+use Rattle.try_readings.proofs.take_piece.Tie as tie
 
 pub take-piece-spec : {M : Type 1} → statement M
 take-piece-spec =

@@ -1,9 +1,9 @@
--- `cases::run_case` lends parts of what it has. Assumes nothing.
+-- `try_readings::run_case` lends parts of what it has. Assumes nothing.
 use borrow.Author.Needs.{needs}
 use mathlib.Core.Path.{sym}
 use lib.Seq.{length-take-le}
-use Rattle.cases.proofs.run_case.Statement.{statement}
-use Rattle.cases.proofs.run_case.Tie as tie
+use Rattle.try_readings.proofs.run_case.Statement.{statement}
+use Rattle.try_readings.proofs.run_case.Tie as tie
 
 pub run-case-spec : {M : Type 1} → statement M
 run-case-spec =

@@ -1,19 +1,19 @@
--- `cases::run_all` keeps the lengths and ends. Assumes nothing.
+-- `try_readings::run_list` keeps the lengths and ends. Assumes nothing.
 use borrow.Author.Needs.{needs}
 use Prim.Native.Nat.{_-_}
 use mathlib.Core.Path.{_≡_}
 use lib.ListN.{length}
-use Rattle.cases.proofs.run_all.Statement.{statement}
-use Rattle.cases.proofs.run_all.Tie as tie
+use Rattle.try_readings.proofs.run_list.Statement.{statement}
+use Rattle.try_readings.proofs.run_list.Tie as tie
 
 abbrev Inv-loop : tie.InvT-loop
-Inv-loop input list₀ script₀ words₀ text₀ count at₀ i₀ list script words text at i = (length list ≡ length list₀) × (length script ≡ length script₀) × (length words ≡ length words₀) × (length text ≡ length text₀)
+Inv-loop input from list₀ script₀ words₀ text₀ count at₀ i₀ list script words text at i = (length list ≡ length list₀) × (length script ≡ length script₀) × (length words ≡ length words₀) × (length text ≡ length text₀)
 
 abbrev μ-loop : tie.MeasureT-loop
-μ-loop input list₀ script₀ words₀ text₀ count at₀ i₀ list script words text at i = count - i
+μ-loop input from list₀ script₀ words₀ text₀ count at₀ i₀ list script words text at i = count - i
 
-pub run-all-spec : {M : Type 1} → statement M
-run-all-spec =
+pub run-list-spec : {M : Type 1} → statement M
+run-list-spec =
     tie.close
     (tie.spec
     Inv-loop

@@ -1,9 +1,9 @@
--- `cases::put_words` ends. Assumes nothing.
+-- `try_readings::put_words` ends. Assumes nothing.
 use borrow.Author.Needs.{needs}
 use Prim.Native.Nat.{_-_}
 use lib.ListN.{length}
-use Rattle.cases.proofs.put_words.Statement.{statement}
-use Rattle.cases.proofs.put_words.Tie as tie
+use Rattle.try_readings.proofs.put_words.Statement.{statement}
+use Rattle.try_readings.proofs.put_words.Tie as tie
 
 abbrev Inv-loop : tie.InvT-loop
 Inv-loop words run₀ i₀ t4 run i = Unit {0}

@@ -1,10 +1,10 @@
--- `cases::put_times` keeps the length and ends. Assumes nothing.
+-- `try_readings::put_times` keeps the length and ends. Assumes nothing.
 use borrow.Author.Needs.{needs}
 use Prim.Native.Nat.{_-_}
 use mathlib.Core.Path.{_≡_}
 use lib.ListN.{length}
-use Rattle.cases.proofs.put_times.Statement.{statement}
-use Rattle.cases.proofs.put_times.Tie as tie
+use Rattle.try_readings.proofs.put_times.Statement.{statement}
+use Rattle.try_readings.proofs.put_times.Tie as tie
 
 abbrev Inv-loop : tie.InvT-loop
 Inv-loop script₀ from piece times used₀ i₀ script used i = length script ≡ length script₀

@@ -1,9 +1,9 @@
--- `cases::put_bytes` ends. Assumes nothing.
+-- `try_readings::put_bytes` ends. Assumes nothing.
 use borrow.Author.Needs.{needs}
 use Prim.Native.Nat.{_-_}
 use lib.ListN.{length}
-use Rattle.cases.proofs.put_bytes.Statement.{statement}
-use Rattle.cases.proofs.put_bytes.Tie as tie
+use Rattle.try_readings.proofs.put_bytes.Statement.{statement}
+use Rattle.try_readings.proofs.put_bytes.Tie as tie
 
 abbrev Inv-loop : tie.InvT-loop
 Inv-loop bytes run₀ i₀ t4 run i = Unit {0}

@@ -1,10 +1,10 @@
--- `cases::take_list` stays within the list, keeps its length and ends. Assumes nothing.
+-- `try_readings::take_list` stays within the list, keeps its length and ends. Assumes nothing.
 use borrow.Author.Needs.{needs}
 use Prim.Native.Nat.{_-_, _≤_}
 use mathlib.Core.Path.{_≡_}
 use lib.ListN.{length}
-use Rattle.cases.proofs.take_list.Statement.{statement}
-use Rattle.cases.proofs.take_list.Tie as tie
+use Rattle.try_readings.proofs.take_list.Statement.{statement}
+use Rattle.try_readings.proofs.take_list.Tie as tie
 
 abbrev Inv-loop : tie.InvT-loop
 Inv-loop input from count list₀ n at₀ i₀ list at i = (n ≤ length list) × (length list ≡ length list₀)

@@ -1,10 +1,10 @@
--- `cases::take_script` keeps the length and ends. Assumes nothing.
+-- `try_readings::take_script` keeps the length and ends. Assumes nothing.
 use borrow.Author.Needs.{needs}
 use Prim.Native.Nat.{_-_}
 use mathlib.Core.Path.{_≡_}
 use lib.ListN.{length}
-use Rattle.cases.proofs.take_script.Statement.{statement}
-use Rattle.cases.proofs.take_script.Tie as tie
+use Rattle.try_readings.proofs.take_script.Statement.{statement}
+use Rattle.try_readings.proofs.take_script.Tie as tie
 
 abbrev Inv-loop : tie.InvT-loop
 Inv-loop input from count script₀ taken₀ i₀ script taken i = length script ≡ length script₀
