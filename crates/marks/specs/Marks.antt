@@ -1,9 +1,12 @@
 -- What the answers about characters and fields are, by the definition's sets.
 use Prim.Native.Nat.{ℕ}
-use mathlib.Core.Bool.{Bool, true, false, _&&_, _||_}
+use mathlib.Core.Bool.{Bool, _&&_, _||_}
+use mathlib.Core.List.{[]}
+use mathlib.Core.Option.{none, some}
 use lib.Dec.{eqb, leb}
 use Rattle.definition.specs.Numbers.{isBytes}
 use Rattle.definition.specs.Chars.{if_then_else_, _is_}
+use Rattle.definition.specs.Body.{conversionOf}
 
 -- a byte that may be no plain text: a brace, a backslash, or in bytes one above ASCII
 abbrev pub special : ℕ → ℕ → Bool
@@ -11,5 +14,4 @@ special kind b = b is "{}\\" || (isBytes kind && leb 0x80 b)
 
 -- a field's conversion, by the number of its parts: 1 with a spec, else 0
 abbrev pub converted : Bool → ℕ → ℕ → ℕ
-converted false c parts = c
-converted true c parts = if eqb parts 0 then (if eqb c 0 then 114 else c) else c
+converted documented c parts = conversionOf documented c (if eqb parts 0 then none else some [])

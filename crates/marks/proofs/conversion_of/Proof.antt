@@ -1,9 +1,11 @@
 -- `marks::conversion_of` meets its contract. Assumes nothing.
 use borrow.Author.Tests.{eq-eqb, ne-eqb}
+use Rattle.definition.specs.Body.{conversionOf}
 use Rattle.marks.proofs.conversion_of.Statement.{statement}
 use Rattle.marks.proofs.conversion_of.Tie as tie
 
 pub conversion-of-spec : {M : Type 1} → statement M
+unfolding conversionOf
 conversion-of-spec =
     tie.close
     (tie.spec
