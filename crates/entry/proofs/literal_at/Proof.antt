@@ -22,4 +22,4 @@ literal-at-spec =
     (λ c κs. search needs)  -- number-at-requires-5
     (λ c. search needs)  -- add-number-at-5
     (λ c κs. search needs)  -- number-at-requires-6
-    (λ c. rw (← c .number-at6 .ensures, ← c .before .number-at5 .ensures, ← c .before .before .number-at4 .ensures, ← c .before .before .before .number-at3 .ensures, ← c .before .before .before .before .number-at2 .ensures, ← c .before .before .before .before .before .number-at .ensures)))  -- returns
+    (λ c. rw (c .number-at6 .ensures, c .before .number-at5 .ensures, c .before .before .number-at4 .ensures, c .before .before .before .number-at3 .ensures, c .before .before .before .before .number-at2 .ensures, c .before .before .before .before .before .number-at .ensures)))  -- returns

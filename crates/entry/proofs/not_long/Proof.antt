@@ -13,5 +13,5 @@ not-long-spec =
     (tie.spec
     (λ c κs. search needs)  -- total-requires
     (λ c κs. search needs)  -- refuse-requires
-    (λ c. rw (c .refuse .ensures, ← c .before .before .total .ensures, lt-ltb _ _ (c .before .if1 .taken)))  -- returns
-    (λ c. rw (← c .before .total .ensures, le-ltb _ _ (c .if1 .left))))  -- returns-2
+    (λ c. rw (c .refuse .ensures, ← c .before .before .total .ensures, lt-ltb 1048576 _ (c .before .if1 .taken)))  -- returns
+    (λ c. rw (← c .before .total .ensures, le-ltb 1048576 _ (c .if1 .left))))  -- returns-2
