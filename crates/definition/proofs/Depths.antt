@@ -9,8 +9,8 @@ use borrow.Author.Tests.{ne-eqb}
 use Rattle.definition.specs.Numbers.{emptyExpression, unclosedLbrace}
 use Rattle.definition.specs.Chars.{if_then_else_, _is_, atEnd, code, next}
 use Rattle.definition.specs.Escapes.{Read, got, refused}
-use Rattle.definition.specs.Body.{Piece, literal, field, spec, Move, goes, stops, calls, ends, filled, Field, state, fresh, textMove, fieldMove, direct, conversionOf, fieldPieces, selfDocumenting, finished, specified, textN, fieldN, specN}
-use Rattle.definition.proofs.Steps.{text-goes, text-stops, text-ends, text-got, text-refused, field-goes, field-stops, field-ends, field-got, field-refused, firstEnd, firstPiece, spec-calls, spec-ends}
+use Rattle.definition.specs.Body.{Piece, literal, field, spec, Move, goes, stops, calls, ends, filled, Field, state, fresh, textMove, fieldMove, direct, conversionOf, fieldPieces, selfDocumenting, finished, specified, firstEnd, textN, fieldN, specN}
+use Rattle.definition.proofs.Steps.{text-goes, text-stops, text-ends, text-got, text-refused, field-goes, field-stops, field-ends, field-got, field-refused, firstPiece, spec-calls, spec-ends}
 
 abbrev pub Deep : ℕ → List Piece → Type 0
 Deep depth [] = Unit {0}

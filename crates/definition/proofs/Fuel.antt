@@ -9,10 +9,10 @@ use lib.ListN.{length}
 use Rattle.definition.specs.Numbers.{isFString}
 use Rattle.definition.specs.Chars.{_is_, part, code, next}
 use Rattle.definition.specs.Escapes.{Read, got, refused}
-use Rattle.definition.specs.Body.{Piece, Move, goes, stops, calls, ends, stringMove, stringN, filled, Field, fresh, textMove, fieldMove, finished, plainRun, textN, fieldN, specN, enough, alone, readBody}
+use Rattle.definition.specs.Body.{Piece, Move, goes, stops, calls, ends, stringMove, stringN, filled, Field, fresh, textMove, fieldMove, finished, plainRun, firstEnd, textN, fieldN, specN, enough, alone, readBody}
 use Rattle.definition.proofs.CharLaws.{next-past, next-in, next-from, before-in}
 use Rattle.definition.proofs.Moves.{Sound, textSize, weight, Ahead, later, part-short, string-ahead, text-ahead, fieldSize, field-ahead, finished-sound, specified-sound, Light, weight-append, filled-light, finished-light, specified-light}
-use Rattle.definition.proofs.Steps.{string-goes, string-stops, string-ends, text-goes, text-stops, text-ends, text-got, text-refused, field-goes, field-stops, field-ends, field-got, field-refused, firstEnd, firstPiece, spec-calls, spec-ends}
+use Rattle.definition.proofs.Steps.{string-goes, string-stops, string-ends, text-goes, text-stops, text-ends, text-got, text-refused, field-goes, field-stops, field-ends, field-got, field-refused, firstPiece, spec-calls, spec-ends}
 
 -- moves enough at i: twice the bytes left, and e more
 abbrev pub Moves : List ℕ → ℕ → ℕ → ℕ → Type 0

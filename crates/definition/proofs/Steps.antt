@@ -2,12 +2,11 @@
 use mathlib.Core.Path.{_≡_}
 use mathlib.Core.Bool.{true, false}
 use mathlib.Core.List.{List, [], _++_}
-use Prim.Native.Nat.{ℕ, suc, _+_}
+use Prim.Native.Nat.{ℕ, suc}
 use mathlib.Core.Option.{none}
-use lib.ListN.{drop}
 use Rattle.definition.specs.Chars.{_is_, part, code, next}
 use Rattle.definition.specs.Escapes.{got, refused}
-use Rattle.definition.specs.Body.{Piece, goes, stops, calls, ends, stringMove, stringN, filled, Field, fresh, textMove, fieldMove, finished, specified, plainRun, textN, fieldN, specN}
+use Rattle.definition.specs.Body.{Piece, goes, stops, calls, ends, stringMove, stringN, filled, Field, fresh, textMove, fieldMove, finished, specified, firstEnd, textN, fieldN, specN}
 
 module _ (n kind : ℕ) (s : List ℕ) (i : ℕ) (text : List ℕ) where
   pub string-goes : (j : ℕ) (text′ : List ℕ) → stringMove kind s i text ≡ goes j text′ → stringN (suc n) kind s i text ≡ stringN n kind s j text′
@@ -67,10 +66,7 @@ module _ (n kind : ℕ) (s : List ℕ) (depth from i : ℕ) (f : Field) where
   unfolding fieldN
   field-refused m j a b e g = rw (e, g, fieldN)
 
--- where a spec's first piece ends, and that piece
-abbrev pub firstEnd : List ℕ → ℕ → ℕ
-firstEnd s i = i + plainRun (drop i s)
-
+-- a spec's first piece
 abbrev pub firstPiece : List ℕ → ℕ → ℕ → List Piece
 firstPiece s depth i = filled (suc depth) (part s i (firstEnd s i))
 

@@ -8,9 +8,9 @@ use native.Mathlib.Omega.{arith}
 use lib.ListN.{length}
 use Rattle.definition.specs.Chars.{_is_, code, next}
 use Rattle.definition.specs.Escapes.{got, refused}
-use Rattle.definition.specs.Body.{Piece, goes, stops, calls, ends, stringMove, stringN, filled, Field, fresh, textMove, fieldMove, finished, specified, textN, fieldN, specN, enough}
+use Rattle.definition.specs.Body.{Piece, goes, stops, calls, ends, stringMove, stringN, filled, Field, fresh, textMove, fieldMove, finished, specified, firstEnd, textN, fieldN, specN, enough}
 use Rattle.definition.proofs.CharLaws.{next-in, next-past}
-use Rattle.definition.proofs.Steps.{string-goes, string-stops, string-ends, text-goes, text-stops, text-ends, text-got, text-refused, field-goes, field-stops, field-ends, field-got, field-refused, firstEnd, firstPiece, spec-calls, spec-ends}
+use Rattle.definition.proofs.Steps.{string-goes, string-stops, string-ends, text-goes, text-stops, text-ends, text-got, text-refused, field-goes, field-stops, field-ends, field-got, field-refused, firstPiece, spec-calls, spec-ends}
 use Rattle.definition.proofs.Fuel.{first-in, string-fuel, text-fuel, field-fuel, spec-fuel}
 
 -- one move less than enough

@@ -225,9 +225,12 @@ finished depth i j (state e b o c d w) p =
 unfoldable pub specified : List ℕ → ℕ → ℕ → ℕ → Field → List Piece → Read (List Piece)
 specified s depth i j f ps = if atEnd s j then refused unclosedLbrace j 0 0 else finished depth i (next s j) f (some ps)
 
--- a spec's first piece: the bytes before the first brace
+-- a spec's first piece: the bytes before the first brace; where it ends, if it begins at i
 unfoldable pub plainRun : List ℕ → ℕ
 plainRun s = before (λ b. b is "{}") s
+
+abbrev pub firstEnd : List ℕ → ℕ → ℕ
+firstEnd s i = i + plainRun (drop i s)
 
 -- TEXT, FIELD AND SPEC call for one another; n bounds the moves. `ps` is the text's pieces so far; a field began at `from`
 unfoldable mutual
@@ -260,7 +263,7 @@ unfoldable mutual
   pub specN : ℕ → ℕ → List ℕ → ℕ → ℕ → Read (List Piece)
   specN zero kind s depth i = refused 0 i 0 0
   specN (suc n) kind s depth i =
-      let j = i + plainRun (drop i s) in
+      let j = firstEnd s i in
       let first = filled (suc depth) (part s i j) in
       elim (code s j is "{") [ true ↦ textN n kind s (suc depth) j [] first | false ↦ got first j ]
 

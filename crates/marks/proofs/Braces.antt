@@ -8,8 +8,7 @@ use native.Mathlib.Omega.{arith}
 use lib.ListN.{length, drop, getD, drop-of-length-le}
 use lib.Seq.{drop-cons}
 use Rattle.definition.specs.Chars.{_is_, before}
-use Rattle.definition.specs.Body.{plainRun}
-use Rattle.definition.proofs.Steps.{firstEnd}
+use Rattle.definition.specs.Body.{plainRun, firstEnd}
 
 first-stops : (s : List ℕ) (i : ℕ) → i < length s → (getD s i 0 is "{}") ≡ true → plainRun (drop i s) ≡ 0
 unfolding plainRun before

@@ -5,8 +5,7 @@ ghost use mathlib.Core.Bool.{_&&_, not};
 ghost use lib.Dec.{leb};
 ghost use Rattle.definition.specs.Numbers.{isBytes, isRaw};
 ghost use Rattle.definition.specs.Chars.{_is_};
-ghost use Rattle.definition.specs.Body.{isBlank, matching};
-ghost use Rattle.definition.proofs.Steps.{firstEnd};
+ghost use Rattle.definition.specs.Body.{isBlank, matching, firstEnd};
 ghost use Rattle.marks.specs.Marks.{special, converted};
 
 // Whether a kind is raw.
@@ -51,6 +50,17 @@ pub fn is_special(b: u8, kind: u32) -> bool
     }
 }
 
+// Whether a byte is a brace.
+fn is_brace(b: u8) -> bool
+    ensures { λ r. ⌜ r ≡ b is "{}" ⌝ }
+{
+    match b {
+        b'{' => true,
+        b'}' => true,
+        _ => false,
+    }
+}
+
 // The index of the first brace from an index on, or the end.
 pub fn brace_from(s: &[u8], from: usize) -> usize
     ensures { λ r. ⌜ r ≡ firstEnd (now (s .entry)) from ⌝ }
@@ -58,10 +68,7 @@ pub fn brace_from(s: &[u8], from: usize) -> usize
     let mut i = from;
     while i < s.len() {
         let b = s[i];
-        if b == b'{' {
-            return i;
-        }
-        if b == b'}' {
+        if is_brace(b) {
             return i;
         }
         i += 1;

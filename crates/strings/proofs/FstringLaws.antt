@@ -11,7 +11,7 @@ use Rattle.definition.specs.Chars.{_is_, part, atEnd, code, next}
 use Rattle.definition.specs.Numbers.{unclosedLbrace, emptyExpression, expressionNestedTooDeeply}
 use Rattle.definition.specs.Escapes as d
 use Rattle.definition.specs.Escapes.{got, refused}
-use Rattle.definition.specs.Body.{Piece, field, spec, filled, direct, Field, fresh, Move, calls, ends, textCase, textMove, textN, fieldN, specN, enough, conversionOf, fieldPieces, selfDocumenting, finished, specified}
+use Rattle.definition.specs.Body.{Piece, field, spec, filled, direct, Field, fresh, Move, calls, ends, textCase, textMove, textN, fieldN, specN, enough, conversionOf, fieldPieces, selfDocumenting, finished, specified, firstEnd}
 use Rattle.definition.specs.Records.{Item, item, itemOf, covers, wordsOf, recordAt}
 use Rattle.utf8.specs.declared.Cursor.{Cursor}
 use Rattle.buffers.specs.Over.{over}
@@ -31,7 +31,7 @@ use Rattle.definition.proofs.Moves.{weight, fieldSize, filled-light, part-short
 use Rattle.definition.proofs.CharLaws.{next-past, next-in, next-from}
 use Rattle.strings.specs.Text.{StopsBy}
 use Rattle.strings.proofs.SinkLaws.{emits-both, grown}
-use Rattle.definition.proofs.Steps.{firstEnd, firstPiece}
+use Rattle.definition.proofs.Steps.{firstPiece}
 use Rattle.definition.proofs.Whole.{text-stop, text-end, text-field, text-field-stop, field-end, field-spec, field-spec-stop, spec-text, spec-end}
 use Rattle.definition.proofs.Fuel.{Reading, text-reading, field-reading, first-in}
 use Rattle.definition.proofs.Depths.{spec-apart}
