@@ -1,5 +1,5 @@
 -- The checks one after the other. Assumes nothing.
-use mathlib.Core.Path.{_≡_, refl}
+use mathlib.Core.Path.{_≡_, refl, sym, _∙_}
 use mathlib.Core.List.{List, [], _∷_}
 use mathlib.Core.Option.{Option, none, some}
 use Prim.Native.Nat.{ℕ, _*_, _%_, _≤_, _<_}
@@ -9,7 +9,7 @@ use lib.Dec.{ltb}
 use lib.ListN.{length}
 use Rattle.definition.specs.Numbers.{emptyList, notSixes, tooManyLiterals}
 use Rattle.definition.specs.Entry.{Refusal, refusal, notEmpty, notMany, firstOf, entry}
-use Rattle.definition.specs.Reading.{accepts, refuses}
+use Rattle.definition.specs.Reading.{Outcome, accepts, refuses}
 use Rattle.definition.proofs.CharLaws.{cases}
 use Rattle.entry.specs.Answers.{outcomeOf, laterChecks, checkNumbers, roomFor}
 use Rattle.entry.specs.Literals.{literals}
@@ -35,10 +35,15 @@ unfolding outcomeOf
 refused n r none e = cc
 refused n r (some x) e = cc
 
--- what the first that refuses says, and the last one
-pub first-says : (n : ℕ) (r : Refusal) → refuses r ≡ outcomeOf n (some r)
-unfolding outcomeOf
-first-says n r = refl
+-- the checks in turn: one that refuses, one that passes, the last one
+module _ (n : ℕ) (c : Option Refusal) (cs : List (Option Refusal)) where
+  pub stops-here : (r : Refusal) (o : Outcome ℕ) → o ≡ refuses r → o ≡ outcomeOf n c → o ≡ outcomeOf n (firstOf (c ∷ cs))
+  unfolding firstOf
+  stops-here r o e h = let s = refused n r c (sym e ∙ h) in rw s (rw s at h)
+
+  pub goes-on : (k : ℕ) (o p : Outcome ℕ) → o ≡ accepts k → o ≡ outcomeOf n c → p ≡ outcomeOf n (firstOf cs) → p ≡ outcomeOf n (firstOf (c ∷ cs))
+  unfolding firstOf
+  goes-on k o p e h g = rw (passes n k c (sym e ∙ h)) g
 
 pub last-says : (n : ℕ) (c : Option Refusal) → outcomeOf n c ≡ outcomeOf n (firstOf (c ∷ []))
 unfolding firstOf
