@@ -10,7 +10,7 @@ use Rattle.definition.specs.Escapes.{Read, got, refused}
 use Rattle.definition.specs.Body.{Piece, readBody}
 use Rattle.definition.specs.Records.{Item, Answer, answerOf}
 use Rattle.definition.specs.Entry.{Literal, oneMore, sixes, body, refusal, firstStart, entry}
-use Rattle.definition.specs.Reading.{Outcome, accepts, refuses, readLiteral, andThen, readFrom, sortOf, uMark, lastEnd, answered, read, roomed, called, readInto, readNumbers}
+use Rattle.definition.specs.Reading.{Outcome, accepts, refuses, readLiteral, andThen, readFrom, sortOf, uMark, lastEnd, answered, read, outcomeOf, roomFor, roomed, called, readInto, readNumbers}
 use Rattle.definition.specs.Join.{shifted, joinOutcomes, Enough}
 use Rattle.definition.proofs.Laid.{answer-append}
 use Rattle.definition.proofs.EntrySplit.{entry-left, entry-right, sort-append}
@@ -96,7 +96,7 @@ module _ (script : List ℕ) (x : Literal) (xs : List Literal) (y : Literal) (ys
       (sym (read-passed script (y ∷ ys) (entry-right script x xs y ys passed)))
 
 room : (w t : ℕ) (o : Outcome Answer) → Enough w t o → roomed w t o ≡ o
-unfolding roomed Enough
+unfolding outcomeOf roomFor roomed Enough
 room w t (refuses r) h = refl
 room w t (accepts x) h = rw (le-ltb (w / 8) (length (x .records)) (h .0), le-ltb t (length (x .text)) (h .1))
 

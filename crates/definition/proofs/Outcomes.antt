@@ -14,7 +14,7 @@ use Rattle.definition.specs.Escapes.{Read, got, refused}
 use Rattle.definition.specs.Body.{Piece, readBody}
 use Rattle.definition.specs.Records.{Item, Record, wordsOf, merged, texts, recordAt, laid, cover, Answer, answerOf}
 use Rattle.definition.specs.Entry.{Literal, sixes, placeOf, body, Refusal, refusal, notEmpty, notMany, firstBad, bad, allGood, total, notLong, formed, illFormed, allUtf8, anyOf, firstStart, notMixed, firstOf, entry}
-use Rattle.definition.specs.Reading.{Outcome, accepts, refuses, readLiteral, andThen, readFrom, uMark, lastEnd, answered, read, roomed, allWords, inFront, wordsAfter, textAfter, Call, called, readInto, readNumbers}
+use Rattle.definition.specs.Reading.{Outcome, accepts, refuses, readLiteral, andThen, readFrom, uMark, lastEnd, answered, read, outcomeOf, roomFor, roomed, allWords, inFront, wordsAfter, textAfter, Call, called, readInto, readNumbers}
 use Rattle.definition.proofs.Moves.{Listed, Sound}
 use Rattle.definition.proofs.Fuel.{body-reading}
 
@@ -148,7 +148,7 @@ read-sane script ls = go (entry script ls) refl (entry-numbered script ls)
     go (some r) e h = rw (e, read) h
 
 roomed-sane : (w t : ℕ) (o : Outcome Answer) → Sane o → Sane (roomed w t o)
-unfolding roomed refusal
+unfolding outcomeOf roomFor roomed refusal
 roomed-sane w t (refuses r) h = h
 roomed-sane w t (accepts x) h = go (ltb (w / 8) (length (x .records))) refl (ltb t (length (x .text))) refl
   where
@@ -184,7 +184,7 @@ in-front : (xs buffer : List ℕ) → length xs ≤ length buffer → length (in
 in-front xs buffer h = omega (arith, length-append xs (drop (length xs) buffer), length-drop (length xs) buffer)
 
 called-kept : (o : Outcome Answer) (words text : List ℕ) → Kept words text (called (roomed (length words) (length text) o) words text)
-unfolding called roomed wordsAfter textAfter
+unfolding called outcomeOf roomFor roomed wordsAfter textAfter
 called-kept (refuses r) words text = (length-replicate (length words) 0, length-replicate (length text) 0)
 called-kept (accepts x) words text = go (ltb (length words / 8) (length (x .records))) refl (ltb (length text) (length (x .text))) refl
   where

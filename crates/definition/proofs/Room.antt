@@ -10,7 +10,7 @@ use lib.ListN.{length}
 use borrow.Author.Tests.{le-ltb}
 use Rattle.definition.specs.Records.{Answer}
 use Rattle.definition.specs.Entry.{Literal, refusal, sixes}
-use Rattle.definition.specs.Reading.{Outcome, accepts, refuses, read, roomed, Call, called, readInto, readNumbers}
+use Rattle.definition.specs.Reading.{Outcome, accepts, refuses, read, outcomeOf, roomFor, roomed, Call, called, readInto, readNumbers}
 
 -- with any room, of what is accepted as x with some: an acceptance is x, a refusal's details are how many records and text bytes x has
 abbrev pub Needed : Answer → Outcome Answer → Type 0
@@ -19,7 +19,7 @@ Needed x (refuses r) = (r .a ≡ length (x .records)) × (r .b ≡ length (x .te
 
 module _ (w t : ℕ) where
   roomed-needed : (x : Answer) → Needed x (roomed w t (accepts x))
-  unfolding roomed refusal
+  unfolding outcomeOf roomFor roomed refusal
   roomed-needed x = go (ltb (w / 8) (length (x .records))) refl (ltb t (length (x .text))) refl
     where
       go : (a : Bool) → ltb (w / 8) (length (x .records)) ≡ a → (b : Bool) → ltb t (length (x .text)) ≡ b → Needed x (roomed w t (accepts x))
@@ -28,11 +28,11 @@ module _ (w t : ℕ) where
       go false p false q = rw (p, q) refl
 
   pub roomed-enough : (x : Answer) → length (x .records) ≤ w / 8 → length (x .text) ≤ t → roomed w t (accepts x) ≡ accepts x
-  unfolding roomed
+  unfolding outcomeOf roomFor roomed
   roomed-enough x h k = rw (le-ltb (w / 8) (length (x .records)) h, le-ltb t (length (x .text)) k)
 
   roomed-accepts : (o : Outcome Answer) (x : Answer) → roomed w t o ≡ accepts x → o ≡ accepts x
-  unfolding roomed
+  unfolding outcomeOf roomFor roomed
   roomed-accepts (refuses r) x e = e
   roomed-accepts (accepts y) x e = go (ltb (w / 8) (length (y .records))) refl (ltb t (length (y .text))) refl
     where

@@ -1,7 +1,7 @@
 -- A whole list: its reading, the room it needs, and what the two buffers hold afterwards (parse_strings).
 use Prim.Native.Nat.{ℕ, suc, _+_, _/_}
 use mathlib.Core.List.{List, [], _∷_, _++_, map}
-use mathlib.Core.Option.{none, some}
+use mathlib.Core.Option.{Option, none, some}
 use lib.Dec.{ltb}
 use lib.ListN.{length, drop, replicate}
 use Rattle.definition.specs.Numbers.{isFString, isBytes, isUnicode, notSixes, tooFewRecordPlaces, tooLittleTextRoom}
@@ -56,14 +56,21 @@ answered ls (refuses r) = refuses r
 unfoldable pub read : List ℕ → List Literal → Outcome Answer
 read script ls = elim (entry script ls) [ some r ↦ refuses r | none ↦ answered ls (readFrom script 0 ls) ]
 
--- 30 before 31, exactly if the buffer holds fewer than needed: w words and t bytes are lent, eight words make one record place
+-- x, unless a check refuses
+unfoldable pub outcomeOf : {A : Type 0} → A → Option Refusal → Outcome A
+outcomeOf x none = accepts x
+outcomeOf x (some r) = refuses r
+
+-- 30 before 31, exactly if the buffer holds fewer than needed: record places and bytes that are lent, records and bytes that are needed
+unfoldable pub roomFor : ℕ → ℕ → ℕ → ℕ → Option Refusal
+roomFor places bytes records size =
+    if ltb places records then some (refusal tooFewRecordPlaces 0 0 records size) else
+    if ltb bytes size then some (refusal tooLittleTextRoom 0 0 records size) else none
+
+-- w words and t bytes are lent: eight words make one record place
 unfoldable pub roomed : ℕ → ℕ → Outcome Answer → Outcome Answer
 roomed w t (refuses r) = refuses r
-roomed w t (accepts x) =
-    let records = length (x .records) in
-    let size = length (x .text) in
-    if ltb (w / 8) records then refuses (refusal tooFewRecordPlaces 0 0 records size) else
-    if ltb t size then refuses (refusal tooLittleTextRoom 0 0 records size) else accepts x
+roomed w t (accepts x) = outcomeOf x (roomFor (w / 8) t (length (x .records)) (length (x .text)))
 
 -- the records' words, in order
 unfoldable pub allWords : List Record → List ℕ

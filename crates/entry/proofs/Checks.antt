@@ -9,9 +9,9 @@ use lib.Dec.{ltb}
 use lib.ListN.{length}
 use Rattle.definition.specs.Numbers.{emptyList, notSixes, tooManyLiterals}
 use Rattle.definition.specs.Entry.{Refusal, refusal, notEmpty, notMany, firstOf, entry}
-use Rattle.definition.specs.Reading.{Outcome, accepts, refuses}
+use Rattle.definition.specs.Reading.{Outcome, accepts, refuses, outcomeOf, roomFor}
 use Rattle.definition.proofs.CharLaws.{cases}
-use Rattle.entry.specs.Answers.{outcomeOf, laterChecks, checkNumbers, roomFor}
+use Rattle.entry.specs.Answers.{laterChecks, checkNumbers}
 use Rattle.entry.specs.Literals.{literals}
 use Rattle.entry.proofs.Literals.{first-is, length-literals, sixes-some, sixes-none}
 

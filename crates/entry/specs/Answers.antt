@@ -3,12 +3,10 @@ use Prim.Native.Nat.{ℕ}
 use mathlib.Core.Bool.{Bool, not}
 use mathlib.Core.List.{List, [], _∷_}
 use mathlib.Core.Option.{Option, none, some}
-use lib.Dec.{ltb}
 use lib.ListN.{length}
-use Rattle.definition.specs.Numbers.{isFString, isBytes, notSixes, tooFewRecordPlaces, tooLittleTextRoom}
-use Rattle.definition.specs.Chars.{if_then_else_}
+use Rattle.definition.specs.Numbers.{isFString, isBytes, notSixes}
 use Rattle.definition.specs.Entry.{Literal, sixes, Refusal, refusal, allGood, notLong, allUtf8, notMixed, firstOf, entry}
-use Rattle.definition.specs.Reading.{Outcome, accepts, refuses}
+use Rattle.definition.specs.Reading.{Outcome, accepts, refuses, outcomeOf}
 use Rattle.entry.specs.declared.Descriptor.{Descriptor}
 use Rattle.entry.specs.declared.Checked.{Checked}
 use Rattle.entry.specs.declared.Checked.the-variants.{Passed, Refused}
@@ -24,11 +22,6 @@ abbrev pub says : Checked → Outcome ℕ
 says (Passed n) = accepts n
 says (Refused r) = refuses (refusal (r .number) (r .literal) (r .place) (r .a) (r .b))
 
--- n literals pass unless a check refuses
-unfoldable pub outcomeOf : ℕ → Option Refusal → Outcome ℕ
-outcomeOf n none = accepts n
-outcomeOf n (some r) = refuses r
-
 -- 4 to 7, in that order
 unfoldable pub laterChecks : List ℕ → List Literal → Option Refusal
 laterChecks script ls = firstOf (allGood script ls ∷ notLong ls ∷ allUtf8 script ls ∷ notMixed ls ∷ [])
@@ -43,9 +36,3 @@ abbrev pub isOf : Class → ℕ → Bool
 isOf FStrings kind = isFString kind
 isOf Bytes kind = isBytes kind
 isOf Others kind = not (isBytes kind)
-
--- 30 before 31, by the record places and bytes that are lent, and the records and bytes that are needed
-unfoldable pub roomFor : ℕ → ℕ → ℕ → ℕ → Option Refusal
-roomFor places bytes records used =
-    if ltb places records then some (refusal tooFewRecordPlaces 0 0 records used) else
-    if ltb bytes used then some (refusal tooLittleTextRoom 0 0 records used) else none

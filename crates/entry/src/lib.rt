@@ -6,8 +6,8 @@ ghost use lib.Dec.{eqb};
 ghost use lib.ListN.{getD};
 ghost use Rattle.definition.specs.Numbers.{prefix};
 ghost use Rattle.definition.specs.Entry.{refusal, opening, placeOf, bad, allGood, total, notLong, allUtf8, anyOf, notMixed};
-ghost use Rattle.definition.specs.Reading.{refuses};
-ghost use Rattle.entry.specs.Answers.{described, says, outcomeOf, isOf, laterChecks, checkNumbers, roomFor};
+ghost use Rattle.definition.specs.Reading.{refuses, outcomeOf, roomFor};
+ghost use Rattle.entry.specs.Answers.{described, says, isOf, laterChecks, checkNumbers};
 ghost use Rattle.entry.specs.Literals.{literalAt, literals};
 
 // A literal's descriptor: six numbers.

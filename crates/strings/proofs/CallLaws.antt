@@ -1,24 +1,21 @@
 -- What a call answers and leaves, once all items are emitted and closed. Assumes nothing.
 use mathlib.Core.Path.{_≡_, refl, sym, _∙_, ap, ap₂, subst}
-use mathlib.Core.Bool.{Bool, true, false}
+use mathlib.Core.Bool.{true, false}
 use mathlib.Core.List.{List, [], _∷_, map}
-use mathlib.Core.Option.{Option, none, some}
+use mathlib.Core.Option.{none, some}
 use Prim.Native.Nat.{ℕ, _*_, _/_, _≤_}
 use native.Mathlib.Omega.{arith}
-use lib.Dec.{ltb}
 use lib.ListN.{length, replicate}
 use Rattle.definition.specs.Records.{Role, covers, Item, Record, Answer, Sort, answerOf, merged, texts, laid, cover, wordsOf}
-use Rattle.definition.specs.Chars.{if_then_else_}
-use Rattle.definition.specs.Entry.{Literal, Refusal as Why, refusal, firstStart, anyOf}
+use Rattle.definition.specs.Entry.{Literal, refusal, firstStart, anyOf}
 use Rattle.definition.specs.Numbers.{isBytes, isFString}
-use Rattle.definition.specs.Reading.{accepts, refuses, readFrom, sortOf, sortNumber, uMark, lastEnd, answered, roomed, Call, called, readNumbers, wordsAfter, textAfter, allWords, numbers, zeros}
+use Rattle.definition.specs.Reading.{accepts, refuses, readFrom, sortOf, sortNumber, uMark, lastEnd, answered, outcomeOf, roomFor, roomed, Call, called, readNumbers, wordsAfter, textAfter, allWords, numbers, zeros}
 use Rattle.definition.specs.Reading as o
 use Rattle.definition.proofs.Laid.{laid-length}
 use Rattle.buffers.specs.Over.{over}
 use Rattle.buffers.proofs.Over.{length-over, over-front}
 use Rattle.entry.specs.Literals.{literals}
 use Rattle.entry.specs.declared.Refusal.{Refusal}
-use Rattle.entry.specs.Answers.{roomFor}
 use Rattle.entry.proofs.Checks.{room-enough}
 use Rattle.entry.proofs.Passed.{Passed, passed-reads}
 use Rattle.strings.specs.declared.Outcome.{Outcome}
@@ -124,35 +121,16 @@ module _ (words text words₁ text₁ words′ text′ : List ℕ) (x : Refusal)
       rw e
       record { answer = rw (h .0) refl; words = h .1 ∙ ap (λ n. replicate n 0) lw; text = h .2 ∙ ap (λ n. replicate n 0) lt }
 
--- THE ROOM: what is needed is there, or is refused
-afterRoom : Answer → Option Why → o.Outcome Answer
-afterRoom x none = accepts x
-afterRoom x (some r) = refuses r
-
-roomed-by : (w t : ℕ) (x : Answer) → roomed w t (accepts x) ≡ afterRoom x (roomFor (w / 8) t (length (x .records)) (length (x .text)))
-unfolding roomed roomFor afterRoom
-roomed-by w t x = go (ltb (w / 8) (length (x .records))) (ltb t (length (x .text)))
-  where
-    few : Why
-    few = refusal 30 0 0 (length (x .records)) (length (x .text))
-
-    little : Why
-    little = refusal 31 0 0 (length (x .records)) (length (x .text))
-
-    go : (a b : Bool) → (if a then refuses few else if b then refuses little else accepts x) ≡ afterRoom x (if a then some few else if b then some little else none)
-    go true b = refl
-    go false true = refl
-    go false false = refl
-
--- of buffers that an answer lies over
+-- THE ROOM, of buffers that an answer lies over: what is needed is there, or is refused
 room-there : (x : Answer) (words₀ text₀ words text : List ℕ) (k : Sink) → Landed x words₀ text₀ words text k
-    → roomed (length words₀) (length text₀) (accepts x) ≡ afterRoom x (roomFor (length words / 8) (length text) (k .count) (k .used))
-room-there x words₀ text₀ words text k h = rw (same-words h, same-text h, h .count, h .used) (roomed-by (length words₀) (length text₀) x)
+    → roomed (length words₀) (length text₀) (accepts x) ≡ outcomeOf x (roomFor (length words / 8) (length text) (k .count) (k .used))
+unfolding roomed
+room-there x words₀ text₀ words text k h = rw (same-words h, same-text h, h .count, h .used)
 
 accepted : (x : Answer) (words₀ text₀ words text : List ℕ) (k : Sink) (r : Outcome) → Landed x words₀ text₀ words text k
     → roomFor (length words / 8) (length text) (k .count) (k .used) ≡ none → says r ≡ 0 ∷ sortNumber (x .sort) ∷ x .uMark ∷ x .start ∷ x .end ∷ k .count ∷ k .used ∷ []
     → CallIs (called (roomed (length words₀) (length text₀) (accepts x)) words₀ text₀) words text r
-unfolding called wordsAfter textAfter numbers afterRoom
+unfolding called wordsAfter textAfter numbers outcomeOf
 accepted x words₀ text₀ words text k r h n s =
     rw (room-there x words₀ text₀ words text k h, n)
     (record {
@@ -173,10 +151,10 @@ Finished w ls words text k W T r =
 module _ (w : Whole) (ls : List Literal) (words text words′ : List ℕ) (k a : Sink) (closing : (T : List ℕ) → outOf a words′ T ≡ closed (wholeOf w) (outOf k words T)) where
   pub finish-short : (y : Refusal) (W T : List ℕ) (r : Outcome) → roomFor (length words′ / 8) (length text) (a .count) (a .used) ≡ some (refusal (y .number) (y .literal) (y .place) (y .a) (y .b))
       → (r ≡ Refused y) × (W ≡ zeros words′) × (T ≡ zeros text) → Finished w ls words text k W T r
-  unfolding answered afterRoom
+  unfolding answered outcomeOf
   finish-short y W T r n v role xs words₀ text₀ c t p h =
       let l = landed-for w ls role xs words₀ text₀ words text words′ k a c t p h closing in
-      refused-call words₀ text₀ words′ text W T y r _ (ap (λ o. called o words₀ text₀) (room-there (answerFor ls xs) words₀ text₀ words′ text a l ∙ ap (afterRoom (answerFor ls xs)) n)) (same-words l) (same-text l) v
+      refused-call words₀ text₀ words′ text W T y r _ (ap (λ o. called o words₀ text₀) (room-there (answerFor ls xs) words₀ text₀ words′ text a l ∙ ap (outcomeOf (answerFor ls xs)) n)) (same-words l) (same-text l) v
 
   pub finish-accepted : (n : ℕ) → n ≡ sortNumber (sortOf ls) → roomFor (length words′ / 8) (length text) (a .count) (a .used) ≡ none
       → Finished w ls words text k words′ text (Accepted (record { sort = n; mark = w .mark; start = w .start; end = w .end; records = a .count; text = a .used }))

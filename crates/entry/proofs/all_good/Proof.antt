@@ -6,7 +6,8 @@ use mathlib.Core.Path.{_≡_, refl, sym, _∙_, ap}
 use mathlib.Core.Bool.{Bool}
 use native.Mathlib.Numerals.{add-one}
 use Rattle.definition.specs.Entry.{bad, allGood}
-use Rattle.entry.specs.Answers.{described, outcomeOf}
+use Rattle.definition.specs.Reading.{outcomeOf}
+use Rattle.entry.specs.Answers.{described}
 use Rattle.entry.specs.Literals.{literalAt, literals}
 use Rattle.entry.proofs.Literals.{endBefore, badFrom, bad-turn, bad-found, bad-none}
 use Rattle.entry.proofs.Passed.{why}

@@ -9,7 +9,8 @@ use borrow.Author.Tests.{lt-ltb, le-ltb}
 use lib.Dec.{ltb}
 use Rattle.definition.specs.Numbers.{notUtf8}
 use Rattle.definition.specs.Entry.{placeOf, body, refusal, formed, illFormed, allUtf8}
-use Rattle.entry.specs.Answers.{described, outcomeOf}
+use Rattle.definition.specs.Reading.{outcomeOf}
+use Rattle.entry.specs.Answers.{described}
 use Rattle.entry.specs.Literals.{literalAt, literals}
 use Rattle.entry.proofs.Literals.{endBefore, badFrom, bad-turn, bad-found, bad-none}
 use Rattle.entry.proofs.Passed.{Good, good-at, length-body}

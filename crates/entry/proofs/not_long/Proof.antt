@@ -2,7 +2,7 @@
 use borrow.Author.Needs.{needs}
 use borrow.Author.Tests.{lt-ltb, le-ltb}
 use Rattle.definition.specs.Entry.{notLong}
-use Rattle.entry.specs.Answers.{outcomeOf}
+use Rattle.definition.specs.Reading.{outcomeOf}
 use Rattle.entry.proofs.not_long.Statement.{statement}
 use Rattle.entry.proofs.not_long.Tie as tie
 

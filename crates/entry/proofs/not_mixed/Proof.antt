@@ -3,7 +3,8 @@ use borrow.Author.Needs.{needs}
 use borrow.Author.Tests.{not-true, not-false}
 use mathlib.Core.Path.{sym, _∙_}
 use Rattle.definition.specs.Entry.{notMixed}
-use Rattle.entry.specs.Answers.{described, outcomeOf}
+use Rattle.definition.specs.Reading.{outcomeOf}
+use Rattle.entry.specs.Answers.{described}
 use Rattle.entry.proofs.Literals.{first-start}
 use Rattle.entry.proofs.not_mixed.Statement.{statement}
 use Rattle.entry.proofs.not_mixed.Tie as tie

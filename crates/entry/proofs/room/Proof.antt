@@ -1,7 +1,7 @@
 -- `entry::room` meets its contract. Assumes nothing.
 use borrow.Author.Needs.{needs}
 use borrow.Author.Tests.{lt-ltb, le-ltb}
-use Rattle.entry.specs.Answers.{outcomeOf, roomFor}
+use Rattle.definition.specs.Reading.{outcomeOf, roomFor}
 use Rattle.entry.proofs.room.Statement.{statement}
 use Rattle.entry.proofs.room.Tie as tie
 
