@@ -32,7 +32,7 @@ first-cons none cs e es = es
 first-cons (some r) cs e es = e
 
 -- a test that refusal nothing failed
-failed : (b : Bool) (r : Refusal) → (if b then some r else none) ≡ none → b ≡ false
+pub failed : (b : Bool) (r : Refusal) → (if b then some r else none) ≡ none → b ≡ false
 failed true r e = cc
 failed false r e = refl
 
@@ -124,7 +124,7 @@ any-append p (x ∷ xs) ys = ap (λ b. p (x .kind) || b) (any-append p xs ys) �
     regroup true b c = refl
     regroup false b c = refl
 
-abbrev notBytes : ℕ → Bool
+abbrev pub notBytes : ℕ → Bool
 notBytes k = not (isBytes k)
 
 one-of : (x : Literal) (xs : List Literal) → anyOf isBytes (x ∷ xs) || anyOf notBytes (x ∷ xs) ≡ true
@@ -167,14 +167,14 @@ unfolding notEmpty
 some-literal l ls = refl
 
 -- the checks one by one
-record Passes (script : List ℕ) (ls : List Literal) : Type 0 where
-  few : notMany ls ≡ none
-  good : allGood script ls ≡ none
-  short : notLong ls ≡ none
-  well : allUtf8 script ls ≡ none
-  unmixed : notMixed ls ≡ none
+pub record Passes (script : List ℕ) (ls : List Literal) : Type 0 where
+  pub few : notMany ls ≡ none
+  pub good : allGood script ls ≡ none
+  pub short : notLong ls ≡ none
+  pub well : allUtf8 script ls ≡ none
+  pub unmixed : notMixed ls ≡ none
 
-passes : (script : List ℕ) (ls : List Literal) → entry script ls ≡ none → Passes script ls
+pub passes : (script : List ℕ) (ls : List Literal) → entry script ls ≡ none → Passes script ls
 unfolding entry
 passes script ls e =
     let c₁ = first-tail (notEmpty ls) (notMany ls ∷ allGood script ls ∷ notLong ls ∷ allUtf8 script ls ∷ notMixed ls ∷ []) e in

@@ -15,3 +15,11 @@ pub mod Prefix
 pub mod ViewLaw
 pub mod Room
 pub mod Shown
+pub mod Grammar
+pub mod Conversions
+pub mod Runs
+pub mod Accepted
+pub mod One
+pub mod WellFormed
+pub mod Held
+pub mod FormedShown

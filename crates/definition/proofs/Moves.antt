@@ -1,4 +1,4 @@
--- Each move goes ahead and stays in the body, and each refusal has a number of 01's table. Assumes nothing.
+-- Each move goes ahead and stays in the body, and each refusal has a number of 10 to 28. Assumes nothing.
 use mathlib.Core.Path.{_≡_, refl}
 use mathlib.Core.Bool.{Bool, true, false, not}
 use mathlib.Core.List.{List, [], _∷_, _++_}
@@ -8,20 +8,20 @@ use native.Mathlib.Omega.{arith}
 use lib.Dec.{T, ltb, leb, eqb}
 use lib.ListN.{length, drop, length-append, length-take, length-replicate}
 use borrow.Author.Tests.{leb-false}
-use Rattle.definition.specs.Numbers.{isBytes, refusals, _among_, unicodeError, nameNotHeld, stringError, emptyExpression, unclosedLbrace, invalidConversionFlag, tooManyBrackets, mismatchedDelimiter, unterminatedString}
+use Rattle.definition.specs.Numbers.{isBytes, ofBody, unicodeError, nameNotHeld, stringError, emptyExpression, unclosedLbrace, invalidConversionFlag, tooManyBrackets, mismatchedDelimiter, unterminatedString}
 use Rattle.definition.specs.Chars.{if_then_else_, _is_, part, noCode, atEnd, inside, _to_, code, next, char, utf8, before}
 use Rattle.definition.specs.Escapes.{Read, got, refused, Meaning, stands, stays, vanishes, octalDigit, octalFrom, hexDigit, scalar, hexFrom, held, lookup, named, unicodeName, EscapeCase, ended, simple, octal, hex, name, newline, foreign, other, escapeCase, escape, encode, meant}
 use Rattle.definition.specs.Body.{Piece, literal, field, spec, Move, goes, stops, calls, ends, withEscape, StringCase, stringCase, stringMove, TextCase, deep, opens, last, doubled, lone, textCase, textMove, Field, state, isBlank, add, documented, spaced, FieldCase, pair, converts, documents, formats, opener, closes, closer, quote, space, backslash, stray, fieldCase, caseOf, conversionMove, openMove, matching, closeMove, quoteMove, fieldMove, filled, finished, specified, selfDocumenting, fieldPieces, conversionOf}
 use Rattle.definition.proofs.CharLaws.{next-past, next-in, next-from}
 
--- the number stands in 01's table
-abbrev pub Listed : ℕ → Type 0
-Listed n = T (n among refusals)
+-- the number is one of 01's for a body
+abbrev pub OfBody : ℕ → Type 0
+OfBody n = T (ofBody n)
 
--- a reading from i on ends in the body, at i or later, or is refused in the body by a number of the table
+-- a reading from i on ends in the body, at i or later, or is refused in the body by a number of 10 to 28
 abbrev pub Sound : {A : Type 0} → List ℕ → ℕ → Read A → Type 0
 Sound s i (got v j) = (i ≤ j) × (j ≤ length s)
-Sound s i (refused n j a b) = Listed n × (j ≤ length s)
+Sound s i (refused n j a b) = OfBody n × (j ≤ length s)
 
 -- a text's size, and that of pieces: twice what a text will weigh, and a record for each piece
 abbrev pub textSize : List ℕ → ℕ
@@ -36,7 +36,7 @@ weight (spec n ∷ ps) = 1 + weight ps
 -- a move at i from a state of size w: past i, with at most four more for each byte; C is what holds where it calls, and E where it ends
 abbrev pub Ahead : {A : Type 0} → (A → ℕ) → ℕ → Type 0 → Type 0 → List ℕ → ℕ → Move A → Type 0
 Ahead size w C E s i (goes j a) = (i < j) × (j ≤ length s) × (size a + 4 * i ≤ w + 4 * j)
-Ahead size w C E s i (stops n j a b) = Listed n × (j ≤ length s)
+Ahead size w C E s i (stops n j a b) = OfBody n × (j ≤ length s)
 Ahead size w C E s i calls = C
 Ahead size w C E s i ends = E
 

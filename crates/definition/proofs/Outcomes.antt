@@ -5,34 +5,51 @@ use mathlib.Core.List.{List, [], _∷_, map}
 use mathlib.Core.Option.{Option, none, some}
 use Prim.Native.Nat.{ℕ, suc, _+_, _*_, _/_, _≤_}
 use native.Mathlib.Omega.{arith}
-use lib.Dec.{ltb}
+use lib.Dec.{T, ltb, leb}
 use lib.ListN.{length, drop, length-append, length-drop, length-replicate}
 use borrow.Author.Tests.{ltb-false}
-use Rattle.definition.specs.Numbers.{isBytes, tooManyLiterals, badDescriptor, bodiesTooLong, notUtf8, mixedBytes}
+use Rattle.definition.specs.Numbers.{isBytes, refusals, _among_, ofEntry, tooManyLiterals, badDescriptor, bodiesTooLong, notUtf8, mixedBytes}
 use Rattle.definition.specs.Chars.{if_then_else_}
 use Rattle.definition.specs.Escapes.{Read, got, refused}
 use Rattle.definition.specs.Body.{Piece, readBody}
 use Rattle.definition.specs.Records.{Item, Record, wordsOf, merged, texts, recordAt, laid, cover, Answer, answerOf}
 use Rattle.definition.specs.Entry.{Literal, sixes, placeOf, body, Refusal, refusal, notEmpty, notMany, firstBad, bad, allGood, total, notLong, formed, illFormed, allUtf8, anyOf, firstStart, notMixed, firstOf, entry}
 use Rattle.definition.specs.Reading.{Outcome, accepts, refuses, readLiteral, andThen, readFrom, uMark, lastEnd, answered, read, outcomeOf, roomFor, roomed, allWords, inFront, wordsAfter, textAfter, Call, called, readInto, readNumbers}
-use Rattle.definition.proofs.Moves.{Listed, Sound}
+use Rattle.definition.proofs.Moves.{OfBody, Sound}
 use Rattle.definition.proofs.Fuel.{body-reading}
 
--- a refusal's number stands in 01's table
-abbrev Numbered : {A : Type 0} → Outcome A → Type 0
-Numbered (accepts x) = Unit {0}
-Numbered (refuses r) = Listed (r .number)
+-- THE TABLE'S NUMBERS, in its order
+pub table : refusals ≡ 1 ∷ 2 ∷ 3 ∷ 4 ∷ 5 ∷ 6 ∷ 7 ∷ 10 ∷ 11 ∷ 12 ∷ 13 ∷ 20 ∷ 21 ∷ 22 ∷ 23 ∷ 24 ∷ 25 ∷ 26 ∷ 27 ∷ 28 ∷ 30 ∷ 31 ∷ []
+table = refl
+
+-- the number stands in the table
+abbrev pub Listed : ℕ → Type 0
+Listed n = T (n among refusals)
+
+-- the number is one of the entry checks'
+abbrev pub OfEntry : ℕ → Type 0
+OfEntry n = T (ofEntry n)
+
+both : (a b : Bool) → T (a && b) → T a × T b
+both true b h = (tt, h)
+both false b h = absurd h
+
+body-listed : (n : ℕ) → OfBody n → Listed n
+body-listed n h = both (leb 10 n && leb n 28) (n among refusals) h .1
+
+entry-listed : (n : ℕ) → OfEntry n → Listed n
+entry-listed n h = both (leb n 7) (n among refusals) h .1
 
 -- a check's refusal, if there is one
 abbrev Refusing : Option Refusal → Type 0
 Refusing none = Unit {0}
-Refusing (some r) = Listed (r .number)
+Refusing (some r) = OfEntry (r .number)
 
-by-test : (t : Bool) (r : Refusal) → Listed (r .number) → Refusing (if t then some r else none)
+by-test : (t : Bool) (r : Refusal) → OfEntry (r .number) → Refusing (if t then some r else none)
 by-test true r h = h
 by-test false r h = tt
 
-by-literal : (test : ℕ → Literal → Bool) (why : ℕ → Literal → Refusal) → ((i : ℕ) (l : Literal) → Listed (why i l .number))
+by-literal : (test : ℕ → Literal → Bool) (why : ℕ → Literal → Refusal) → ((i : ℕ) (l : Literal) → OfEntry (why i l .number))
     → (previous i : ℕ) (ls : List Literal) → Refusing (firstBad test why previous i ls)
 unfolding firstBad
 by-literal test why h previous i [] = tt
@@ -77,25 +94,47 @@ entry-numbered script ls =
       ),
     )
 
-literal-numbered : (script : List ℕ) (i : ℕ) (l : Literal) → Numbered (readLiteral script i l)
+-- a body's refusal
+abbrev FromBody : {A : Type 0} → Outcome A → Type 0
+FromBody (accepts x) = Unit {0}
+FromBody (refuses r) = OfBody (r .number)
+
+literal-body : (script : List ℕ) (i : ℕ) (l : Literal) → FromBody (readLiteral script i l)
 unfolding readLiteral refusal
-literal-numbered script i l = go (readBody (l .kind) (body script l)) refl (body-reading (l .kind) (body script l) .0)
+literal-body script i l = go (readBody (l .kind) (body script l)) refl (body-reading (l .kind) (body script l) .0)
   where
-    go : (r : Read (List Piece)) → readBody (l .kind) (body script l) ≡ r → Sound (body script l) 0 r → Numbered (readLiteral script i l)
+    go : (r : Read (List Piece)) → readBody (l .kind) (body script l) ≡ r → Sound (body script l) 0 r → FromBody (readLiteral script i l)
     go (got ps j) e h = rw (e, readLiteral) tt
     go (refused m j a b) e h = rw (e, readLiteral) (h .0)
 
-then-numbered : (o p : Outcome (List Item)) → Numbered o → Numbered p → Numbered (andThen o p)
+then-body : (o p : Outcome (List Item)) → FromBody o → FromBody p → FromBody (andThen o p)
 unfolding andThen
-then-numbered (refuses r) p h k = h
-then-numbered (accepts xs) (refuses r) h k = k
-then-numbered (accepts xs) (accepts ys) h k = tt
+then-body (refuses r) p h k = h
+then-body (accepts xs) (refuses r) h k = k
+then-body (accepts xs) (accepts ys) h k = tt
 
-from-numbered : (script : List ℕ) (i : ℕ) (ls : List Literal) → Numbered (readFrom script i ls)
+from-body : (script : List ℕ) (i : ℕ) (ls : List Literal) → FromBody (readFrom script i ls)
 unfolding readFrom
-from-numbered script i [] = tt
-from-numbered script i (l ∷ ls) =
-    then-numbered (readLiteral script i l) (readFrom script (suc i) ls) (literal-numbered script i l) (from-numbered script (suc i) ls)
+from-body script i [] = tt
+from-body script i (l ∷ ls) = then-body (readLiteral script i l) (readFrom script (suc i) ls) (literal-body script i l) (from-body script (suc i) ls)
+
+-- WITH ROOM FOR ANYTHING: what the entry checks refuse is refused so, by 1 to 7; all else is accepted, or refused by 10 to 28
+abbrev pub Numbered : Option Refusal → Outcome Answer → Type 0
+Numbered (some r) o = OfEntry (r .number) × (o ≡ refuses r)
+Numbered none o = FromBody o
+
+answered-body : (ls : List Literal) (o : Outcome (List Item)) → FromBody o → FromBody (answered ls o)
+unfolding answered
+answered-body ls (accepts xs) h = tt
+answered-body ls (refuses r) h = h
+
+pub read-numbered : (script : List ℕ) (ls : List Literal) → Numbered (entry script ls) (read script ls)
+unfolding read
+read-numbered script ls = go (entry script ls) refl (entry-numbered script ls)
+  where
+    go : (c : Option Refusal) → entry script ls ≡ c → Refusing c → Numbered c (read script ls)
+    go none e h = rw (e, read) (answered-body ls (readFrom script 0 ls) (from-body script 0 ls))
+    go (some r) e h = (h, rw (e, read) refl)
 
 -- AN ACCEPTANCE'S OFFSETS AND LENGTHS: the text from n to m lies in the records in order, without gaps
 abbrev pub Gapless : ℕ → List Record → ℕ → Type 0
@@ -125,9 +164,9 @@ pub gapless-sum : (n : ℕ) (rs : List Record) (m : ℕ) → Gapless n rs m → 
 gapless-sum n [] m h = omega arith
 gapless-sum n (r ∷ rs) m h = omega (arith, gapless-sum (n + r .size) rs m (h .1))
 
-answered-sane : (ls : List Literal) (o : Outcome (List Item)) → Numbered o → Sane (answered ls o)
+answered-sane : (ls : List Literal) (o : Outcome (List Item)) → FromBody o → Sane (answered ls o)
 unfolding answered answerOf
-answered-sane ls (refuses r) h = h
+answered-sane ls (refuses r) h = body-listed (r .number) h
 answered-sane ls (accepts xs) h = (gapless, omega (arith, gapless-sum 0 records (length (texts (merged xs))) gapless))
   where
     records : List Record
@@ -144,8 +183,8 @@ unfolding read
 read-sane script ls = go (entry script ls) refl (entry-numbered script ls)
   where
     go : (c : Option Refusal) → entry script ls ≡ c → Refusing c → Sane (read script ls)
-    go none e h = rw (e, read) (answered-sane ls (readFrom script 0 ls) (from-numbered script 0 ls))
-    go (some r) e h = rw (e, read) h
+    go none e h = rw (e, read) (answered-sane ls (readFrom script 0 ls) (from-body script 0 ls))
+    go (some r) e h = rw (e, read) (entry-listed (r .number) h)
 
 roomed-sane : (w t : ℕ) (o : Outcome Answer) → Sane o → Sane (roomed w t o)
 unfolding outcomeOf roomFor roomed refusal

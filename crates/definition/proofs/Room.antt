@@ -1,16 +1,19 @@
 -- What 30 and 31 tell: their details are what an acceptance needs, and with so much room there is one. Assumes nothing.
 use Prim.Native.Nat.{ℕ, _/_, _≤_}
-use mathlib.Core.Path.{_≡_, refl}
-use mathlib.Core.Bool.{Bool, true, false}
+use mathlib.Core.Path.{_≡_, refl, _∙_, ap}
+use mathlib.Core.Bool.{Bool, true, false, _&&_}
 use mathlib.Core.List.{List}
 use mathlib.Core.Option.{Option, none, some}
 use native.Mathlib.Omega.{arith}
-use lib.Dec.{ltb}
+use lib.Dec.{T, ltb, leb}
 use lib.ListN.{length}
-use borrow.Author.Tests.{le-ltb}
+use borrow.Author.Tests.{le-ltb, leb-true}
+use Rattle.definition.specs.Numbers.{refusals, _among_, notSixes, tooFewRecordPlaces, tooLittleTextRoom}
 use Rattle.definition.specs.Records.{Answer}
-use Rattle.definition.specs.Entry.{Literal, refusal, sixes}
+use Rattle.definition.specs.Entry.{Literal, Refusal, refusal, sixes, entry}
 use Rattle.definition.specs.Reading.{Outcome, accepts, refuses, read, outcomeOf, roomFor, roomed, Call, called, readInto, readNumbers}
+use Rattle.definition.proofs.Moves.{OfBody}
+use Rattle.definition.proofs.Outcomes.{Numbered, read-numbered}
 
 -- with any room, of what is accepted as x with some: an acceptance is x, a refusal's details are how many records and text bytes x has
 abbrev pub Needed : Answer → Outcome Answer → Type 0
@@ -31,7 +34,7 @@ module _ (w t : ℕ) where
   unfolding outcomeOf roomFor roomed
   roomed-enough x h k = rw (le-ltb (w / 8) (length (x .records)) h, le-ltb t (length (x .text)) k)
 
-  roomed-accepts : (o : Outcome Answer) (x : Answer) → roomed w t o ≡ accepts x → o ≡ accepts x
+  pub roomed-accepts : (o : Outcome Answer) (x : Answer) → roomed w t o ≡ accepts x → o ≡ accepts x
   unfolding outcomeOf roomFor roomed
   roomed-accepts (refuses r) x e = e
   roomed-accepts (accepts y) x e = go (ltb (w / 8) (length (y .records))) refl (ltb t (length (y .text))) refl
@@ -68,3 +71,72 @@ module _ (script words text words′ text′ : List ℕ) (x : Answer) where
 
     pub numbers-enough : length (x .records) ≤ length words′ / 8 → length (x .text) ≤ length text′ → readNumbers script ns words′ text′ .outcome ≡ accepts x
     numbers-enough h k = listed (λ c. c .outcome ≡ accepts x) (λ ls i. into-enough ls i h k)
+
+-- WITH ROOM FOR ANYTHING no number is above 28
+abbrev Below : Outcome Answer → Type 0
+Below (accepts x) = Unit {0}
+Below (refuses r) = r .number ≤ 28
+
+under : (n m : ℕ) → m ≤ 28 → (b : Bool) → T (leb n m && b) → n ≤ 28
+under n m h b t = go (leb n m) refl t
+  where
+    go : (a : Bool) → leb n m ≡ a → T (a && b) → n ≤ 28
+    go true e t = omega (arith, leb-true n m e)
+    go false e t = absurd t
+
+body-below : (n : ℕ) → OfBody n → n ≤ 28
+body-below n h = go (leb 10 n) h
+  where
+    go : (a : Bool) → T (a && leb n 28 && n among refusals) → n ≤ 28
+    go true h = under n 28 (omega arith) (n among refusals) h
+    go false h = absurd h
+
+read-below : (script : List ℕ) (ls : List Literal) → Below (read script ls)
+read-below script ls = go (entry script ls) (read script ls) (read-numbered script ls)
+  where
+    go : (c : Option Refusal) (o : Outcome Answer) → Numbered c o → Below o
+    go (some r) o h = rw (h .1) (under (r .number) 7 (omega arith) (r .number among refusals) (h .0))
+    go none (accepts x) h = tt
+    go none (refuses r) h = body-below (r .number) h
+
+-- an acceptance of the counts that a refusal tells
+abbrev pub Told : Refusal → Outcome Answer → Type 0
+Told r o = (x : Answer) × (o ≡ accepts x) × (length (x .records) ≡ r .a) × (length (x .text) ≡ r .b)
+
+differ : {P : Type 0} (x : Answer) (r : Refusal) → accepts x ≡ refuses r → P
+differ x r e = let z : _≡_ {A = ℕ} 0 1 = cc in absurd (omega arith)
+
+same-refusal : (a b : Refusal) → _≡_ {A = Outcome Answer} (refuses a) (refuses b) → a ≡ b
+same-refusal a b e = cc
+
+roomed-told : (w t : ℕ) (o : Outcome Answer) (r : Refusal) → Below o → 30 ≤ r .number → roomed w t o ≡ refuses r → Told r o
+unfolding outcomeOf roomFor roomed refusal
+roomed-told w t (refuses r′) r b h e = let s = same-refusal r′ r e in let b′ = rw s at b in absurd (omega arith)
+roomed-told w t (accepts x) r b h e = go (ltb (w / 8) (length (x .records))) refl (ltb t (length (x .text))) refl
+  where
+    short : (number : ℕ) → _≡_ {A = Outcome Answer} (refuses (refusal number 0 0 (length (x .records)) (length (x .text)))) (refuses r) → Told r (accepts x)
+    short number q = rw (← same-refusal (refusal number 0 0 (length (x .records)) (length (x .text))) r q) (x, refl, refl, refl)
+
+    go : (p : Bool) → ltb (w / 8) (length (x .records)) ≡ p → (q : Bool) → ltb t (length (x .text)) ≡ q → Told r (accepts x)
+    go true p q k = short tooFewRecordPlaces (rw p at e)
+    go false p true k = short tooLittleTextRoom (rw (p, k) at e)
+    go false p false k = differ x r (rw (p, k) at e)
+
+-- FROM 30 OR 31 an acceptance follows: with the room that it tells, and with just those counts
+module _ (script words text words′ text′ : List ℕ) (r : Refusal) (h : 30 ≤ r .number) (w : r .a ≤ length words′ / 8) (t : r .b ≤ length text′) where
+  -- of descriptors
+  pub into-told : (ls : List Literal) → readInto script ls words text .outcome ≡ refuses r → Told r (readInto script ls words′ text′ .outcome)
+  unfolding readInto called
+  into-told ls e = go (roomed-told (length words) (length text) (read script ls) r (read-below script ls) h e)
+    where
+      go : Told r (read script ls) → Told r (readInto script ls words′ text′ .outcome)
+      go (x, o, m, n) = (x, ap (roomed (length words′) (length text′)) o ∙ roomed-enough (length words′) (length text′) x (omega arith) (omega arith), m, n)
+
+  -- of flat numbers
+  pub numbers-told : (ns : List ℕ) → readNumbers script ns words text .outcome ≡ refuses r → Told r (readNumbers script ns words′ text′ .outcome)
+  unfolding readNumbers called refusal
+  numbers-told ns e = go (sixes ns) refl
+    where
+      go : (o : Option (List Literal)) → sixes ns ≡ o → Told r (readNumbers script ns words′ text′ .outcome)
+      go none i = let s = same-refusal (refusal notSixes 0 0 0 0) r (rw (i, readNumbers) at e) in let h′ = rw (← s) at h in absurd (omega arith)
+      go (some ls) i = rw (i, readNumbers) (into-told ls (rw (i, readNumbers) at e))

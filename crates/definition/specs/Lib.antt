@@ -7,4 +7,5 @@ pub mod Entry
 pub mod Reading
 pub mod Join
 pub mod View
+pub mod Words
 pub mod Lines

@@ -121,3 +121,11 @@ infix 50 _among_
 abbrev pub _among_ : ℕ → List ℕ → Bool
 n among [] = false
 n among (m ∷ ms) = eqb n m || n among ms
+
+-- a refusal of the entry checks: 1 to 7, and in the table
+abbrev pub ofEntry : ℕ → Bool
+ofEntry n = leb n 7 && n among refusals
+
+-- a refusal of a body: 10 to 28, and in the table
+abbrev pub ofBody : ℕ → Bool
+ofBody n = leb 10 n && leb n 28 && n among refusals

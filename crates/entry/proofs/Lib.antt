@@ -1,3 +1,4 @@
 pub mod Literals
 pub mod Checks
 pub mod Passed
+pub mod One

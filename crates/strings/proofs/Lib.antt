@@ -6,3 +6,4 @@ pub mod FstringLaws
 pub mod ListLaws
 pub mod TopLaws
 pub mod CallLaws
+pub mod One

@@ -1,0 +1,237 @@
+-- The pieces of a text are a tree laid flat: texts and fields at its depth, a field's spec and the spec's parts one deeper. Assumes nothing.
+use mathlib.Core.Path.{_≡_, refl, sym, _∙_, ap, ap₂}
+use mathlib.Core.Bool.{Bool, true, false}
+use mathlib.Core.List.{List, [], _∷_, _++_}
+use mathlib.Core.Option.{Option, none, some}
+use Prim.Native.Nat.{ℕ, zero, suc, _+_, _≤_, _<_}
+use native.Mathlib.Omega.{arith}
+use lib.Dec.{leb}
+use lib.ListN.{replicate}
+use borrow.Author.Tests.{leb-false, eq-eqb, ne-eqb}
+use Rattle.definition.specs.Numbers.{isFString, expressionNestedTooDeeply, emptyExpression, unclosedLbrace}
+use Rattle.definition.specs.Chars.{if_then_else_, _is_, part, atEnd, code, next}
+use Rattle.definition.specs.Escapes.{Read, got, refused}
+use Rattle.definition.specs.Body.{Piece, literal, field, spec, Move, goes, stops, calls, ends, deep, textCase, textMove, filled, Field, state, fresh, fieldMove, direct, conversionOf, fieldPieces, selfDocumenting, finished, specified, firstEnd, textN, fieldN, specN, enough, readBody}
+use Rattle.definition.proofs.Steps.{text-goes, text-stops, text-ends, text-got, text-refused, field-goes, field-stops, field-ends, field-got, field-refused, firstPiece, spec-calls, spec-ends}
+
+-- A tree: what a text holds, in order
+pub data Parts : Type 0 where
+  done : Parts
+  run : (t : List ℕ) (rest : Parts) → Parts
+  bare : (e : List ℕ) (c i : ℕ) (rest : Parts) → Parts  -- a field without a spec
+  full : (e : List ℕ) (c i : ℕ) (spec rest : Parts) → Parts
+
+-- how many it holds directly
+abbrev pub count : Parts → ℕ
+count done = 0
+count (run t p) = suc (count p)
+count (bare e c i p) = suc (count p)
+count (full e c i q p) = suc (count p)
+
+-- its pieces at a depth, and others after them
+abbrev pub flat : ℕ → Parts → List Piece → List Piece
+flat d done ps = ps
+flat d (run t p) ps = literal d t ∷ flat d p ps
+flat d (bare e c i p) ps = field d e c 0 i ∷ flat d p ps
+flat d (full e c i q p) ps = field d e c 1 i ∷ spec (count q) ∷ flat (suc d) q (flat d p ps)
+
+-- one tree after another
+abbrev chain : Parts → Parts → Parts
+chain done r = r
+chain (run t p) r = run t (chain p r)
+chain (bare e c i p) r = bare e c i (chain p r)
+chain (full e c i q p) r = full e c i q (chain p r)
+
+flat-append : (d : ℕ) (p : Parts) (ps qs : List Piece) → flat d p ps ++ qs ≡ flat d p (ps ++ qs)
+flat-append d done ps qs = refl
+flat-append d (run t p) ps qs = ap (λ l. literal d t ∷ l) (flat-append d p ps qs)
+flat-append d (bare e c i p) ps qs = ap (λ l. field d e c 0 i ∷ l) (flat-append d p ps qs)
+flat-append d (full e c i q p) ps qs = ap (λ l. field d e c 1 i ∷ spec (count q) ∷ l) (flat-append (suc d) q (flat d p ps) qs ∙ ap (flat (suc d) q) (flat-append d p ps qs))
+
+flat-chain : (d : ℕ) (p r : Parts) (ps : List Piece) → flat d (chain p r) ps ≡ flat d p (flat d r ps)
+flat-chain d done r ps = refl
+flat-chain d (run t p) r ps = ap (λ l. literal d t ∷ l) (flat-chain d p r ps)
+flat-chain d (bare e c i p) r ps = ap (λ l. field d e c 0 i ∷ l) (flat-chain d p r ps)
+flat-chain d (full e c i q p) r ps = ap (λ l. field d e c 1 i ∷ spec (count q) ∷ flat (suc d) q l) (flat-chain d p r ps)
+
+-- what is deeper is not counted
+direct-deeper : (d d′ : ℕ) (p : Parts) (ps : List Piece) → d < d′ → direct d (flat d′ p ps) ≡ direct d ps
+unfolding direct
+direct-deeper d d′ done ps h = refl
+direct-deeper d d′ (run t p) ps h = rw (ne-eqb d′ d (λ e. omega arith)) (omega (arith, direct-deeper d d′ p ps h))
+direct-deeper d d′ (bare e c i p) ps h = rw (ne-eqb d′ d (λ e. omega arith)) (omega (arith, direct-deeper d d′ p ps h))
+direct-deeper d d′ (full e c i q p) ps h = rw (ne-eqb d′ d (λ e. omega arith)) (omega (arith, direct-deeper d (suc d′) q (flat d′ p ps) (omega arith), direct-deeper d d′ p ps h))
+
+direct-flat : (d : ℕ) (p : Parts) (ps : List Piece) → direct d (flat d p ps) ≡ count p + direct d ps
+unfolding direct
+direct-flat d done ps = omega arith
+direct-flat d (run t p) ps = rw (eq-eqb d d refl) (omega (arith, direct-flat d p ps))
+direct-flat d (bare e c i p) ps = rw (eq-eqb d d refl) (omega (arith, direct-flat d p ps))
+direct-flat d (full e c i q p) ps = rw (eq-eqb d d refl) (omega (arith, direct-deeper d (suc d) q (flat d p ps) (omega arith), direct-flat d p ps))
+
+-- what holds of each field's expression and conversion, and that fields lie at most two deep
+module _ (P : List ℕ → ℕ → Type 0) where
+  abbrev pub All : ℕ → Parts → Type 0
+  All d done = Unit {0}
+  All d (run t p) = All d p
+  All d (bare e c i p) = (d ≤ 1) × P e c × All d p
+  All d (full e c i q p) = (d ≤ 1) × P e c × All (suc d) q × All d p
+
+  all-chain : (d : ℕ) (p r : Parts) → All d p → All d r → All d (chain p r)
+  all-chain d done r h k = k
+  all-chain d (run t p) r h k = all-chain d p r h k
+  all-chain d (bare e c i p) r h k = (h .0, h .1, all-chain d p r (h .2) k)
+  all-chain d (full e c i q p) r h k = (h .0, h .1, h .2, all-chain d p r (h .3) k)
+
+  -- pieces that are such a tree
+  abbrev pub Tree : ℕ → List Piece → Type 0
+  Tree d ps = (p : Parts) × (ps ≡ flat d p []) × All d p
+
+  abbrev pub TreeRead : ℕ → Read (List Piece) → Type 0
+  TreeRead d (got ps j) = Tree d ps
+  TreeRead d (refused m j a b) = Unit {0}
+
+  -- a spec's, if there is one
+  abbrev pub TreeIn : ℕ → Option (List Piece) → Type 0
+  TreeIn d none = Unit {0}
+  TreeIn d (some ps) = Tree d ps
+
+  tree-append : (d : ℕ) (ps qs : List Piece) → Tree d ps → Tree d qs → Tree d (ps ++ qs)
+  tree-append d ps qs (p, e, h) (q, f, k) =
+      (chain p q, ap₂ _++_ e f ∙ flat-append d p [] (flat d q []) ∙ sym (flat-chain d p q []), all-chain d p q h k)
+
+  tree-filled : (d : ℕ) (t : List ℕ) → Tree d (filled d t)
+  unfolding filled
+  tree-filled d [] = (done, refl, tt)
+  tree-filled d (b ∷ t) = (run (b ∷ t) done, refl, tt)
+
+-- what holds of a field's state after a move
+abbrev pub Kept : (Field → Type 0) → Move Field → Type 0
+Kept Inv (goes j f) = Inv f
+Kept Inv (stops m j a b) = Unit {0}
+Kept Inv calls = Unit {0}
+Kept Inv ends = Unit {0}
+
+-- what holds where a field's expression ends
+abbrev pub Closed : Type 0 → Move Field → Type 0
+Closed C (goes j f) = Unit {0}
+Closed C (stops m j a b) = Unit {0}
+Closed C calls = C
+Closed C ends = C
+
+deep-case : (kind : ℕ) (s : List ℕ) (depth i : ℕ) → leb 2 depth ≡ true → textCase kind s depth i ≡ deep
+unfolding textCase
+deep-case kind s depth i e = rw e
+
+deep-stops : (kind : ℕ) (s : List ℕ) (depth i : ℕ) (text : List ℕ) → leb 2 depth ≡ true → textMove kind s depth i text ≡ stops expressionNestedTooDeeply i 0 0
+unfolding textMove
+deep-stops kind s depth i text e = rw (deep-case kind s depth i e, textMove)
+
+-- An invariant of a field's state, `Inv`, that gives P where the field is finished
+module _ (Inv : Field → Type 0) (P : List ℕ → ℕ → Type 0)
+    (start : Inv fresh)
+    (step : (s : List ℕ) (i : ℕ) (f : Field) → Inv f → Kept Inv (fieldMove s i f))
+    (close : (s : List ℕ) (i : ℕ) (e : List ℕ) (b : Bool) (o : List ℕ) (c : ℕ) (d : Bool) (w : ℕ) → Inv (state e b o c d w)
+    → Closed (b ≡ false → (p : Option (List Piece)) → P e (conversionOf d c p)) (fieldMove s i (state e b o c d w))) where
+  abbrev Closes : Field → Type 0
+  Closes (state e b o c d w) = b ≡ false → (p : Option (List Piece)) → P e (conversionOf d c p)
+
+  closes : (s : List ℕ) (i : ℕ) (f : Field) → Inv f → Closed (Closes f) (fieldMove s i f)
+  closes s i (state e b o c d w) h = close s i e b o c d w h
+
+  tree-documented : (depth : ℕ) (d : Bool) (e : List ℕ) (w : ℕ) → Tree P depth (selfDocumenting depth d e w)
+  unfolding selfDocumenting
+  tree-documented depth true e w = (run (e ++ (61 ∷ [])) (run (replicate w 32) done), refl, tt)
+  tree-documented depth false e w = (done, refl, tt)
+
+  tree-field : (depth : ℕ) (e : List ℕ) (c i : ℕ) (p : Option (List Piece)) → depth ≤ 1 → P e c
+      → TreeIn P (suc depth) p → Tree P depth (fieldPieces depth e c i p)
+  unfolding fieldPieces direct
+  tree-field depth e c i none l h k = (bare e c i done, refl, (l, h, tt))
+  tree-field depth e c i (some ps) l h (q, f, k) =
+      (full e c i q done, ap₂ (λ n l. field depth e c 1 i ∷ spec n ∷ l) (ap (direct (suc depth)) f ∙ direct-flat (suc depth) q [] ∙ none-left q) f, (l, h, k, tt))
+    where
+      none-left : (q : Parts) → count q + direct (suc depth) [] ≡ count q
+      none-left q = omega arith
+
+  finished-tree : (depth from j : ℕ) (f : Field) (p : Option (List Piece)) → depth ≤ 1 → Closes f
+      → TreeIn P (suc depth) p → TreeRead P depth (finished depth from j f p)
+  unfolding finished
+  finished-tree depth from j (state e b o c d w) p l h k = go b refl
+    where
+      go : (x : Bool) → b ≡ x → TreeRead P depth (if x then refused emptyExpression j 0 0 else got (selfDocumenting depth d e w ++ fieldPieces depth e (conversionOf d c p) from p) j)
+      go true y = tt
+      go false y = tree-append P depth (selfDocumenting depth d e w) (fieldPieces depth e (conversionOf d c p) from p) (tree-documented depth d e w) (tree-field depth e (conversionOf d c p) from p l (h y p) k)
+
+  specified-tree : (s : List ℕ) (depth from j : ℕ) (f : Field) (ps : List Piece) → depth ≤ 1 → Closes f → Tree P (suc depth) ps → TreeRead P depth (specified s depth from j f ps)
+  unfolding specified
+  specified-tree s depth from j f ps l h k = go (atEnd s j)
+    where
+      go : (t : Bool) → TreeRead P depth (if t then refused unclosedLbrace j 0 0 else finished depth from (next s j) f (some ps))
+      go true = tt
+      go false = finished-tree depth from (next s j) f (some ps) l h k
+
+  record Trees (n : ℕ) : Type 0 where
+    text : (kind : ℕ) (s : List ℕ) (depth i : ℕ) (text : List ℕ) (ps : List Piece) → Tree P depth ps → TreeRead P depth (textN n kind s depth i text ps)
+    field : (kind : ℕ) (s : List ℕ) (depth from i : ℕ) (f : Field) → depth ≤ 1 → Inv f → TreeRead P depth (fieldN n kind s depth from i f)
+    spec : (kind : ℕ) (s : List ℕ) (depth i : ℕ) → TreeRead P (suc depth) (specN n kind s depth i)
+
+  module _ (n : ℕ) (D : Trees n) (kind : ℕ) (s : List ℕ) (depth : ℕ) where
+    text-tree : (i : ℕ) (text : List ℕ) (ps : List Piece) → Tree P depth ps → TreeRead P depth (textN (suc n) kind s depth i text ps)
+    text-tree i text ps h = test (leb 2 depth) refl
+      where
+        Goal : Type 0
+        Goal = TreeRead P depth (textN (suc n) kind s depth i text ps)
+
+        after : (r : Read (List Piece)) → fieldN n kind s depth (next s i) (next s i) fresh ≡ r → TreeRead P depth r → textMove kind s depth i text ≡ calls → Goal
+        after (got qs j) f k e =
+            rw (text-got n kind s depth i text ps qs j e f)
+            (D .text kind s depth j [] (ps ++ filled depth text ++ qs) (tree-append P depth (ps ++ filled depth text) qs (tree-append P depth ps (filled depth text) h (tree-filled P depth text)) k))
+        after (refused m j a b) f k e = rw (text-refused n kind s depth i text ps m j a b e f) tt
+
+        go : (x : Move (List ℕ)) → textMove kind s depth i text ≡ x → depth ≤ 1 → Goal
+        go (goes j text′) e l = rw (text-goes n kind s depth i text ps j text′ e) (D .text kind s depth j text′ ps h)
+        go (stops m j a b) e l = rw (text-stops n kind s depth i text ps m j a b e) tt
+        go calls e l = after (fieldN n kind s depth (next s i) (next s i) fresh) refl (D .field kind s depth (next s i) (next s i) fresh l start) e
+        go ends e l = rw (text-ends n kind s depth i text ps e) (tree-append P depth ps (filled depth text) h (tree-filled P depth text))
+
+        test : (t : Bool) → leb 2 depth ≡ t → Goal
+        test true e = rw (text-stops n kind s depth i text ps expressionNestedTooDeeply i 0 0 (deep-stops kind s depth i text e)) tt
+        test false e = go (textMove kind s depth i text) refl (omega (arith, leb-false 2 depth e))
+
+    field-tree : (from i : ℕ) (f : Field) → depth ≤ 1 → Inv f → TreeRead P depth (fieldN (suc n) kind s depth from i f)
+    field-tree from i f l h = go (fieldMove s i f) refl (step s i f h) (closes s i f h)
+      where
+        after : (r : Read (List Piece)) → specN n kind s depth (next s i) ≡ r → TreeRead P (suc depth) r → fieldMove s i f ≡ calls → Closes f → TreeRead P depth (fieldN (suc n) kind s depth from i f)
+        after (got ps j) g k e c = rw (field-got n kind s depth from i f ps j e g) (specified-tree s depth from j f ps l c k)
+        after (refused m j a b) g k e c = rw (field-refused n kind s depth from i f m j a b e g) tt
+
+        go : (x : Move Field) → fieldMove s i f ≡ x → Kept Inv x → Closed (Closes f) x → TreeRead P depth (fieldN (suc n) kind s depth from i f)
+        go (goes j f′) e k c = rw (field-goes n kind s depth from i f j f′ e) (D .field kind s depth from j f′ l k)
+        go (stops m j a b) e k c = rw (field-stops n kind s depth from i f m j a b e) tt
+        go calls e k c = after (specN n kind s depth (next s i)) refl (D .spec kind s depth (next s i)) e c
+        go ends e k c = rw (field-ends n kind s depth from i f e) (finished-tree depth from (next s i) f none l c tt)
+
+    spec-tree : (i : ℕ) → TreeRead P (suc depth) (specN (suc n) kind s depth i)
+    spec-tree i = go (code s (firstEnd s i) is "{") refl
+      where
+        first : Tree P (suc depth) (firstPiece s depth i)
+        first = tree-filled P (suc depth) (part s i (firstEnd s i))
+
+        go : (t : Bool) → (code s (firstEnd s i) is "{") ≡ t → TreeRead P (suc depth) (specN (suc n) kind s depth i)
+        go true e = rw (spec-calls n kind s depth i e) (D .text kind s (suc depth) (firstEnd s i) [] (firstPiece s depth i) first)
+        go false e = rw (spec-ends n kind s depth i e) first
+
+  trees : (n : ℕ) → Trees n
+  unfolding textN
+  trees zero = record { text = λ kind s depth i text ps h. tt; field = λ kind s depth from i f l h. tt; spec = λ kind s depth i. tt }
+  trees (suc n) = record {
+    text = λ kind s depth. text-tree n (trees n) kind s depth;
+    field = λ kind s depth. field-tree n (trees n) kind s depth;
+    spec = λ kind s depth. spec-tree n (trees n) kind s depth;
+  }
+
+  -- A BODY of an f-string is such a tree
+  pub body-tree : (kind : ℕ) (s : List ℕ) → isFString kind ≡ true → TreeRead P 0 (readBody kind s)
+  unfolding readBody
+  body-tree kind s e = rw (e, readBody) (trees (enough s) .text kind s 0 0 [] [] (done, refl, tt))

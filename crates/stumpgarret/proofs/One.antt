@@ -1,0 +1,35 @@
+-- Two calls that leave the same twelve numbers, words and text have one outcome. Assumes nothing.
+use mathlib.Core.Path.{_≡_, refl, sym, _∙_, ap}
+use mathlib.Core.List.{List, [], _∷_, _++_}
+use Prim.Native.Nat.{ℕ, zero, suc, _-_}
+use lib.ListN.{length, replicate}
+use Rattle.definition.specs.Reading.{numbers, Call, readNumbers}
+use Rattle.definition.specs.Words.{word}
+use Rattle.definition.proofs.Held.{numbers-one}
+use Rattle.stumpgarret.specs.Twelve.{twelve, CallIs}
+
+zeros-word : (n k : ℕ) → word (replicate n 0) k ≡ 0
+zeros-word zero k = refl
+zeros-word (suc n) zero = refl
+zeros-word (suc n) (suc k) = zeros-word n k
+
+word-front : (ns : List ℕ) (n k : ℕ) → word (ns ++ replicate n 0) k ≡ word ns k
+word-front [] n k = zeros-word n k
+word-front (x ∷ ns) n zero = refl
+word-front (x ∷ ns) n (suc k) = word-front ns n k
+
+twelve-word : (ns : List ℕ) (k : ℕ) → word (twelve ns) k ≡ word ns k
+unfolding twelve
+twelve-word ns k = word-front ns (12 - length ns) k
+
+pub calls-one : (script ns words text script′ ns′ words′ text′ answer left-words left-text : List ℕ)
+    → CallIs (readNumbers script ns words text) answer left-words left-text → CallIs (readNumbers script′ ns′ words′ text′) answer left-words left-text
+    → readNumbers script ns words text .outcome ≡ readNumbers script′ ns′ words′ text′ .outcome
+calls-one script ns words text script′ ns′ words′ text′ answer left-words left-text c c′ =
+    numbers-one script ns words text script′ ns′ words′ text′ (
+      λ k. sym (twelve-word (numbers (readNumbers script ns words text .outcome)) k)
+          ∙ ap (λ l. word l k) (sym (c .numbered) ∙ c′ .numbered)
+          ∙ twelve-word (numbers (readNumbers script′ ns′ words′ text′ .outcome)) k,
+      sym (c .words-left) ∙ c′ .words-left,
+      sym (c .text-left) ∙ c′ .text-left,
+    )
