@@ -138,7 +138,7 @@ string-reads (suc n) zero kind s i text l p q = absurd (omega arith)
 string-reads (suc n) (suc m) kind s i text l p q = go (λ j text′. string-reads n m kind s j text′) (stringMove kind s i text) refl (string-ahead kind s i text)
   where
     go : ((j : ℕ) (text′ : List ℕ) → j ≤ length s → Moves s j 1 n → Moves s j 1 m → Agree textSize (textSize text′) s j (stringN n kind s j text′) (stringN m kind s j text′))
-        → (x : Move (List ℕ)) → stringMove kind s i text ≡ x → Ahead textSize (textSize text) ⊥ (Unit {0}) s i x → Agree textSize (textSize text) s i (stringN (suc n) kind s i text) (stringN (suc m) kind s i text)
+        → (x : Move (List ℕ)) → stringMove kind s i text ≡ x → Ahead textSize (textSize text) ⊥ (length s ≤ i) s i x → Agree textSize (textSize text) s i (stringN (suc n) kind s i text) (stringN (suc m) kind s i text)
     go ih (goes j text′) e h =
         rw (string-goes n kind s i text j text′ e, string-goes m kind s i text j text′ e)
         (both-later textSize (textSize text) (textSize text′) s i j (stringN n kind s j text′) (stringN m kind s j text′) (omega arith) (omega arith) (ih j text′ (h .1) (omega arith) (omega arith)))
@@ -175,6 +175,19 @@ field-reading n kind s depth from i f l p = let r = reads n .field n kind s dept
 
 pub string-reading : (n kind : ℕ) (s : List ℕ) (i : ℕ) (text : List ℕ) → i ≤ length s → Moves s i 1 n → Reading textSize (textSize text) s i (stringN n kind s i text)
 string-reading n kind s i text l p = let r = string-reads n n kind s i text l p p in (r .0, r .2)
+
+-- a string or bytes body is read to its end
+pub string-last : (n kind : ℕ) (s : List ℕ) (i : ℕ) (text t : List ℕ) (j : ℕ) → stringN n kind s i text ≡ got t j → length s ≤ j
+unfolding stringN
+string-last zero kind s i text t j g = let z : _≡_ {A = ℕ} 0 1 = cc in absurd (omega arith)
+string-last (suc n) kind s i text t j g = go (λ k text′. string-last n kind s k text′ t j) (stringMove kind s i text) refl (string-ahead kind s i text)
+  where
+    go : ((k : ℕ) (text′ : List ℕ) → stringN n kind s k text′ ≡ got t j → length s ≤ j)
+        → (x : Move (List ℕ)) → stringMove kind s i text ≡ x → Ahead textSize (textSize text) ⊥ (length s ≤ i) s i x → length s ≤ j
+    go ih (goes k text′) e h = ih k text′ (sym (string-goes n kind s i text k text′ e) ∙ g)
+    go ih (stops x k b c) e h = let y = sym (string-stops n kind s i text x k b c e) ∙ g in let z : _≡_ {A = ℕ} 0 1 = cc in absurd (omega arith)
+    go ih calls e h = absurd h
+    go ih ends e h = let y = sym (string-ends n kind s i text e) ∙ g in let z : i ≡ j = cc in omega arith
 
 -- of a whole body: no answer that moves ran out ever shows
 pub body-reading : (kind : ℕ) (s : List ℕ) → Reading weight 1 s 0 (readBody kind s)

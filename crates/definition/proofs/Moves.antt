@@ -1,14 +1,14 @@
 -- Each move goes ahead and stays in the body, and each refusal has a number of 10 to 28. Assumes nothing.
 use mathlib.Core.Path.{_≡_, refl}
-use mathlib.Core.Bool.{Bool, true, false, not}
+use mathlib.Core.Bool.{Bool, true, false, _&&_, not}
 use mathlib.Core.List.{List, [], _∷_, _++_}
 use mathlib.Core.Option.{Option, none, some}
 use Prim.Native.Nat.{ℕ, zero, suc, _+_, _-_, _*_, _/_, _%_, _≤_, _<_}
 use native.Mathlib.Omega.{arith}
 use lib.Dec.{T, ltb, leb, eqb}
 use lib.ListN.{length, drop, length-append, length-take, length-replicate}
-use borrow.Author.Tests.{leb-false}
-use Rattle.definition.specs.Numbers.{isBytes, ofBody, unicodeError, nameNotHeld, stringError, emptyExpression, unclosedLbrace, invalidConversionFlag, tooManyBrackets, mismatchedDelimiter, unterminatedString}
+use borrow.Author.Tests.{leb-true, leb-false}
+use Rattle.definition.specs.Numbers.{isBytes, isRaw, ofBody, unicodeError, nameNotHeld, stringError, emptyExpression, unclosedLbrace, invalidConversionFlag, tooManyBrackets, mismatchedDelimiter, unterminatedString}
 use Rattle.definition.specs.Chars.{if_then_else_, _is_, part, noCode, atEnd, inside, _to_, code, next, char, utf8, before}
 use Rattle.definition.specs.Escapes.{Read, got, refused, Meaning, stands, stays, vanishes, octalDigit, octalFrom, hexDigit, scalar, hexFrom, held, lookup, named, unicodeName, EscapeCase, ended, simple, octal, hex, name, newline, foreign, other, escapeCase, escape, encode, meant}
 use Rattle.definition.specs.Body.{Piece, literal, field, spec, Move, goes, stops, calls, ends, withEscape, StringCase, stringCase, stringMove, TextCase, deep, opens, last, doubled, lone, textCase, textMove, Field, state, isBlank, add, documented, spaced, FieldCase, pair, converts, documents, formats, opener, closes, closer, quote, space, backslash, stray, fieldCase, caseOf, conversionMove, openMove, matching, closeMove, quoteMove, fieldMove, filled, finished, specified, selfDocumenting, fieldPieces, conversionOf}
@@ -169,11 +169,11 @@ meant-short kind s i j stays h = omega (arith, part-short s i j)
 meant-short kind s i j vanishes h = omega arith
 
 -- the escape of a backslash at i
-escaped : (C : Type 0) (kind : ℕ) (s : List ℕ) (i : ℕ) (text : List ℕ) → i < length s → Ahead textSize (textSize text) C (Unit {0}) s i (withEscape kind s i text (escape kind s (next s i)))
+escaped : (C E : Type 0) (kind : ℕ) (s : List ℕ) (i : ℕ) (text : List ℕ) → i < length s → Ahead textSize (textSize text) C E s i (withEscape kind s i text (escape kind s (next s i)))
 unfolding withEscape
-escaped C kind s i text h = go (escape kind s (next s i)) (escape-sound kind s (next s i) (next-in s i (omega arith)))
+escaped C E kind s i text h = go (escape kind s (next s i)) (escape-sound kind s (next s i) (next-in s i (omega arith)))
   where
-    go : (r : Read Meaning) → Sound s (next s i + 1) r → Ahead textSize (textSize text) C (Unit {0}) s i (withEscape kind s i text r)
+    go : (r : Read Meaning) → Sound s (next s i + 1) r → Ahead textSize (textSize text) C E s i (withEscape kind s i text r)
     go (got m j) p =
         let n = next-past s i h in
         (omega arith, p .1, omega (arith, meant-short kind s i j m (omega arith), length-append text (meant kind s i j m)))
@@ -200,19 +200,29 @@ string-at-end : (kind : ℕ) (s : List ℕ) (i : ℕ) → atEnd s i ≡ true →
 unfolding stringCase
 string-at-end kind s i e = rw e
 
-pub string-ahead : (kind : ℕ) (s : List ℕ) (i : ℕ) (text : List ℕ) → Ahead textSize (textSize text) ⊥ (Unit {0}) s i (stringMove kind s i text)
+string-inside : (kind : ℕ) (s : List ℕ) (i : ℕ) → atEnd s i ≡ false → stringCase kind s i ≡ StringCase.over → ⊥
+unfolding stringCase
+string-inside kind s i e h = go (code s i is "\\" && not (isRaw kind)) refl (isBytes kind && leb 0x80 (code s i)) refl
+  where
+    go : (a : Bool) → (code s i is "\\" && not (isRaw kind)) ≡ a → (b : Bool) → (isBytes kind && leb 0x80 (code s i)) ≡ b → ⊥
+    go true p b q = let k = rw (e, p) at h in let z : _≡_ {A = ℕ} 0 1 = cc in omega arith
+    go false p true q = let k = rw (e, p, q) at h in let z : _≡_ {A = ℕ} 0 1 = cc in omega arith
+    go false p false q = let k = rw (e, p, q) at h in let z : _≡_ {A = ℕ} 0 1 = cc in omega arith
+
+-- it ends only where the body does
+pub string-ahead : (kind : ℕ) (s : List ℕ) (i : ℕ) (text : List ℕ) → Ahead textSize (textSize text) ⊥ (length s ≤ i) s i (stringMove kind s i text)
 unfolding stringMove
 string-ahead kind s i text = at-end (atEnd s i) refl
   where
-    go : (x : StringCase) → stringCase kind s i ≡ x → i < length s → Ahead textSize (textSize text) ⊥ (Unit {0}) s i (stringMove kind s i text)
-    go StringCase.over e h = rw (e, stringMove) tt
-    go StringCase.escapes e h = rw (e, stringMove) (escaped ⊥ kind s i text h)
-    go StringCase.foreign e h = rw (e, stringMove) (tt, next-in s i (omega arith))
-    go StringCase.plain e h = rw (e, stringMove) (with-char s i (next s i) text (on-by-one s i h) (omega arith))
+    go : (x : StringCase) → stringCase kind s i ≡ x → atEnd s i ≡ false → i < length s → Ahead textSize (textSize text) ⊥ (length s ≤ i) s i (stringMove kind s i text)
+    go StringCase.over e f h = absurd (string-inside kind s i f e)
+    go StringCase.escapes e f h = rw (e, stringMove) (escaped ⊥ (length s ≤ i) kind s i text h)
+    go StringCase.foreign e f h = rw (e, stringMove) (tt, next-in s i (omega arith))
+    go StringCase.plain e f h = rw (e, stringMove) (with-char s i (next s i) text (on-by-one s i h) (omega arith))
 
-    at-end : (t : Bool) → atEnd s i ≡ t → Ahead textSize (textSize text) ⊥ (Unit {0}) s i (stringMove kind s i text)
-    at-end true e = rw (string-at-end kind s i e, stringMove) tt
-    at-end false e = go (stringCase kind s i) refl (inner-in s i e)
+    at-end : (t : Bool) → atEnd s i ≡ t → Ahead textSize (textSize text) ⊥ (length s ≤ i) s i (stringMove kind s i text)
+    at-end true e = rw (string-at-end kind s i e, stringMove) (leb-true _ _ e)
+    at-end false e = go (stringCase kind s i) refl e (inner-in s i e)
 
 -- F-STRING TEXT
 text-at-end : (kind : ℕ) (s : List ℕ) (depth i : ℕ) → atEnd s i ≡ true → textCase kind s depth i ≡ (if leb 2 depth then deep else TextCase.over)
@@ -234,7 +244,7 @@ text-ahead kind s depth i text l = at-end (atEnd s i) refl
     go last e h = rw (e, textMove) (tt, next-in s i l)
     go doubled e h = rw (e, textMove) (with-char s i (next s (next s i)) text (on-by-two s i h) (next-from s (next s i)))
     go lone e h = rw (e, textMove) (tt, next-in s i l)
-    go TextCase.escapes e h = rw (e, textMove) (escaped (i < length s) kind s i text h)
+    go TextCase.escapes e h = rw (e, textMove) (escaped (i < length s) (Unit {0}) kind s i text h)
     go TextCase.plain e h = rw (e, textMove) (with-char s i (next s i) text (on-by-one s i h) (omega arith))
 
     at-end : (t : Bool) → atEnd s i ≡ t → Ahead textSize (textSize text) (i < length s) (Unit {0}) s i (textMove kind s depth i text)

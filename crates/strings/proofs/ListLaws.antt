@@ -15,7 +15,7 @@ use Rattle.definition.specs.Entry.{refusal, opening, placeOf, body, total}
 use Rattle.definition.specs.Reading.{accepts, refuses, andThen, readLiteral, readFrom}
 use Rattle.definition.specs.Reading as o
 use Rattle.definition.proofs.Moves.{weight}
-use Rattle.definition.proofs.Fuel.{Reading, string-reading, body-reading}
+use Rattle.definition.proofs.Fuel.{Reading, string-reading, string-last, body-reading}
 use Rattle.buffers.specs.Over.{over}
 use Rattle.entry.specs.Answers.{described}
 use Rattle.entry.specs.Literals.{literalAt, literals}
@@ -24,6 +24,7 @@ use Rattle.entry.proofs.Literals.{total-turn}
 use Rattle.entry.proofs.Checks.{clash}
 use Rattle.entry.proofs.Passed.{Passed, Good, length-body, read-turn, read-end}
 use Rattle.strings.specs.declared.Refusal.{Refusal}
+use Rattle.utf8.specs.declared.Cursor.{Cursor}
 use Rattle.strings.specs.declared.emit.Whole.{Whole}
 use Rattle.strings.specs.declared.emit.Frame.{Frame}
 use Rattle.strings.specs.declared.emit.Sink.{Sink}
@@ -35,26 +36,21 @@ use Rattle.strings.specs.Emit.{emits}
 use Rattle.strings.specs.Sinks.{loadOf, outOf, wholeOf, Emits}
 use Rattle.strings.specs.Text.{StringIs}
 use Rattle.strings.specs.Fstring.{ReadIs}
-use Rattle.strings.specs.Strings.{Room, frameOf, empty, Gave, BodyIs, All}
+use Rattle.strings.specs.Strings.{Room, frameOf, empty, All}
 use Rattle.strings.proofs.Emitted.{emits-append}
 use Rattle.strings.proofs.SinkLaws.{grown}
-use Rattle.strings.proofs.FstringLaws.{gave, refuses as written-refuses}
+use Rattle.strings.proofs.FstringLaws.{Gave, gave, refuses as written-refuses}
 
 -- AN F-STRING'S BODY
 pub fstring-body : (fr : Frame) (s words text words′ text′ : List ℕ) (k : Sink) (r : Read) → isFString (fr .kind) ≡ true
-    → ReadIs (textN (enough s) (fr .kind) s 0 0 [] []) fr 0 words text words′ text′ k r → BodyIs (readBody (fr .kind) s) fr words text words′ text′ k r
+    → ReadIs (textN (enough s) (fr .kind) s 0 0 [] []) fr 0 words text words′ text′ k r → ReadIs (readBody (fr .kind) s) fr 0 words text words′ text′ k r
 unfolding readBody
-fstring-body fr s words text words′ text′ k (Done at r) e h =
-    let g = gave (λ l. l) fr 0 words text words′ text′ k (textN (enough s) (fr .kind) s 0 0 [] []) at r h in
-    record { pieces = g .pieces; end = at .at; reads = rw (e, readBody) (g .reads); emits = g .emits }
-fstring-body fr s words text words′ text′ k (Refused x) e h =
-    rw (e, readBody) (written-refuses (λ l. l) fr 0 words text words′ text′ k (textN (enough s) (fr .kind) s 0 0 [] []) x h)
+fstring-body fr s words text words′ text′ k r e h = rw (e, readBody) h
 
 -- ANY OTHER BODY: its text is read and written up to `to`
 pub record Content (s : List ℕ) (read : d.Read (List ℕ)) (used : ℕ) (text text′ : List ℕ) (to : ℕ) : Type 0 where
   pub content : List ℕ
-  pub end : ℕ
-  pub reads : read ≡ got content end
+  pub reads : read ≡ got content (length s)
   pub up : to ≡ used + length content
   pub wrote : text′ ≡ over text used content
   pub short : length content ≤ 2 * length s
@@ -62,26 +58,29 @@ pub record Content (s : List ℕ) (read : d.Read (List ℕ)) (used : ℕ) (text 
 pub content-of : (kind : ℕ) (s : List ℕ) (used : ℕ) (text text′ : List ℕ) (to : ℕ) → StringIs (stringN (enough s) kind s 0 []) used text text′ (string.Done to)
     → Content s (stringN (enough s) kind s 0 []) used text text′ to
 content-of kind s used text text′ to h =
-    go (stringN (enough s) kind s 0 []) h (string-reading (enough s) kind s 0 [] (omega arith) (omega arith))
+    go (stringN (enough s) kind s 0 []) h (string-last (enough s) kind s 0 []) (string-reading (enough s) kind s 0 [] (omega arith) (omega arith))
   where
-    go : (r : d.Read (List ℕ)) → StringIs r used text text′ (string.Done to) → Reading (λ t. length t + length t) 0 s 0 r → Content s r used text text′ to
-    go (got t j) h p = record { content = t; end = j; reads = refl; up = (let y = h .0 in cc); wrote = h .1; short = omega (arith, p .0 .1, p .1) }
-    go (refused n j a b) h p = clash cc
+    go : (r : d.Read (List ℕ)) → StringIs r used text text′ (string.Done to) → ((t : List ℕ) (j : ℕ) → r ≡ got t j → length s ≤ j) → Reading (λ t. length t + length t) 0 s 0 r → Content s r used text text′ to
+    go (got t j) h l p =
+        let e : j ≡ length s = omega (arith, l t j refl, p .0 .1) in
+        record { content = t; reads = ap (got t) e; up = (let y = h .0 in cc); wrote = h .1; short = omega (arith, p .0 .1, p .1) }
+    go (refused n j a b) h l p = clash cc
 
 pub not-read : (r : d.Read (List ℕ)) (used : ℕ) (text text′ : List ℕ) (x : Refusal) → StringIs r used text text′ (string.Refused x) → r ≡ refused (x .number) (x .taken) (x .a) (x .b)
 not-read (got t j) used text text′ x h = clash (let y = h .0 in cc)
 not-read (refused n j a b) used text text′ x h = let y : x ≡ record { number = n; taken = j; a = a; b = b } = cc in rw y refl
 
-pub string-refuses : (kind : ℕ) (s : List ℕ) (n j a b : ℕ) → isFString kind ≡ false → stringN (enough s) kind s 0 [] ≡ refused n j a b → readBody kind s ≡ refused n j a b
+pub string-refuses : (fr : Frame) (s words text words′ text′ : List ℕ) (k : Sink) (x : Refusal) → isFString (fr .kind) ≡ false
+    → stringN (enough s) (fr .kind) s 0 [] ≡ refused (x .number) (x .taken) (x .a) (x .b) → ReadIs (readBody (fr .kind) s) fr 0 words text words′ text′ k (Refused x)
 unfolding readBody alone
-string-refuses kind s n j a b e h = rw (e, readBody, h)
+string-refuses fr s words text words′ text′ k x e h = rw (e, readBody, h) refl
 
 pub string-body : (fr : Frame) (s words text words′ text′ : List ℕ) (k r : Sink) (to : ℕ) → isFString (fr .kind) ≡ false
     → (c : Content s (stringN (enough s) (fr .kind) s 0 []) (k .used) text text′ to)
-    → Emits fr 0 (literal 0 (c .content) ∷ []) words text words′ (over text (k .used) (c .content)) k r → Gave (readBody (fr .kind) s) fr words text words′ text′ k r
+    → Emits fr 0 (literal 0 (c .content) ∷ []) words text words′ (over text (k .used) (c .content)) k r
+    → ReadIs (readBody (fr .kind) s) fr 0 words text words′ text′ k (Done (record { at = length s }) r)
 unfolding readBody alone
-string-body fr s words text words′ text′ k r to e c h =
-    record { pieces = literal 0 (c .content) ∷ []; end = c .end; reads = rw (e, readBody, c .reads); emits = rw (c .wrote) h }
+string-body fr s words text words′ text′ k r to e c h = rw (e, readBody, c .reads) (refl, rw (c .wrote) h)
 
 -- a body's refusal stands in the body
 pub taken-in : (kind : ℕ) (s : List ℕ) (n j a b : ℕ) → readBody kind s ≡ refused n j a b → j ≤ length s
@@ -155,24 +154,30 @@ module _ (script ns : List ℕ) (n : ℕ) (w : Whole) (words text : List ℕ) (P
           }
 
       -- the refusal of this literal
-      module _ (m j a c : ℕ) (R : readBody (l .kind) (body script (described l)) ≡ refused m j a c) where
-        pub taken-small : j ≤ l .size
-        taken-small = omega (arith, taken-in (l .kind) (body script (described l)) m j a c R, size)
+      module _ (words″ text″ : List ℕ) (x : Refusal) (H : ReadIs (readBody (l .kind) (body script (described l))) (frameOf l w) 0 words′ text′ words″ text″ k (Refused x)) where
+        R : readBody (l .kind) (body script (described l)) ≡ refused (x .number) (x .taken) (x .a) (x .b)
+        R = written-refuses (λ ps. ps) (frameOf l w) 0 words′ text′ words″ text″ k (readBody (l .kind) (body script (described l))) x H
 
-        pub place-small : placeOf (described l) j < 4294967296
+        pub taken-small : x .taken ≤ l .size
+        taken-small = omega (arith, taken-in (l .kind) (body script (described l)) (x .number) (x .taken) (x .a) (x .b) R, size)
+
+        pub place-small : placeOf (described l) (x .taken) < 4294967296
         unfolding described placeOf
         place-small = omega (arith, taken-small, good .fits)
 
-        refuses-here : readLiteral script i (described l) ≡ refuses (refusal m i (placeOf (described l) j) a c)
+        refuses-here : readLiteral script i (described l) ≡ refuses (refusal (x .number) i (placeOf (described l) (x .taken)) (x .a) (x .b))
         unfolding readLiteral described
         refuses-here = rw (R, readLiteral)
 
-        pub refuses-all : readFrom script 0 (literals ns 0 n) ≡ refuses (refusal m i (placeOf (described l) j) a c)
+        pub refuses-all : readFrom script 0 (literals ns 0 n) ≡ refuses (refusal (x .number) i (placeOf (described l) (x .taken)) (x .a) (x .b))
         unfolding andThen
         refuses-all = L .same ∙ rw (read-turn script ns n i h, ← q, refuses-here)
 
       -- its pieces
-      module _ (words″ text″ : List ℕ) (r : Sink) (G : Gave (readBody (l .kind) (body script (described l))) (frameOf l w) words′ text′ words″ text″ k r) where
+      module _ (words″ text″ : List ℕ) (at : Cursor) (r : Sink) (H : ReadIs (readBody (l .kind) (body script (described l))) (frameOf l w) 0 words′ text′ words″ text″ k (Done at r)) where
+        G : Gave (λ ps. ps) (readBody (l .kind) (body script (described l))) (frameOf l w) 0 words′ text′ words″ text″ k (at .at) r
+        G = gave (λ ps. ps) (frameOf l w) 0 words′ text′ words″ text″ k (readBody (l .kind) (body script (described l))) at r H
+
         abbrev these : List Item
         these = map (itemOf (l .kind) (l .start) (l .end) (l .start + opening (described l))) (G .pieces)
 

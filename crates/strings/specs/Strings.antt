@@ -6,9 +6,6 @@ use mathlib.Core.List.{List, [], _∷_}
 use lib.ListN.{length}
 use Rattle.definition.specs.Numbers.{isBytes}
 use Rattle.definition.specs.Chars.{if_then_else_}
-use Rattle.definition.specs.Escapes.{got, refused}
-use Rattle.definition.specs.Escapes as d
-use Rattle.definition.specs.Body.{Piece}
 use Rattle.definition.specs.Records.{Role, top, raw, Item}
 use Rattle.definition.specs.Entry.{Literal, refusal, opening, anyOf, firstStart}
 use Rattle.definition.specs.Reading.{accepts, refuses, uMark, lastEnd, Call, numbers}
@@ -22,11 +19,9 @@ use Rattle.strings.specs.declared.Listed.the-variants as listed
 use Rattle.strings.specs.declared.emit.Whole.{Whole}
 use Rattle.strings.specs.declared.emit.Frame.{Frame}
 use Rattle.strings.specs.declared.emit.Sink.{Sink}
-use Rattle.strings.specs.declared.fstring.Read.{Read}
-use Rattle.strings.specs.declared.fstring.Read.the-variants as read
 use Rattle.strings.specs.Emit as e
 use Rattle.strings.specs.Emit.{Out, emits}
-use Rattle.strings.specs.Sinks.{loadOf, outOf, Fits, Emits}
+use Rattle.strings.specs.Sinks.{loadOf, outOf, Fits}
 
 -- the paper's numbers of an answer
 abbrev pub says : Outcome → List ℕ
@@ -62,17 +57,6 @@ pub record Room (script : List ℕ) (l : Descriptor) (k : Sink) : Type 0 where
 -- where a literal stands
 abbrev pub frameOf : Descriptor → Whole → Frame
 frameOf l w = record { kind = l .kind; start = l .start; end = l .end; base = l .start + opening (described l); whole = w }
-
--- a body that is read: its pieces are emitted
-pub record Gave (body : d.Read (List Piece)) (fr : Frame) (words text words′ text′ : List ℕ) (k r : Sink) : Type 0 where
-  pub pieces : List Piece
-  pub end : ℕ
-  pub reads : body ≡ got pieces end
-  pub emits : Emits fr 0 pieces words text words′ text′ k r
-
-abbrev pub BodyIs : d.Read (List Piece) → Frame → List ℕ → List ℕ → List ℕ → List ℕ → Sink → Read → Type 0
-BodyIs body fr words text words′ text′ k (read.Done at r) = Gave body fr words text words′ text′ k r
-BodyIs body fr words text words′ text′ k (read.Refused x) = body ≡ refused (x .number) (x .taken) (x .a) (x .b)
 
 -- items that are emitted into empty buffers: the counters and buffers afterwards
 pub record Wrote (w : e.Whole) (xs : List Item) (words text words′ text′ : List ℕ) (r : Sink) : Type 0 where

@@ -34,8 +34,8 @@ ghost use Rattle.entry.proofs.Passed.{Passed};
 ghost use Rattle.strings.specs.declared.Outcome.the-variants.{Refused};
 ghost use Rattle.strings.specs.Emit.{Tops};
 ghost use Rattle.strings.specs.Sinks.{Fits, wholeOf};
-ghost use Rattle.strings.specs.Fstring.{Room as BodyRoom};
-ghost use Rattle.strings.specs.Strings.{CallIs, wholeFor, Room, frameOf, BodyIs, Wrote, ListIs};
+ghost use Rattle.strings.specs.Fstring.{Room as BodyRoom, ReadIs};
+ghost use Rattle.strings.specs.Strings.{CallIs, wholeFor, Room, frameOf, Wrote, ListIs};
 
 // Why a body is refused: the number, the bytes taken at its place, two details.
 pub(crate) struct Refusal {
@@ -73,7 +73,7 @@ pub(crate) const EMPTY_EXPRESSION: u32 = 22;
 // A literal's body, read and written.
 fn read_body(s: &[u8], fr: Frame, words: &mut [u32], text: &mut [u8], k: Sink) -> Read
     requires { ⌜ BodyRoom (now s) 0 fr k ⌝ }
-    ensures { λ r. ⌜ BodyIs (readBody (fr .kind) (now (s .entry))) fr (now (words .entry)) (now (text .entry)) (now (words .exit)) (now (text .exit)) k r ⌝ }
+    ensures { λ r. ⌜ ReadIs (readBody (fr .kind) (now (s .entry))) fr 0 (now (words .entry)) (now (text .entry)) (now (words .exit)) (now (text .exit)) k r ⌝ }
 {
     if entry::is_of(Class::FStrings, fr.kind) {
         return parse_fstring(s, Cursor { at: 0 }, 0, fr, words, text, k);
@@ -94,7 +94,7 @@ fn read_literal(
     k: Sink,
 ) -> Read
     requires { ⌜ Room (now script) l k ⌝ }
-    ensures { λ r. ⌜ BodyIs (readBody (l .kind) (body (now (script .entry)) (described l))) (frameOf l whole) (now (words .entry)) (now (text .entry)) (now (words .exit)) (now (text .exit)) k r ⌝ }
+    ensures { λ r. ⌜ ReadIs (readBody (l .kind) (body (now (script .entry)) (described l))) (frameOf l whole) 0 (now (words .entry)) (now (text .entry)) (now (words .exit)) (now (text .exit)) k r ⌝ }
 {
     let from = l.offset as usize;
     let to = from + l.size as usize;

@@ -25,16 +25,16 @@ read-list-spec =
     (λ c κs. search needs)  -- literal-at-requires
     (λ c κs. room _ _ _ _ _ _ (c .before .before .before .before .before .before .before .before .before .pre) _ _ _ _ (c .before .before .before .before .loop .inv .2) (c .before .before .before .loop-test .taken) (c .before .before .literal-at .result) (c .before .before .literal-at .ensures) (omega (arith, (c .before .before .literal-at .ok))))  -- read-literal-requires
     (λ c. search needs)  -- enum-known-x
-    (λ c. record { fits = omega (arith, taken-small _ _ _ _ _ _ (c .before .before .before .before .before .before .before .before .before .before .before .before .before .before .before .before .before .before .pre) _ _ _ _ (c .before .before .before .before .before .before .before .before .before .before .before .before .before .loop .inv .2) (c .before .before .before .before .before .before .before .before .before .before .before .before .loop-test .taken) (c .before .before .before .before .before .before .before .before .before .before .before .literal-at .result) (c .before .before .before .before .before .before .before .before .before .before .before .literal-at .ensures) (omega (arith, (c .before .before .before .before .before .before .before .before .before .before .before .literal-at .ok))) _ (c .before .before .x .given .0 .0 .taken) _ _ (rw (c .before .before .x .given .1) at (c .before .before .before .before .before .before .before .before .read-literal .ensures)), (c .before .before .before .before .before .before .before .before .before .before .before .literal-at .ok)) })  -- cast-place
+    (λ c. record { fits = omega (arith, taken-small _ _ _ _ _ _ (c .before .before .before .before .before .before .before .before .before .before .before .before .before .before .before .before .before .before .pre) _ _ _ _ (c .before .before .before .before .before .before .before .before .before .before .before .before .before .loop .inv .2) (c .before .before .before .before .before .before .before .before .before .before .before .before .loop-test .taken) (c .before .before .before .before .before .before .before .before .before .before .before .literal-at .result) (c .before .before .before .before .before .before .before .before .before .before .before .literal-at .ensures) (omega (arith, (c .before .before .before .before .before .before .before .before .before .before .before .literal-at .ok))) _ _ (c .before .before .x .given .0 .0) (rw (c .before .before .x .given .1) at (c .before .before .before .before .before .before .before .before .read-literal .ensures)), (c .before .before .before .before .before .before .before .before .before .before .before .literal-at .ok)) })  -- cast-place
     (λ c κs. search needs)  -- place-requires
-    (λ c. record { fits = rw (c .place .ensures) (place-small _ _ _ _ _ _ (c .before .before .before .before .before .before .before .before .before .before .before .before .before .before .before .before .before .before .before .pre) _ _ _ _ (c .before .before .before .before .before .before .before .before .before .before .before .before .before .before .loop .inv .2) (c .before .before .before .before .before .before .before .before .before .before .before .before .before .loop-test .taken) (c .before .before .before .before .before .before .before .before .before .before .before .before .literal-at .result) (c .before .before .before .before .before .before .before .before .before .before .before .before .literal-at .ensures) (omega (arith, (c .before .before .before .before .before .before .before .before .before .before .before .before .literal-at .ok))) _ (c .before .before .before .x .given .0 .0 .taken) _ _ (rw (c .before .before .before .x .given .1) at (c .before .before .before .before .before .before .before .before .before .read-literal .ensures))) })  -- cast-place-2
+    (λ c. record { fits = rw (c .place .ensures) (place-small _ _ _ _ _ _ (c .before .before .before .before .before .before .before .before .before .before .before .before .before .before .before .before .before .before .before .pre) _ _ _ _ (c .before .before .before .before .before .before .before .before .before .before .before .before .before .before .loop .inv .2) (c .before .before .before .before .before .before .before .before .before .before .before .before .before .loop-test .taken) (c .before .before .before .before .before .before .before .before .before .before .before .before .literal-at .result) (c .before .before .before .before .before .before .before .before .before .before .before .before .literal-at .ensures) (omega (arith, (c .before .before .before .before .before .before .before .before .before .before .before .before .literal-at .ok))) _ _ (c .before .before .before .x .given .0 .0) (rw (c .before .before .before .x .given .1) at (c .before .before .before .before .before .before .before .before .before .read-literal .ensures))) })  -- cast-place-2
     (λ c. search needs)  -- same-length
     (λ c. search needs)  -- same-length-2
-    (λ c. rw (c .place .ensures) (refuses-all _ _ _ _ _ _ (c .before .before .before .before .before .before .before .before .before .before .before .before .before .before .before .before .before .before .before .pre) _ _ _ _ (c .before .before .before .before .before .before .before .before .before .before .before .before .before .before .loop .inv .2) (c .before .before .before .before .before .before .before .before .before .before .before .before .before .loop-test .taken) (c .before .before .before .before .before .before .before .before .before .before .before .before .literal-at .result) (c .before .before .before .before .before .before .before .before .before .before .before .before .literal-at .ensures) (omega (arith, (c .before .before .before .before .before .before .before .before .before .before .before .before .literal-at .ok))) _ (c .before .before .before .x .given .0 .0 .taken) _ _ (rw (c .before .before .before .x .given .1) at (c .before .before .before .before .before .before .before .before .before .read-literal .ensures))))  -- returns
+    (λ c. rw (c .place .ensures) (refuses-all _ _ _ _ _ _ (c .before .before .before .before .before .before .before .before .before .before .before .before .before .before .before .before .before .before .before .pre) _ _ _ _ (c .before .before .before .before .before .before .before .before .before .before .before .before .before .before .loop .inv .2) (c .before .before .before .before .before .before .before .before .before .before .before .before .before .loop-test .taken) (c .before .before .before .before .before .before .before .before .before .before .before .before .literal-at .result) (c .before .before .before .before .before .before .before .before .before .before .before .before .literal-at .ensures) (omega (arith, (c .before .before .before .before .before .before .before .before .before .before .before .before .literal-at .ok))) _ _ (c .before .before .before .x .given .0 .0) (rw (c .before .before .before .x .given .1) at (c .before .before .before .before .before .before .before .before .before .read-literal .ensures))))  -- returns
     (λ c. search needs)  -- enum-known-next
     (λ c. search needs)  -- add-i
     (λ c. search needs)  -- loop-less
-    (λ c. ((c .before .before .before .before .before .before .before .read-literal .kept .1 .1 .1 .0) ∙ (c .before .before .before .before .before .before .before .before .before .before .before .before .loop .inv .0), (c .before .before .before .before .before .before .before .read-literal .kept .1 .1 .1 .1 .0) ∙ (c .before .before .before .before .before .before .before .before .before .before .before .before .loop .inv .1), next-literal _ _ _ _ _ _ (c .before .before .before .before .before .before .before .before .before .before .before .before .before .before .before .before .before .pre) _ _ _ _ (c .before .before .before .before .before .before .before .before .before .before .before .before .loop .inv .2) (c .before .before .before .before .before .before .before .before .before .before .before .loop-test .taken) (c .before .before .before .before .before .before .before .before .before .before .literal-at .result) (c .before .before .before .before .before .before .before .before .before .before .literal-at .ensures) (omega (arith, (c .before .before .before .before .before .before .before .before .before .before .literal-at .ok))) _ _ (c .before .next .given .0 .1 .0) (rw (c .before .next .given .1) at (c .before .before .before .before .before .before .before .read-literal .ensures))))  -- loop-again
+    (λ c. ((c .before .before .before .before .before .before .before .read-literal .kept .1 .1 .1 .0) ∙ (c .before .before .before .before .before .before .before .before .before .before .before .before .loop .inv .0), (c .before .before .before .before .before .before .before .read-literal .kept .1 .1 .1 .1 .0) ∙ (c .before .before .before .before .before .before .before .before .before .before .before .before .loop .inv .1), next-literal _ _ _ _ _ _ (c .before .before .before .before .before .before .before .before .before .before .before .before .before .before .before .before .before .pre) _ _ _ _ (c .before .before .before .before .before .before .before .before .before .before .before .before .loop .inv .2) (c .before .before .before .before .before .before .before .before .before .before .before .loop-test .taken) (c .before .before .before .before .before .before .before .before .before .before .literal-at .result) (c .before .before .before .before .before .before .before .before .before .before .literal-at .ensures) (omega (arith, (c .before .before .before .before .before .before .before .before .before .before .literal-at .ok))) _ _ (c .before .next .given .0 .0) (c .before .next .given .0 .1 .0) (rw (c .before .next .given .1) at (c .before .before .before .before .before .before .before .read-literal .ensures))))  -- loop-again
     (λ c. search needs)  -- same-length-3
     (λ c. search needs)  -- same-length-4
     (λ c. after-all _ _ _ _ _ _ (c .before .before .before .before .before .before .pre) _ _ _ _ (c .before .loop .inv .2) (c .loop-test .left)))  -- returns-2

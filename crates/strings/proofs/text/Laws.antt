@@ -139,7 +139,7 @@ module _ (kind : ℕ) (s : List ℕ) (used : ℕ) (text₀ text : List ℕ) (i e
 
   pub string-more : (k : Cursor) (e : ℕ) → r ≡ On k e → (i < k .at) × Upto (StringFrom kind s) s 0 used text₀ text′ (k .at) e
   string-more k e q =
-      on (StringFrom kind s) s 0 used text₀ text i end u ⊥ (Unit {0}) text′ k e (stringMove kind s i []) (string-told (On k e) q)
+      on (StringFrom kind s) s 0 used text₀ text i end u ⊥ (length s ≤ i) text′ k e (stringMove kind s i []) (string-told (On k e) q)
       (rw string-onto at (string-ahead kind s i (u .content)))
       (λ j t l h. u .same ∙ string-on kind s i (u .content) j t l (string-onto kind s i (u .content) ∙ h))
 
