@@ -126,7 +126,8 @@ enum stumpgarret_refusal {
                                            after its closing brace */
     STUMPGARRET_NON_ASCII_IN_BYTES = 12, /* place: after it */
     STUMPGARRET_NAME_NOT_HELD = 13,     /* the name in \N{..}; place: after its opening brace */
-    STUMPGARRET_UNCLOSED_LBRACE = 20,   /* place: after the last character taken */
+    STUMPGARRET_UNCLOSED_LBRACE = 20,   /* place: after the last character taken; first detail: why,
+                                           one of stumpgarret_unclosed */
     STUMPGARRET_INVALID_CONVERSION_FLAG = 21, /* place: after it */
     STUMPGARRET_EMPTY_EXPRESSION = 22,  /* place: after the ! or the closing brace */
     STUMPGARRET_MISMATCHED_DELIMITER = 23, /* place: after the closer; details: the codes of
@@ -139,6 +140,16 @@ enum stumpgarret_refusal {
     STUMPGARRET_TOO_MANY_BRACKETS = 28, /* a field's 65th open bracket; place: after it */
     STUMPGARRET_TOO_FEW_RECORD_PLACES = 30, /* details: the records and the text bytes needed */
     STUMPGARRET_TOO_LITTLE_TEXT_ROOM = 31   /* details: the same */
+};
+
+/* Why an opening brace counts as unclosed: the first detail of STUMPGARRET_UNCLOSED_LBRACE. */
+enum stumpgarret_unclosed {
+    STUMPGARRET_UNCLOSED_AFTER_BANG = 1,   /* the body ends right after a field's ! */
+    STUMPGARRET_UNCLOSED_AFTER_CONVERSION, /* the character after a conversion is neither a closing
+                                              brace nor a colon, or there is none */
+    STUMPGARRET_UNCLOSED_AFTER_EQUALS,     /* something not allowed follows a self-documenting = */
+    STUMPGARRET_UNCLOSED_IN_FIELD,         /* the body ends elsewhere inside a field */
+    STUMPGARRET_UNCLOSED_LAST_BRACE        /* an opening brace in no field is the last character */
 };
 
 /* Reads the literals, six numbers for each, from the script. Lengths count elements: bytes of

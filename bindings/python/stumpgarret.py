@@ -113,7 +113,8 @@ class Answer:
     records: tuple[Text | Field | Bytes, ...]
 
 
-# Each refusal's number, its name, and what it means where the name does not say so; {0} and {1} are the details.
+# Each refusal's number, its name, and what it means where the name does not say so; {0} and {1} are the details, and
+# {unclosed} is what `UNCLOSED` says of the first.
 REFUSALS = {
     1: ("empty list", ""),
     2: ("number list not a multiple of six", ""),
@@ -126,7 +127,7 @@ REFUSALS = {
     11: ("UnicodeError", "an escape lacks a digit, has a code above 10FFFF, or a name over 88 bytes"),
     12: ("non-ASCII in bytes", ""),
     13: ("name not held", "the library does not have this name of a character"),
-    20: ("UnclosedLbrace", "a field does not end as it should"),
+    20: ("UnclosedLbrace", "{unclosed}"),
     21: ("InvalidConversionFlag", "a conversion is not s, r or a"),
     22: ("EmptyExpression", "a field has no expression"),
     23: ("MismatchedDelimiter", "{0:c} is closed by {1:c}"),
@@ -139,6 +140,15 @@ REFUSALS = {
     31: ("too little text room", "{0} records and {1} text bytes are needed"),
 }
 NO_ROOM = (30, 31)
+
+# Why a brace counts as unclosed, by the first detail of 20.
+UNCLOSED = {
+    1: "the literal ends right after a !",
+    2: "neither } nor : follows a conversion",
+    3: "something not allowed follows a self-documenting =",
+    4: "the literal ends inside a field",
+    5: "a { in no field is the last character",
+}
 
 
 class Refusal(Exception):
@@ -157,7 +167,8 @@ class Refusal(Exception):
     @property
     def meaning(self) -> str:
         """Number and name, and what they mean."""
-        said = self._said.format(*self.details)
+        unclosed = UNCLOSED.get(self.details[0], "a field does not end as it should")
+        said = self._said.format(*self.details, unclosed=unclosed)
         return f"{self.number} {self.name}" + (f": {said}" if said else "")
 
     def __str__(self) -> str:

@@ -1,7 +1,8 @@
 # Run with Python 3.11, `python3 crates/try_readings/expected.py`: writes the cases to `stdin` beside it and what must come out to `stdout`, and
 # keeps what stands there behind them, the reference's list; `--reference STDIN STDOUT` at the end puts another one there (oracle/fixed).
 # With `--check` it writes nothing and fails if one of them is not what it would write.
-"""Document 01's readings, refusals and limits. What each row expects stands there in 01's terms, worked out from 01 by hand."""
+"""Document 01's readings, refusals and limits, with what 02 adds. What each row expects stands there in their terms, worked out from them by
+hand."""
 import itertools
 import os
 import struct
@@ -11,6 +12,8 @@ FILL_WORD, FILL_BYTE = 0xA5A5A5A5, 0xA5
 PREFIX = [0, 1, 1, 1, 2, 2, 1]
 PLAIN, JOINED, BYTES = 0, 1, 2
 NUMBERS = {1, 2, 3, 4, 5, 6, 7, 10, 11, 12, 13, 20, 21, 22, 23, 24, 25, 26, 27, 28, 30, 31}
+# Why a brace counts as unclosed (02, item 1).
+AFTER_BANG, AFTER_CONVERSION, AFTER_EQUALS, IN_FIELD, LAST_BRACE = REASONS = 1, 2, 3, 4, 5
 MOST_LITERALS, MOST_BYTES = 1_024, 1_048_576
 ROOM = 11, 5
 
@@ -82,7 +85,7 @@ def refuses(lent, number, place, a=0, b=0, literal=0, room=ROOM):
 def small_readings():
     """01, "Small readings to check", in its order; then the examples of the program and the near misses."""
     reads(fstring("{x!=y}"), JOINED, field("x!=y", 3))
-    refuses(fstring("{x!r b}"), 20, 6)
+    refuses(fstring("{x!r b}"), 20, 6, AFTER_CONVERSION)
     refuses(fstring("{x:{y:{z}}}"), 24, 8)
     reads(fstring("{x = }"), JOINED, literal("x = "), field("x ", 3, "r"))
     reads(fstring("{x=()}"), JOINED, literal("x()="), field("x()", 3, "r"))
@@ -156,9 +159,19 @@ def escapes():
     refuses(side_by_side((0, r"\N{" + "A" * 89 + "}")), 11, 1 + 3 + 90)
 
 
+def unclosed():
+    for body, place, why in (
+            ("{x!", 5, AFTER_BANG), ("{x=!", 6, AFTER_BANG), ("{x:{y!", 8, AFTER_BANG),
+            ("{x!r", 6, AFTER_CONVERSION), ("{x!rs", 6, AFTER_CONVERSION), ("{x!s }", 6, AFTER_CONVERSION), ("{x=!a=", 7, AFTER_CONVERSION),
+            ("{x=y}", 6, AFTER_EQUALS), ("{x= \t}", 7, AFTER_EQUALS), ("{x=(!r", 7, AFTER_EQUALS), ("{x=é", 7, AFTER_EQUALS),
+            ("{x", 4, IN_FIELD), ("a{(", 5, IN_FIELD), ("{(!", 5, IN_FIELD), ("{x=", 5, IN_FIELD), ("{x=  ", 7, IN_FIELD), ("{x:", 5, IN_FIELD),
+            ("{x:!", 6, IN_FIELD), ("{x:{", 6, IN_FIELD), ("{x:{y}", 8, IN_FIELD), ("{x!r:>5", 9, IN_FIELD), ("{ {", 5, IN_FIELD),
+            ("{", 3, LAST_BRACE), ("{{{", 5, LAST_BRACE), ("{x}{", 6, LAST_BRACE)):
+        refuses(fstring(body), 20, place, why)
+    refuses(side_by_side((0, "{x!"), (4, "{x!", 1)), 20, 5 + 5 + 3, AFTER_BANG, literal=1)
+
+
 def fields():
-    for body, place in (("{", 3), ("{x", 4), ("{x!", 5), ("{x!r", 6), ("{x!rs", 6), ("{x:", 5), ("{x:{", 6), ("{x:{y}", 8), ("{x=y}", 6), ("a{(", 5)):
-        refuses(fstring(body), 20, place)
     refuses(fstring("{x!x}"), 21, 6)
     refuses(fstring("{x!é}"), 21, 7)
     for body, place in (("{}", 4), ("{ \t\n}", 7), ("{!r}", 4), ("{:}", 5), ("{ =}", 6)):
@@ -232,10 +245,11 @@ def files():
 
 
 def fill_cases():
-    for rows in (small_readings, two_literals, entry_checks, escapes, fields, room, limits):
+    for rows in (small_readings, two_literals, entry_checks, escapes, unclosed, fields, room, limits):
         rows()
     met = {answer[0] for _, _, answer, _, _ in cases}
     assert met == NUMBERS | {0}, met
+    assert {answer[3] for _, _, answer, _, _ in cases if answer[0] == 20} == set(REASONS)
 
 
 def behind(stdin, stdout):

@@ -1,4 +1,4 @@
-//! Document 01's rules for what the Rust does not have, around what the Rust gives.
+//! Document 01's rules, and 02's, for what the Rust does not have, around what the Rust gives.
 //!
 //! * 1 to 6 are checked here, before the Rust is asked.
 //! * Blank is narrower than the Rust's `trim`. It matters only where the Rust refuses with
@@ -7,6 +7,8 @@
 //!   with different ones: where the two texts differ, the blank is put back.
 //! * 28 is found by a scan of its own. The scan may assume that the Rust refuses nothing up
 //!   to the place it looks for, since an earlier refusal wins over 28.
+//! * Why a brace counts as unclosed, the first detail of 20, is found by the same scan. The Rust
+//!   gives number and place, and the detail is added only if the scan comes to the same place.
 //! * 30 and 31 compare an acceptance with the room that is lent.
 
 use std::ops::Range;
@@ -19,6 +21,16 @@ use crate::rust;
 pub const MAX_LITERALS: usize = 1_024;
 pub const MAX_BODY_BYTES: usize = 1_048_576;
 const MAX_OPEN_BRACKETS: usize = 64;
+
+/// 02, item 1: the body ends right after `!`; the character after a conversion is neither `}` nor
+/// `:`, or there is none; something not allowed follows a self-documenting `=`; the body ends
+/// elsewhere inside a field; a `{` at depth 0 is the last character.
+const AFTER_BANG: u32 = 1;
+const AFTER_CONVERSION: u32 = 2;
+const AFTER_EQUALS: u32 = 3;
+const IN_FIELD: u32 = 4;
+const LAST_BRACE: u32 = 5;
+
 /// Words of a record, and numbers of a literal.
 pub const RECORD_WORDS: usize = 8;
 pub const NUMBERS: usize = 6;
@@ -35,7 +47,8 @@ pub fn reading(script: &[u8], list: &[u32]) -> Outcome {
     let (literals, ranges) = descriptors(script, list)?;
     check_size(&ranges)?;
     let bodies = well_formed_bodies(script, &literals, &ranges)?;
-    let outcome = narrow_blank_reading(&literals, &bodies);
+    let outcome = narrow_blank_reading(&literals, &bodies)
+        .map_err(|refusal| with_reason(&literals, &bodies, refusal));
     let Some(bracket) = first_65th_bracket(&literals, &bodies) else {
         return outcome;
     };
@@ -204,17 +217,31 @@ fn with_blanks(first: &[u8], second: &[u8]) -> Vec<u8> {
     restored.collect::<String>().into_bytes()
 }
 
+/// What the scan of a literal comes to: 20 or 28, if every earlier character is read without
+/// refusal.
+fn scanned(literals: &[Literal], bodies: &[String], index: usize) -> Option<Refusal> {
+    let literal = &literals[index];
+    if !literal.kind.is_any_fstring() {
+        return None;
+    }
+    let stop = Scan::new(&bodies[index], literal.kind.is_raw()).text(0).err()?;
+    let place = literal.place(stop.taken);
+    Some(Refusal { details: [stop.why, 0], ..Refusal::new(stop.number, index, place) })
+}
+
 /// 28 for the first literal that has it, if every earlier character is read without refusal.
 fn first_65th_bracket(literals: &[Literal], bodies: &[String]) -> Option<Refusal> {
-    for (index, (literal, body)) in literals.iter().zip(bodies).enumerate() {
-        if !literal.kind.is_any_fstring() {
-            continue;
-        }
-        if let Err(taken) = Scan::new(body, literal.kind.is_raw()).text(0) {
-            return Some(Refusal::new(28, index, literal.place(taken)));
-        }
+    (0..literals.len())
+        .filter_map(|index| scanned(literals, bodies, index))
+        .find(|refusal| refusal.number == 28)
+}
+
+/// The Rust's refusal; 20 with its reason.
+fn with_reason(literals: &[Literal], bodies: &[String], refusal: Refusal) -> Refusal {
+    match scanned(literals, bodies, refusal.literal as usize) {
+        Some(found) if found == (Refusal { details: found.details, ..refusal }) => found,
+        _ => refusal,
     }
-    None
 }
 
 /// Whether the Rust refuses before the bracket is met. A body that ends right after the
@@ -223,8 +250,15 @@ fn comes_before(refusal: &Refusal, bracket: &Refusal) -> bool {
     refusal.number == 7 || (refusal.literal, refusal.place) < (bracket.literal, bracket.place)
 }
 
-/// Looks for the 65th open bracket in a field of a body that is otherwise in order. Each
-/// step gives the bytes taken up to that bracket as its error.
+/// Where a scan stops: the number, for 20 the reason, and the bytes taken.
+struct Stop {
+    number: u32,
+    why: u32,
+    taken: usize,
+}
+
+/// Looks for the 65th open bracket in a field, or a brace that counts as unclosed, in a body
+/// that is otherwise in order.
 struct Scan<'a> {
     rest: Chars<'a>,
     length: usize,
@@ -240,13 +274,17 @@ impl<'a> Scan<'a> {
         self.rest.clone().next()
     }
 
+    fn stop<T>(&self, number: u32, why: u32) -> Result<T, Stop> {
+        Err(Stop { number, why, taken: self.length - self.rest.as_str().len() })
+    }
+
     fn skip_past(&mut self, last: char) {
         self.rest.find(|&c| c == last);
     }
 
     /// f-string text: to the end, or at depth 1 up to the `}` that ends it. Text at depth 2
     /// is refused, so nothing after it counts.
-    fn text(&mut self, depth: u32) -> Result<(), usize> {
+    fn text(&mut self, depth: u32) -> Result<(), Stop> {
         if depth == 2 {
             return Ok(());
         }
@@ -259,6 +297,7 @@ impl<'a> Scan<'a> {
                 '{' | '}' if depth == 0 && self.peek() == Some(c) => {
                     self.rest.next();
                 }
+                '{' if depth == 0 && self.peek().is_none() => return self.stop(20, LAST_BRACE),
                 '{' => self.field(depth)?,
                 '\\' if !self.raw => self.escape(),
                 _ => {}
@@ -278,28 +317,41 @@ impl<'a> Scan<'a> {
         }
     }
 
-    fn field(&mut self, depth: u32) -> Result<(), usize> {
-        let mut open = 0;
+    fn field(&mut self, depth: u32) -> Result<(), Stop> {
+        let (mut open, mut documented) = (0, false);
         while let Some(c) = self.rest.next() {
             match c {
                 '!' | '=' | '<' | '>' if self.peek() == Some('=') => {
                     self.rest.next();
                 }
                 '\'' | '"' => self.skip_past(c),
+                '!' if open == 0 => self.conversion()?,
+                '=' if open == 0 => documented = true,
                 ':' if open == 0 => self.spec(depth)?,
-                '(' | '[' | '{' if open == MAX_OPEN_BRACKETS => {
-                    return Err(self.length - self.rest.as_str().len());
-                }
+                '(' | '[' | '{' if open == MAX_OPEN_BRACKETS => return self.stop(28, 0),
                 '(' | '[' | '{' => open += 1,
                 '}' if open == 0 => return Ok(()),
                 ')' | ']' | '}' if open > 0 => open -= 1,
+                ' ' => {}
+                _ if documented => return self.stop(20, AFTER_EQUALS),
                 _ => {}
             }
         }
-        Ok(())
+        self.stop(20, IN_FIELD)
     }
 
-    fn spec(&mut self, depth: u32) -> Result<(), usize> {
+    /// What follows a `!`.
+    fn conversion(&mut self) -> Result<(), Stop> {
+        if self.rest.next().is_none() {
+            return self.stop(20, AFTER_BANG);
+        }
+        match self.peek() {
+            Some('}' | ':') => Ok(()),
+            _ => self.stop(20, AFTER_CONVERSION),
+        }
+    }
+
+    fn spec(&mut self, depth: u32) -> Result<(), Stop> {
         while let Some(c) = self.peek() {
             match c {
                 '{' => return self.text(depth + 1),

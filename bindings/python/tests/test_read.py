@@ -126,6 +126,19 @@ class Answers(unittest.TestCase):
         self.assertEqual(str(refusal), "refused in literal 0 at 5: 23 MismatchedDelimiter: ( is closed by ]")
         self.assertEqual(str(pickle.loads(pickle.dumps(refusal))), str(refusal))
 
+    def test_unclosed(self):
+        for body, why in (
+            ("{x!", "the literal ends right after a !"),
+            ("{x!r b}", "neither } nor : follows a conversion"),
+            ("{x=y}", "something not allowed follows a self-documenting ="),
+            ("{x:y", "the literal ends inside a field"),
+            ("{", "a { in no field is the last character"),
+        ):
+            with self.assertRaises(Refusal) as caught:
+                read(body, [Literal(1, False, 0, len(body), 0, len(body) + 3)])
+            self.assertEqual(caught.exception.meaning, f"20 UnclosedLbrace: {why}")
+        self.assertEqual(set(stumpgarret.UNCLOSED), set(expected.REASONS))
+
     def test_every_refusal_has_words(self):
         for number in stumpgarret.REFUSALS:
             self.assertRegex(str(Refusal(number, 0, 3, (40, 41))), f"^refused in literal 0 at 3: {number} [^{{}}]+")

@@ -51,7 +51,7 @@ mod refusal;
 
 pub use answer::{Answer, ConversionFlag, Field, Record, Records, Sort, Spec};
 pub use literal::{Literal, StringKind};
-pub use refusal::{Reason, Refusal};
+pub use refusal::{Reason, Refusal, Unclosed};
 
 use std::borrow::Cow;
 

@@ -27,7 +27,8 @@ pub enum Reason {
     NonAsciiInBytes,
     /// The name in `\N{..}` is none of those held.
     NameNotHeld,
-    UnclosedLbrace,
+    /// A `{` that is not closed as it must be, and why.
+    UnclosedLbrace(Unclosed),
     InvalidConversionFlag,
     EmptyExpression,
     /// An opening bracket, and the one of another sort that would close it.
@@ -71,7 +72,7 @@ impl fmt::Display for Reason {
             Self::UnicodeError => "an escape gives no character",
             Self::NonAsciiInBytes => "a bytes literal has a character that is not ASCII",
             Self::NameNotHeld => "the name in an escape is not known",
-            Self::UnclosedLbrace => "a '{' is not closed as it must be",
+            Self::UnclosedLbrace(why) => return write!(f, "a '{{' is not closed: {}", why),
             Self::InvalidConversionFlag => "a conversion is not 's', 'a' or 'r'",
             Self::EmptyExpression => "a field has no expression",
             Self::MismatchedDelimiter(opener, closer) => {
@@ -89,6 +90,44 @@ impl fmt::Display for Reason {
             Self::UnknownAnswer => "the library linked gives answers that this crate does not know",
         })
     }
+}
+
+/// Why a `{` counts as unclosed.
+#[derive(Clone, Copy, Debug, PartialEq, Eq, Hash)]
+pub enum Unclosed {
+    /// The literal ends right after the `!` of a field.
+    AfterBang,
+    /// The character after a conversion is neither `}` nor `:`, or there is none.
+    AfterConversion,
+    /// Something that is not allowed follows a self-documenting `=`.
+    AfterEquals,
+    /// The literal ends elsewhere inside a field.
+    InField,
+    /// A `{` that stands in no field is the literal's last character.
+    LastBrace,
+}
+
+impl fmt::Display for Unclosed {
+    fn fmt(&self, f: &mut fmt::Formatter<'_>) -> fmt::Result {
+        f.write_str(match self {
+            Self::AfterBang => "the literal ends right after a '!'",
+            Self::AfterConversion => "neither '}' nor ':' follows a conversion",
+            Self::AfterEquals => "something not allowed follows a self-documenting '='",
+            Self::InField => "the literal ends inside a field",
+            Self::LastBrace => "it is the literal's last character",
+        })
+    }
+}
+
+fn unclosed(detail: u32) -> Option<Unclosed> {
+    Some(match detail {
+        1 => Unclosed::AfterBang,
+        2 => Unclosed::AfterConversion,
+        3 => Unclosed::AfterEquals,
+        4 => Unclosed::InField,
+        5 => Unclosed::LastBrace,
+        _ => return None,
+    })
 }
 
 fn room(f: &mut fmt::Formatter<'_>, buffer: &str, records: usize, text: usize) -> fmt::Result {
@@ -155,7 +194,7 @@ fn reason([number, _, _, a, b, ..]: [u32; call::ANSWER]) -> Option<Reason> {
         11 => Reason::UnicodeError,
         12 => Reason::NonAsciiInBytes,
         13 => Reason::NameNotHeld,
-        20 => Reason::UnclosedLbrace,
+        20 => Reason::UnclosedLbrace(unclosed(a)?),
         21 => Reason::InvalidConversionFlag,
         22 => Reason::EmptyExpression,
         23 => Reason::MismatchedDelimiter(char::from_u32(a)?, char::from_u32(b)?),
@@ -204,6 +243,14 @@ mod tests {
     fn details_that_are_no_characters_are_unknown() {
         for number in [23, 26] {
             let refusal = Refusal::new([number, 0, 0, 0xD800, 0, 0, 0, 0, 0, 0, 0, 0]);
+            assert_eq!(refusal.reason(), &Reason::UnknownAnswer);
+        }
+    }
+
+    #[test]
+    fn a_detail_that_is_none_of_the_five_is_unknown() {
+        for detail in [0, 6] {
+            let refusal = Refusal::new([20, 0, 0, detail, 0, 0, 0, 0, 0, 0, 0, 0]);
             assert_eq!(refusal.reason(), &Reason::UnknownAnswer);
         }
     }

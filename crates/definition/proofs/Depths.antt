@@ -6,7 +6,7 @@ use mathlib.Core.Option.{none, some}
 use Prim.Native.Nat.{ℕ, zero, suc, _+_, _≤_}
 use native.Mathlib.Omega.{arith}
 use borrow.Author.Tests.{ne-eqb}
-use Rattle.definition.specs.Numbers.{emptyExpression, unclosedLbrace}
+use Rattle.definition.specs.Numbers.{emptyExpression}
 use Rattle.definition.specs.Chars.{if_then_else_, _is_, atEnd, code, next}
 use Rattle.definition.specs.Escapes.{Read, got, refused}
 use Rattle.definition.specs.Body.{Piece, literal, field, spec, Move, goes, stops, calls, ends, filled, Field, state, fresh, textMove, fieldMove, direct, conversionOf, fieldPieces, selfDocumenting, finished, specified, firstEnd, textN, fieldN, specN}
@@ -56,11 +56,11 @@ finished-deep depth from j (state e b o c d w) ps h = (plain b d, formatted b d)
 
 specified-deep : (s : List ℕ) (depth from j : ℕ) (f : Field) (ps : List Piece) → Deep (suc depth) ps → DeepRead depth (specified s depth from j f ps)
 unfolding specified
-specified-deep s depth from j f ps h = go (atEnd s j)
+specified-deep s depth from j f ps h = go (atEnd s j) refl
   where
-    go : (t : Bool) → DeepRead depth (if t then refused unclosedLbrace j 0 0 else finished depth from (next s j) f (some ps))
-    go true = tt
-    go false = finished-deep depth from (next s j) f ps h .1
+    go : (t : Bool) → atEnd s j ≡ t → DeepRead depth (specified s depth from j f ps)
+    go true e = rw e tt
+    go false e = rw e (finished-deep depth from (next s j) f ps h .1)
 
 record Depths (n : ℕ) : Type 0 where
   text : (kind : ℕ) (s : List ℕ) (depth i : ℕ) (text : List ℕ) (ps : List Piece) → Deep depth ps → DeepRead depth (textN n kind s depth i text ps)

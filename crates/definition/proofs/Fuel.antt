@@ -11,7 +11,7 @@ use Rattle.definition.specs.Chars.{_is_, part, code, next}
 use Rattle.definition.specs.Escapes.{Read, got, refused}
 use Rattle.definition.specs.Body.{Piece, Move, goes, stops, calls, ends, stringMove, stringN, filled, Field, fresh, textMove, fieldMove, finished, plainRun, firstEnd, textN, fieldN, specN, enough, alone, readBody}
 use Rattle.definition.proofs.CharLaws.{next-past, next-in, next-from, before-in}
-use Rattle.definition.proofs.Moves.{Sound, textSize, weight, Ahead, later, part-short, string-ahead, text-ahead, fieldSize, field-ahead, finished-sound, specified-sound, Light, weight-append, filled-light, finished-light, specified-light}
+use Rattle.definition.proofs.Moves.{SoundIn, Sound, textSize, weight, Carries, Ahead, carried, later, bracketsOf, part-short, string-ahead, text-ahead, fieldSize, FieldAhead, field-ahead, finished-sound, specified-sound, Light, weight-append, filled-light, finished-light, specified-light}
 use Rattle.definition.proofs.Steps.{string-goes, string-stops, string-ends, text-goes, text-stops, text-ends, text-got, text-refused, field-goes, field-stops, field-ends, field-got, field-refused, firstPiece, spec-calls, spec-ends}
 
 -- moves enough at i: twice the bytes left, and e more
@@ -26,22 +26,28 @@ first-light : (s : List ℕ) (depth i : ℕ) → weight (firstPiece s depth i) +
 first-light s depth i = omega (arith, filled-light (suc depth) (part s i (firstEnd s i)), part-short s i (firstEnd s i))
 
 -- a sound reading that is light from w on, and the same one again
+abbrev AgreeIn : {A : Type 0} → List ℕ → (A → ℕ) → ℕ → List ℕ → ℕ → Read A → Read A → Type 0
+AgreeIn o size w s i r r′ = SoundIn o s i r × (r ≡ r′) × Light size w i r
+
 abbrev Agree : {A : Type 0} → (A → ℕ) → ℕ → List ℕ → ℕ → Read A → Read A → Type 0
-Agree size w s i r r′ = Sound s i r × (r ≡ r′) × Light size w i r
+Agree size = AgreeIn [] size
 
 lighter : {A : Type 0} (size : A → ℕ) (w w′ i j : ℕ) (r : Read A) → w′ + 4 * i ≤ w + 4 * j → Light size w′ j r → Light size w i r
 lighter size w w′ i j (got v k) h p = omega arith
 lighter size w w′ i j (refused n k a b) h p = tt
 
+later-in : {A : Type 0} (o o′ : List ℕ) (size : A → ℕ) (w w′ : ℕ) (s : List ℕ) (i j : ℕ) (r r′ : Read A) → i ≤ j → w′ + 4 * i ≤ w + 4 * j → Carries o o′ → AgreeIn o′ size w′ s j r r′ → AgreeIn o size w s i r r′
+later-in o o′ size w w′ s i j r r′ h k c p = (later o o′ s i j r h c (p .0), p .1, lighter size w w′ i j r k (p .2))
+
 both-later : {A : Type 0} (size : A → ℕ) (w w′ : ℕ) (s : List ℕ) (i j : ℕ) (r r′ : Read A) → i ≤ j → w′ + 4 * i ≤ w + 4 * j → Agree size w′ s j r r′ → Agree size w s i r r′
-both-later size w w′ s i j r r′ h k p = (later s i j r h (p .0), p .1, lighter size w w′ i j r k (p .2))
+both-later size w w′ s i j r r′ h k p = later-in [] [] size w w′ s i j r r′ h k (λ c x. absurd x) p
 
 -- the three readers with n moves: sound, and the same with m moves
 record Reads (n : ℕ) : Type 0 where
   text : (m kind : ℕ) (s : List ℕ) (depth i : ℕ) (text : List ℕ) (ps : List Piece) → i ≤ length s → Moves s i 1 n → Moves s i 1 m
       → Agree weight (weight ps + textSize text) s i (textN n kind s depth i text ps) (textN m kind s depth i text ps)
   field : (m kind : ℕ) (s : List ℕ) (depth from i : ℕ) (f : Field) → i ≤ length s → Moves s i 1 n → Moves s i 1 m
-      → Agree weight (fieldSize f) s i (fieldN n kind s depth from i f) (fieldN m kind s depth from i f)
+      → AgreeIn (bracketsOf f) weight (fieldSize f) s i (fieldN n kind s depth from i f) (fieldN m kind s depth from i f)
   spec : (m kind : ℕ) (s : List ℕ) (depth i : ℕ) → i ≤ length s → Moves s i 2 n → Moves s i 2 m → Agree weight 0 s i (specN n kind s depth i) (specN m kind s depth i)
 
 module _ (n : ℕ) (R : Reads n) (kind : ℕ) (s : List ℕ) where
@@ -78,7 +84,7 @@ module _ (n : ℕ) (R : Reads n) (kind : ℕ) (s : List ℕ) where
       go ends e h = rw (text-ends n kind s depth i text ps e, text-ends m kind s depth i text ps e) ((omega arith, l), refl, omega (arith, weight-append ps (filled depth text), filled-light depth text))
 
   field-step : (m depth from i : ℕ) (f : Field) → i ≤ length s → Moves s i 1 (suc n) → Moves s i 1 m
-      → Agree weight (fieldSize f) s i (fieldN (suc n) kind s depth from i f) (fieldN m kind s depth from i f)
+      → AgreeIn (bracketsOf f) weight (fieldSize f) s i (fieldN (suc n) kind s depth from i f) (fieldN m kind s depth from i f)
   field-step zero depth from i f l p q = absurd (omega arith)
   field-step (suc m) depth from i f l p q = go (fieldMove s i f) refl (field-ahead s i f l)
     where
@@ -86,25 +92,25 @@ module _ (n : ℕ) (R : Reads n) (kind : ℕ) (s : List ℕ) where
       a = next s i
 
       Goal : Type 0
-      Goal = Agree weight (fieldSize f) s i (fieldN (suc n) kind s depth from i f) (fieldN (suc m) kind s depth from i f)
+      Goal = AgreeIn (bracketsOf f) weight (fieldSize f) s i (fieldN (suc n) kind s depth from i f) (fieldN (suc m) kind s depth from i f)
 
       after : (r : Read (List Piece)) → specN n kind s depth a ≡ r → Sound s a r → Light weight 0 a r → specN n kind s depth a ≡ specN m kind s depth a → i < length s → fieldMove s i f ≡ calls → Goal
       after (got ps j) g sound light same h e =
           let n′ = next-past s i h in
           rw (field-got n kind s depth from i f ps j e g, field-got m kind s depth from i f ps j e (sym same ∙ g))
-          (specified-sound s depth from i j f ps (omega arith) (sound .1), refl, specified-light s depth from i j f ps (omega arith) (omega arith))
+          (specified-sound (bracketsOf f) s depth from i j f ps (omega arith) (sound .1), refl, specified-light s depth from i j f ps (omega arith) (omega arith))
       after (refused x j b c) g sound light same h e =
-          rw (field-refused n kind s depth from i f x j b c e g, field-refused m kind s depth from i f x j b c e (sym same ∙ g)) (sound, refl, tt)
+          rw (field-refused n kind s depth from i f x j b c e g, field-refused m kind s depth from i f x j b c e (sym same ∙ g)) ((carried (bracketsOf f) [] x b c (λ c k. absurd k) (sound .0), sound .1), refl, tt)
 
-      go : (x : Move Field) → fieldMove s i f ≡ x → Ahead fieldSize (fieldSize f) (i < length s) (i < length s) s i x → Goal
+      go : (x : Move Field) → fieldMove s i f ≡ x → FieldAhead s i f x → Goal
       go (goes j f′) e h =
           rw (field-goes n kind s depth from i f j f′ e, field-goes m kind s depth from i f j f′ e)
-          (both-later weight (fieldSize f) (fieldSize f′) s i j (fieldN n kind s depth from j f′) (fieldN m kind s depth from j f′) (omega arith) (omega arith) (R .field m kind s depth from j f′ (h .1) (omega arith) (omega arith)))
+          (later-in (bracketsOf f) (bracketsOf f′) weight (fieldSize f) (fieldSize f′) s i j (fieldN n kind s depth from j f′) (fieldN m kind s depth from j f′) (omega arith) (omega arith) (h .3) (R .field m kind s depth from j f′ (h .1) (omega arith) (omega arith)))
       go (stops x j b c) e h = rw (field-stops n kind s depth from i f x j b c e, field-stops m kind s depth from i f x j b c e) (h, refl, tt)
       go calls e h =
           let g = R .spec m kind s depth a (next-in s i l) (omega (arith, next-past s i h)) (omega (arith, next-past s i h)) in
           after (specN n kind s depth a) refl (g .0) (g .2) (g .1) h e
-      go ends e h = rw (field-ends n kind s depth from i f e, field-ends m kind s depth from i f e) (finished-sound s depth from i a f none (next-from s i) (next-in s i l), refl, lighter weight (fieldSize f) (fieldSize f + 0) i i (finished depth from a f none) (omega arith) (finished-light depth from i a f none (next-past s i h)))
+      go ends e h = rw (field-ends n kind s depth from i f e, field-ends m kind s depth from i f e) (finished-sound (bracketsOf f) s depth from i a f none (next-from s i) (next-in s i l), refl, lighter weight (fieldSize f) (fieldSize f + 0) i i (finished depth from a f none) (omega arith) (finished-light depth from i a f none (next-past s i h)))
 
   spec-step : (m depth i : ℕ) → i ≤ length s → Moves s i 2 (suc n) → Moves s i 2 m → Agree weight 0 s i (specN (suc n) kind s depth i) (specN m kind s depth i)
   spec-step zero depth i l p q = absurd (omega arith)
@@ -169,9 +175,10 @@ pub text-reading : (n kind : ℕ) (s : List ℕ) (depth i : ℕ) (text : List �
     → Reading weight (weight ps + textSize text) s i (textN n kind s depth i text ps)
 text-reading n kind s depth i text ps l p = let r = reads n .text n kind s depth i text ps l p p in (r .0, r .2)
 
-pub field-reading : (n kind : ℕ) (s : List ℕ) (depth from i : ℕ) (f : Field) → i ≤ length s → Moves s i 1 n
-    → Reading weight (fieldSize f) s i (fieldN n kind s depth from i f)
-field-reading n kind s depth from i f l p = let r = reads n .field n kind s depth from i f l p p in (r .0, r .2)
+pub field-reading : (n kind : ℕ) (s : List ℕ) (depth from i : ℕ) → i ≤ length s → Moves s i 1 n
+    → Reading weight (fieldSize fresh) s i (fieldN n kind s depth from i fresh)
+unfolding fresh
+field-reading n kind s depth from i l p = let r = reads n .field n kind s depth from i fresh l p p in (r .0, r .2)
 
 pub string-reading : (n kind : ℕ) (s : List ℕ) (i : ℕ) (text : List ℕ) → i ≤ length s → Moves s i 1 n → Reading textSize (textSize text) s i (stringN n kind s i text)
 string-reading n kind s i text l p = let r = string-reads n n kind s i text l p p in (r .0, r .2)

@@ -8,7 +8,7 @@ use native.Mathlib.Omega.{arith}
 use lib.Dec.{leb}
 use lib.ListN.{replicate}
 use borrow.Author.Tests.{leb-false, eq-eqb, ne-eqb}
-use Rattle.definition.specs.Numbers.{isFString, expressionNestedTooDeeply, emptyExpression, unclosedLbrace}
+use Rattle.definition.specs.Numbers.{isFString, expressionNestedTooDeeply, emptyExpression}
 use Rattle.definition.specs.Chars.{if_then_else_, _is_, part, atEnd, code, next}
 use Rattle.definition.specs.Escapes.{Read, got, refused}
 use Rattle.definition.specs.Body.{Piece, literal, field, spec, Move, goes, stops, calls, ends, deep, textCase, textMove, filled, Field, state, fresh, fieldMove, direct, conversionOf, fieldPieces, selfDocumenting, finished, specified, firstEnd, textN, fieldN, specN, enough, readBody}
@@ -165,11 +165,11 @@ module _ (Inv : Field → Type 0) (P : List ℕ → ℕ → Type 0)
 
   specified-tree : (s : List ℕ) (depth from j : ℕ) (f : Field) (ps : List Piece) → depth ≤ 1 → Closes f → Tree P (suc depth) ps → TreeRead P depth (specified s depth from j f ps)
   unfolding specified
-  specified-tree s depth from j f ps l h k = go (atEnd s j)
+  specified-tree s depth from j f ps l h k = go (atEnd s j) refl
     where
-      go : (t : Bool) → TreeRead P depth (if t then refused unclosedLbrace j 0 0 else finished depth from (next s j) f (some ps))
-      go true = tt
-      go false = finished-tree depth from (next s j) f (some ps) l h k
+      go : (t : Bool) → atEnd s j ≡ t → TreeRead P depth (specified s depth from j f ps)
+      go true e = rw e tt
+      go false e = rw e (finished-tree depth from (next s j) f (some ps) l h k)
 
   record Trees (n : ℕ) : Type 0 where
     text : (kind : ℕ) (s : List ℕ) (depth i : ℕ) (text : List ℕ) (ps : List Piece) → Tree P depth ps → TreeRead P depth (textN n kind s depth i text ps)

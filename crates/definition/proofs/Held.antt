@@ -69,7 +69,7 @@ unfolding numbers
 same-refusal r r′ h = λ i. record { number = h 0 i; literal = h 1 i; place = h 2 i; a = h 3 i; b = h 4 i }
 
 -- no refusal has an acceptance's 0
-differ : {P : Type 0} (x : Answer) (r : Refusal) → Listed (r .number) → word (numbers (accepts x)) 0 ≡ word (numbers (refuses r)) 0 → P
+differ : {P : Type 0} (x : Answer) (r : Refusal) → Listed r → word (numbers (accepts x)) 0 ≡ word (numbers (refuses r)) 0 → P
 unfolding numbers
 differ x r h e = absurd (rw (← e) at h)
 

@@ -5,6 +5,7 @@ pub mod Laid
 pub mod EntrySplit
 pub mod JoinLaw
 pub mod CharLaws
+pub mod Cases
 pub mod Moves
 pub mod Steps
 pub mod Fuel

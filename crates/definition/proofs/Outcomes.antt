@@ -1,6 +1,6 @@
--- What holds of every outcome: its number, and an acceptance's offsets, counts and lengths. Assumes nothing.
+-- What holds of every outcome: a refusal's number and details, and an acceptance's offsets, counts and lengths. Assumes nothing.
 use mathlib.Core.Path.{_≡_, refl}
-use mathlib.Core.Bool.{Bool, true, false, _&&_, not}
+use mathlib.Core.Bool.{Bool, true, false, _&&_, _||_, not}
 use mathlib.Core.List.{List, [], _∷_, map}
 use mathlib.Core.Option.{Option, none, some}
 use Prim.Native.Nat.{ℕ, suc, _+_, _*_, _/_, _≤_}
@@ -8,48 +8,55 @@ use native.Mathlib.Omega.{arith}
 use lib.Dec.{T, ltb, leb}
 use lib.ListN.{length, drop, length-append, length-drop, length-replicate}
 use borrow.Author.Tests.{ltb-false}
-use Rattle.definition.specs.Numbers.{isBytes, refusals, _among_, ofEntry, tooManyLiterals, badDescriptor, bodiesTooLong, notUtf8, mixedBytes}
+use Rattle.definition.specs.Numbers.{isBytes, refusals, _among_, ofEntry, ofBody, tooManyLiterals, badDescriptor, bodiesTooLong, notUtf8, mixedBytes}
 use Rattle.definition.specs.Chars.{if_then_else_}
 use Rattle.definition.specs.Escapes.{Read, got, refused}
 use Rattle.definition.specs.Body.{Piece, readBody}
 use Rattle.definition.specs.Records.{Item, Record, wordsOf, merged, texts, recordAt, laid, cover, Answer, answerOf}
 use Rattle.definition.specs.Entry.{Literal, sixes, placeOf, body, Refusal, refusal, notEmpty, notMany, firstBad, bad, allGood, total, notLong, formed, illFormed, allUtf8, anyOf, firstStart, notMixed, firstOf, entry}
 use Rattle.definition.specs.Reading.{Outcome, accepts, refuses, readLiteral, andThen, readFrom, uMark, lastEnd, answered, read, outcomeOf, roomFor, roomed, allWords, inFront, wordsAfter, textAfter, Call, called, readInto, readNumbers}
-use Rattle.definition.proofs.Moves.{OfBody, Sound}
+use Rattle.definition.proofs.Moves.{detailed, OfBody, Sound}
 use Rattle.definition.proofs.Fuel.{body-reading}
 
 -- THE TABLE'S NUMBERS, in its order
 pub table : refusals ≡ 1 ∷ 2 ∷ 3 ∷ 4 ∷ 5 ∷ 6 ∷ 7 ∷ 10 ∷ 11 ∷ 12 ∷ 13 ∷ 20 ∷ 21 ∷ 22 ∷ 23 ∷ 24 ∷ 25 ∷ 26 ∷ 27 ∷ 28 ∷ 30 ∷ 31 ∷ []
 table = refl
 
--- the number stands in the table
-abbrev pub Listed : ℕ → Type 0
-Listed n = T (n among refusals)
+-- a refusal's number stands in the table, and it has that number's details
+abbrev pub Listed : Refusal → Type 0
+Listed r = T (r .number among refusals && detailed (r .number) (r .a) (r .b))
 
--- the number is one of the entry checks'
-abbrev pub OfEntry : ℕ → Type 0
-OfEntry n = T (ofEntry n)
+-- the number is one of the entry checks', with its details
+abbrev pub OfEntry : Refusal → Type 0
+OfEntry r = T (ofEntry (r .number) && detailed (r .number) (r .a) (r .b))
 
-both : (a b : Bool) → T (a && b) → T a × T b
-both true b h = (tt, h)
-both false b h = absurd h
+among-them : (x y z : Bool) → T ((x && y) && z) → T (y && z)
+among-them true y z h = h
+among-them false y z h = absurd h
 
-body-listed : (n : ℕ) → OfBody n → Listed n
-body-listed n h = both (leb 10 n && leb n 28) (n among refusals) h .1
+body-listed : (r : Refusal) → OfBody [] (r .number) (r .a) (r .b) → Listed r
+body-listed r h = among-them (leb 10 (r .number) && leb (r .number) 28) (r .number among refusals) d (none-before (ofBody (r .number)) d h)
+  where
+    d : Bool
+    d = detailed (r .number) (r .a) (r .b)
 
-entry-listed : (n : ℕ) → OfEntry n → Listed n
-entry-listed n h = both (leb n 7) (n among refusals) h .1
+    none-before : (x y : Bool) → T (x && (y || false)) → T (x && y)
+    none-before x true h = h
+    none-before x false h = h
+
+entry-listed : (r : Refusal) → OfEntry r → Listed r
+entry-listed r h = among-them (leb (r .number) 7) (r .number among refusals) (detailed (r .number) (r .a) (r .b)) h
 
 -- a check's refusal, if there is one
 abbrev Refusing : Option Refusal → Type 0
 Refusing none = Unit {0}
-Refusing (some r) = OfEntry (r .number)
+Refusing (some r) = OfEntry r
 
-by-test : (t : Bool) (r : Refusal) → OfEntry (r .number) → Refusing (if t then some r else none)
+by-test : (t : Bool) (r : Refusal) → OfEntry r → Refusing (if t then some r else none)
 by-test true r h = h
 by-test false r h = tt
 
-by-literal : (test : ℕ → Literal → Bool) (why : ℕ → Literal → Refusal) → ((i : ℕ) (l : Literal) → OfEntry (why i l .number))
+by-literal : (test : ℕ → Literal → Bool) (why : ℕ → Literal → Refusal) → ((i : ℕ) (l : Literal) → OfEntry (why i l))
     → (previous i : ℕ) (ls : List Literal) → Refusing (firstBad test why previous i ls)
 unfolding firstBad
 by-literal test why h previous i [] = tt
@@ -97,7 +104,7 @@ entry-numbered script ls =
 -- a body's refusal
 abbrev FromBody : {A : Type 0} → Outcome A → Type 0
 FromBody (accepts x) = Unit {0}
-FromBody (refuses r) = OfBody (r .number)
+FromBody (refuses r) = OfBody [] (r .number) (r .a) (r .b)
 
 literal-body : (script : List ℕ) (i : ℕ) (l : Literal) → FromBody (readLiteral script i l)
 unfolding readLiteral refusal
@@ -120,7 +127,7 @@ from-body script i (l ∷ ls) = then-body (readLiteral script i l) (readFrom scr
 
 -- WITH ROOM FOR ANYTHING: what the entry checks refuse is refused so, by 1 to 7; all else is accepted, or refused by 10 to 28
 abbrev pub Numbered : Option Refusal → Outcome Answer → Type 0
-Numbered (some r) o = OfEntry (r .number) × (o ≡ refuses r)
+Numbered (some r) o = OfEntry r × (o ≡ refuses r)
 Numbered none o = FromBody o
 
 answered-body : (ls : List Literal) (o : Outcome (List Item)) → FromBody o → FromBody (answered ls o)
@@ -145,10 +152,10 @@ abbrev pub sizes : List Record → ℕ
 sizes [] = 0
 sizes (r ∷ rs) = r .size + sizes rs
 
--- EVERY OUTCOME IS A CONSISTENT ACCEPTANCE OR A REFUSAL WHOSE NUMBER STANDS IN 01'S TABLE
+-- EVERY OUTCOME IS A CONSISTENT ACCEPTANCE OR A REFUSAL WHOSE NUMBER STANDS IN 01'S TABLE, with that number's details
 abbrev pub Sane : Outcome Answer → Type 0
 Sane (accepts x) = Gapless 0 (x .records) (length (x .text)) × (sizes (x .records) ≡ length (x .text))
-Sane (refuses r) = Listed (r .number)
+Sane (refuses r) = Listed r
 
 laid-gapless : (n : ℕ) (xs : List Item) (m : ℕ) → n + length (texts xs) ≡ m → Gapless n (laid n xs) m
 unfolding laid recordAt texts
@@ -166,7 +173,7 @@ gapless-sum n (r ∷ rs) m h = omega (arith, gapless-sum (n + r .size) rs m (h .
 
 answered-sane : (ls : List Literal) (o : Outcome (List Item)) → FromBody o → Sane (answered ls o)
 unfolding answered answerOf
-answered-sane ls (refuses r) h = body-listed (r .number) h
+answered-sane ls (refuses r) h = body-listed r h
 answered-sane ls (accepts xs) h = (gapless, omega (arith, gapless-sum 0 records (length (texts (merged xs))) gapless))
   where
     records : List Record
@@ -184,7 +191,7 @@ read-sane script ls = go (entry script ls) refl (entry-numbered script ls)
   where
     go : (c : Option Refusal) → entry script ls ≡ c → Refusing c → Sane (read script ls)
     go none e h = rw (e, read) (answered-sane ls (readFrom script 0 ls) (from-body script 0 ls))
-    go (some r) e h = rw (e, read) (entry-listed (r .number) h)
+    go (some r) e h = rw (e, read) (entry-listed r h)
 
 roomed-sane : (w t : ℕ) (o : Outcome Answer) → Sane o → Sane (roomed w t o)
 unfolding outcomeOf roomFor roomed refusal

@@ -1,8 +1,8 @@
 -- What 30 and 31 tell: their details are what an acceptance needs, and with so much room there is one. Assumes nothing.
 use Prim.Native.Nat.{ℕ, _/_, _≤_}
 use mathlib.Core.Path.{_≡_, refl, _∙_, ap}
-use mathlib.Core.Bool.{Bool, true, false, _&&_}
-use mathlib.Core.List.{List}
+use mathlib.Core.Bool.{Bool, true, false, _&&_, _||_}
+use mathlib.Core.List.{List, []}
 use mathlib.Core.Option.{Option, none, some}
 use native.Mathlib.Omega.{arith}
 use lib.Dec.{T, ltb, leb}
@@ -12,7 +12,7 @@ use Rattle.definition.specs.Numbers.{refusals, _among_, notSixes, tooFew
 use Rattle.definition.specs.Records.{Answer}
 use Rattle.definition.specs.Entry.{Literal, Refusal, refusal, sixes, entry}
 use Rattle.definition.specs.Reading.{Outcome, accepts, refuses, read, outcomeOf, roomFor, roomed, Call, called, readInto, readNumbers}
-use Rattle.definition.proofs.Moves.{OfBody}
+use Rattle.definition.proofs.Moves.{detailed, OfBody}
 use Rattle.definition.proofs.Outcomes.{Numbered, read-numbered}
 
 -- with any room, of what is accepted as x with some: an acceptance is x, a refusal's details are how many records and text bytes x has
@@ -77,27 +77,27 @@ abbrev Below : Outcome Answer → Type 0
 Below (accepts x) = Unit {0}
 Below (refuses r) = r .number ≤ 28
 
-under : (n m : ℕ) → m ≤ 28 → (b : Bool) → T (leb n m && b) → n ≤ 28
-under n m h b t = go (leb n m) refl t
+under : (n m : ℕ) → m ≤ 28 → (b c : Bool) → T ((leb n m && b) && c) → n ≤ 28
+under n m h b c t = go (leb n m) refl t
   where
-    go : (a : Bool) → leb n m ≡ a → T (a && b) → n ≤ 28
+    go : (a : Bool) → leb n m ≡ a → T ((a && b) && c) → n ≤ 28
     go true e t = omega (arith, leb-true n m e)
     go false e t = absurd t
 
-body-below : (n : ℕ) → OfBody n → n ≤ 28
-body-below n h = go (leb 10 n) h
+body-below : (n a b : ℕ) → OfBody [] n a b → n ≤ 28
+body-below n a b h = go (leb 10 n) (detailed n a b || false) h
   where
-    go : (a : Bool) → T (a && leb n 28 && n among refusals) → n ≤ 28
-    go true h = under n 28 (omega arith) (n among refusals) h
-    go false h = absurd h
+    go : (x y : Bool) → T ((x && leb n 28 && n among refusals) && y) → n ≤ 28
+    go true y h = under n 28 (omega arith) (n among refusals) y h
+    go false y h = absurd h
 
 read-below : (script : List ℕ) (ls : List Literal) → Below (read script ls)
 read-below script ls = go (entry script ls) (read script ls) (read-numbered script ls)
   where
     go : (c : Option Refusal) (o : Outcome Answer) → Numbered c o → Below o
-    go (some r) o h = rw (h .1) (under (r .number) 7 (omega arith) (r .number among refusals) (h .0))
+    go (some r) o h = rw (h .1) (under (r .number) 7 (omega arith) (r .number among refusals) (detailed (r .number) (r .a) (r .b)) (h .0))
     go none (accepts x) h = tt
-    go none (refuses r) h = body-below (r .number) h
+    go none (refuses r) h = body-below (r .number) (r .a) (r .b) h
 
 -- an acceptance of the counts that a refusal tells
 abbrev pub Told : Refusal → Outcome Answer → Type 0

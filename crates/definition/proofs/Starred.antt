@@ -1,4 +1,4 @@
--- 01's starred readings: one table and one claim over it, computed. Assumes nothing.
+-- 01's starred readings, and 02's five reasons of 20: a table and a claim over it each, computed. Assumes nothing.
 use Prim.Native.Nat.{ℕ, _+_}
 use Prim.Native.String.{String}
 use mathlib.Core.Path.{_≡_, refl}
@@ -43,7 +43,7 @@ pub starred : List Row
 unfolding ascii
 starred =
     (one 1 "{x!=y}" gives accepted joined 9 (rec inner 2 0 4 0 9 0 0 3 ∷ []) (ascii "x!=y"))
-    ∷ (one 1 "{x!r b}" gives refusedAs 20 6 0 0)
+    ∷ (one 1 "{x!r b}" gives refusedAs 20 6 2 0)
     ∷ (one 1 "{x:{y:{z}}}" gives refusedAs 24 8 0 0)
     ∷ (one 1 "{x = }" gives accepted joined 9 (rec top 1 0 4 0 9 0 0 0 ∷ rec inner 2 4 2 0 9 114 0 3 ∷ []) (ascii "x = x "))
     ∷ (one 1 "{x=()}" gives accepted joined 9 (rec top 1 0 4 0 9 0 0 0 ∷ rec inner 2 4 3 0 9 114 0 3 ∷ []) (ascii "x()=x()"))
@@ -64,6 +64,31 @@ starred =
     ∷ (one 0 "\\777" gives accepted plain 6 (rec top 1 0 2 0 6 0 0 0 ∷ []) (0xC7 ∷ 0xBF ∷ []))
     ∷ []
 
-pub starred-read : map (λ r. r .reading) starred ≡ map (λ r. r .is) starred
-unfolding starred prefix ascii table37 following follow width decoded code next char formedFrom wellFormed utf8 before same octalDigit octalFrom hexDigit scalar hexFrom lookup named unicodeName escapeCase escape encode meant withEscape stringCase stringMove stringN textCase textMove filled fresh add documented spaced outside fieldCase caseOf conversionMove openMove closeMove quoteMove fieldMove direct conversionOf fieldPieces selfDocumenting finished specified plainRun textN alone readBody touching covers item itemOf glue merge bothItems merged texts recordAt laid cover answerOf opening placeOf body refusal notEmpty notMany firstBad bad allGood total notLong formed illFormed allUtf8 anyOf firstStart notMixed firstOf entry readLiteral andThen readFrom sortOf uMark lastEnd answered read
-starred-read = refl
+-- what 20's first detail says: the body ends right after `!`; the character after a conversion is neither `}` nor `:`, or there is none;
+-- something not allowed follows a self-documenting `=`; the body ends elsewhere inside a field: in its expression, after a `=` and its
+-- spaces, in its spec, in a spec's field; a `{` at depth 0 is the last character
+pub unclosed : List Row
+unclosed =
+    (one 1 "{x!" gives refusedAs 20 5 1 0)
+    ∷ (one 1 "{x!r b}" gives refusedAs 20 6 2 0)
+    ∷ (one 1 "{x!r" gives refusedAs 20 6 2 0)
+    ∷ (one 1 "{x=y}" gives refusedAs 20 6 3 0)
+    ∷ (one 1 "{x" gives refusedAs 20 4 4 0)
+    ∷ (one 1 "{x= " gives refusedAs 20 6 4 0)
+    ∷ (one 1 "{x:y" gives refusedAs 20 6 4 0)
+    ∷ (one 1 "{x:{" gives refusedAs 20 6 4 0)
+    ∷ (one 1 "{" gives refusedAs 20 3 5 0)
+    ∷ []
+
+abbrev pub Given : List Row → Type 0
+Given rows = map (λ r. r .reading) rows ≡ map (λ r. r .is) rows
+
+computed : Given starred × Given unclosed
+unfolding starred unclosed prefix ascii table37 following follow width decoded code next char formedFrom wellFormed utf8 before same octalDigit octalFrom hexDigit scalar hexFrom lookup named unicodeName escapeCase escape encode meant withEscape stringCase stringMove stringN textCase textMove filled fresh add documented spaced outside fieldCase caseOf conversionMove openMove closeMove quoteMove fieldMove direct conversionOf fieldPieces selfDocumenting finished specified plainRun textN alone readBody touching covers item itemOf glue merge bothItems merged texts recordAt laid cover answerOf opening placeOf body refusal notEmpty notMany firstBad bad allGood total notLong formed illFormed allUtf8 anyOf firstStart notMixed firstOf entry readLiteral andThen readFrom sortOf uMark lastEnd answered read
+computed = (refl, refl)
+
+pub starred-read : Given starred
+starred-read = computed .0
+
+pub unclosed-read : Given unclosed
+unclosed-read = computed .1

@@ -5,7 +5,7 @@ use mathlib.Core.List.{List, [], _∷_, _++_}
 use mathlib.Core.Option.{Option, none, some}
 use lib.Dec.{ltb, leb, eqb}
 use lib.ListN.{length, drop, replicate}
-use Rattle.definition.specs.Numbers.{isFString, isBytes, isRaw, nonAsciiInBytes, unclosedLbrace, invalidConversionFlag, emptyExpression, mismatchedDelimiter, expressionNestedTooDeeply, singleRbrace, unmatched, unterminatedString, tooManyBrackets}
+use Rattle.definition.specs.Numbers.{isFString, isBytes, isRaw, nonAsciiInBytes, unclosedLbrace, invalidConversionFlag, emptyExpression, mismatchedDelimiter, expressionNestedTooDeeply, singleRbrace, unmatched, unterminatedString, tooManyBrackets, afterBang, afterConversion, afterEquals, inField, lastBrace}
 use Rattle.definition.specs.Chars.{if_then_else_, _is_, part, atEnd, _to_, inside, code, next, char, before}
 use Rattle.definition.specs.Escapes.{Read, got, refused, Meaning, escape, meant}
 
@@ -83,7 +83,7 @@ textMove kind s depth i text =
       | deep ↦ stops expressionNestedTooDeeply i 0 0
       | over ↦ ends
       | opens ↦ calls
-      | last ↦ stops unclosedLbrace (next s i) 0 0
+      | last ↦ stops unclosedLbrace (next s i) lastBrace 0
       | doubled ↦ goes (next s (next s i)) (text ++ char s i)
       | lone ↦ stops singleRbrace (next s i) 0 0
       | escapes ↦ withEscape kind s i text (escape kind s (next s i))
@@ -150,9 +150,9 @@ conversionMove s i (state e b o c d w) =
     let flag = next s i in
     let after = next s flag in
     if b then stops emptyExpression flag 0 0 else
-    if atEnd s flag then stops unclosedLbrace flag 0 0 else
+    if atEnd s flag then stops unclosedLbrace flag afterBang 0 else
     if not (code s flag is "sar") then stops invalidConversionFlag after 0 0 else
-    if code s after is "}:" then goes after (state e b o (code s flag) d w) else stops unclosedLbrace after 0 0
+    if code s after is "}:" then goes after (state e b o (code s flag) d w) else stops unclosedLbrace after afterConversion 0
 
 -- the opening bracket at i: 64 may be open at once
 unfoldable pub openMove : List ℕ → ℕ → Field → Move Field
@@ -178,7 +178,7 @@ unfoldable pub fieldMove : List ℕ → ℕ → Field → Move Field
 fieldMove s i f =
     let after = next s i in
     elim (caseOf s i f) [
-      | over ↦ stops unclosedLbrace i 0 0
+      | over ↦ stops unclosedLbrace i inField 0
       | pair ↦ goes (next s after) (add (part s i (next s after)) false f)
       | converts ↦ conversionMove s i f
       | documents ↦ goes after (documented f)
@@ -189,7 +189,7 @@ fieldMove s i f =
       | quote ↦ quoteMove s i f
       | space ↦ goes after (spaced f)
       | backslash ↦ stops unterminatedString after 0 0
-      | stray ↦ stops unclosedLbrace after 0 0
+      | stray ↦ stops unclosedLbrace after afterEquals 0
       | plain ↦ goes after (add (char s i) (isBlank (code s i)) f)
     ]
 
@@ -223,7 +223,7 @@ finished depth i j (state e b o c d w) p =
 
 -- a field whose spec has ended at j, at its `}` or at the body's end
 unfoldable pub specified : List ℕ → ℕ → ℕ → ℕ → Field → List Piece → Read (List Piece)
-specified s depth i j f ps = if atEnd s j then refused unclosedLbrace j 0 0 else finished depth i (next s j) f (some ps)
+specified s depth i j f ps = if atEnd s j then refused unclosedLbrace j inField 0 else finished depth i (next s j) f (some ps)
 
 -- a spec's first piece: the bytes before the first brace; where it ends, if it begins at i
 unfoldable pub plainRun : List ℕ → ℕ

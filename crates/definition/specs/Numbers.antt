@@ -116,6 +116,26 @@ refusals =
     ∷ tooLittleTextRoom
     ∷ []
 
+-- Why a brace counts as unclosed, 20's first detail: the body ends right after `!`
+abbrev pub afterBang : ℕ
+afterBang = 1
+
+-- the character after a conversion is neither `}` nor `:`, or there is none
+abbrev pub afterConversion : ℕ
+afterConversion = 2
+
+-- something not allowed follows a self-documenting `=`
+abbrev pub afterEquals : ℕ
+afterEquals = 3
+
+-- the body ends elsewhere inside a field
+abbrev pub inField : ℕ
+inField = 4
+
+-- a `{` at depth 0 is the last character
+abbrev pub lastBrace : ℕ
+lastBrace = 5
+
 -- a number is one of a list
 infix 50 _among_
 abbrev pub _among_ : ℕ → List ℕ → Bool

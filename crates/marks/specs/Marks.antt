@@ -1,12 +1,14 @@
--- What the answers about characters and fields are, by the definition's sets.
+-- What the answers about characters and fields are, by the definition's sets and numbers.
 use Prim.Native.Nat.{ℕ}
 use mathlib.Core.Bool.{Bool, _&&_, _||_}
 use mathlib.Core.List.{[]}
 use mathlib.Core.Option.{none, some}
 use lib.Dec.{eqb, leb}
-use Rattle.definition.specs.Numbers.{isBytes}
+use Rattle.definition.specs.Numbers.{isBytes, afterBang, afterConversion, afterEquals, inField, lastBrace}
 use Rattle.definition.specs.Chars.{if_then_else_, _is_}
 use Rattle.definition.specs.Body.{conversionOf}
+use Rattle.marks.specs.declared.Unclosed.{Unclosed}
+use Rattle.marks.specs.declared.Unclosed.the-variants.{AfterBang, AfterConversion, AfterEquals, InField, LastBrace}
 
 -- a byte that may be no plain text: a brace, a backslash, or in bytes one above ASCII
 abbrev pub special : ℕ → ℕ → Bool
@@ -15,3 +17,11 @@ special kind b = b is "{}\\" || (isBytes kind && leb 0x80 b)
 -- a field's conversion, by the number of its parts: 1 with a spec, else 0
 abbrev pub converted : Bool → ℕ → ℕ → ℕ
 converted documented c parts = conversionOf documented c (if eqb parts 0 then none else some [])
+
+-- the definition's number of a reason
+abbrev pub reasonOf : Unclosed → ℕ
+reasonOf AfterBang = afterBang
+reasonOf AfterConversion = afterConversion
+reasonOf AfterEquals = afterEquals
+reasonOf InField = inField
+reasonOf LastBrace = lastBrace

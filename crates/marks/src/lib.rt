@@ -1,4 +1,4 @@
-// What characters and bytes are in a text, a field or a spec. Nothing is written here.
+// What characters and bytes are in a text, a field or a spec, and why a brace counts as unclosed. Nothing is written here.
 use escapes::is_any_bytes;
 ghost use mathlib.Core.Path.{_≡_};
 ghost use mathlib.Core.Bool.{_&&_, not};
@@ -6,7 +6,16 @@ ghost use lib.Dec.{leb};
 ghost use Rattle.definition.specs.Numbers.{isBytes, isRaw};
 ghost use Rattle.definition.specs.Chars.{_is_};
 ghost use Rattle.definition.specs.Body.{isBlank, matching, firstEnd};
-ghost use Rattle.marks.specs.Marks.{special, converted};
+ghost use Rattle.marks.specs.Marks.{special, converted, reasonOf};
+
+// Why a brace counts as unclosed: the body ends right after `!`; the character after a conversion is neither `}` nor `:`, or there is none; something not allowed follows a self-documenting `=`; the body ends elsewhere inside a field; a `{` at depth 0 is the last character.
+pub enum Unclosed {
+    AfterBang,
+    AfterConversion,
+    AfterEquals,
+    InField,
+    LastBrace,
+}
 
 // Whether a kind is raw.
 fn is_raw(kind: u32) -> bool
@@ -134,4 +143,17 @@ pub fn conversion_of(documented: bool, conversion: u32, parts: u32) -> u32
         }
     }
     conversion
+}
+
+// The number of a reason.
+pub fn reason(why: Unclosed) -> u32
+    ensures { λ r. ⌜ r ≡ reasonOf why ⌝ }
+{
+    match why {
+        Unclosed::AfterBang => 1,
+        Unclosed::AfterConversion => 2,
+        Unclosed::AfterEquals => 3,
+        Unclosed::InField => 4,
+        Unclosed::LastBrace => 5,
+    }
 }

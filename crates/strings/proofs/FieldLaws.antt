@@ -11,10 +11,11 @@ use borrow.Author.Tests.{ltb-true, ltb-false, lt-ltb, le-ltb, le-leb, lt-leb, eq
 use lib.Dec.{ltb, eqb}
 use lib.ListN.{length, getD, set, drop, drop-of-length-le, length-take, length-drop}
 use lib.Seq.{take-add, drop-drop, drop-cons, getD-set-same, getD-set-other}
-use Rattle.definition.specs.Numbers.{unclosedLbrace, invalidConversionFlag, emptyExpression, unmatched, mismatchedDelimiter, unterminatedString, tooManyBrackets}
-use Rattle.definition.specs.Chars.{if_then_else_, _is_, byte, part, atEnd, code, next, char, before}
+use Rattle.definition.specs.Numbers.{unclosedLbrace, invalidConversionFlag, emptyExpression, unmatched, mismatchedDelimiter, unterminatedString, tooManyBrackets, afterBang, afterConversion, afterEquals, inField}
+use Rattle.definition.specs.Chars.{if_then_else_, _is_, byte, part, code, next, char, before}
 use Rattle.definition.specs.Body.{Move, goes, stops, calls, ends, Field, isBlank, add, documented, spaced, FieldCase, pair, converts, documents, formats, opener, closes, closer, quote, space, backslash, stray, plain, outside, fieldCase, caseOf, conversionMove, openMove, matching, closeMove, quoteMove, fieldMove}
 use Rattle.definition.proofs.CharLaws.{cases, no, byte-in, code-is, next-ascii, next-past, next-in}
+use Rattle.definition.proofs.Cases.{Tells, told}
 use Rattle.utf8.specs.declared.Cursor.{Cursor}
 use Rattle.utf8.proofs.Steps.{Stepped}
 use Rattle.buffers.specs.Over.{over}
@@ -32,10 +33,6 @@ and-false false = refl
 pub and-true : (b : Bool) → (b && true) ≡ b
 and-true true = refl
 and-true false = refl
-
-and-right : (a b : Bool) → (a && b) ≡ true → b ≡ true
-and-right true b e = e
-and-right false b e = cc
 
 -- the cursor after a character is past it, and in the body
 pub ahead : {s : List ℕ} {i c : ℕ} {k : Cursor} → Stepped s i c k → (i < k .at) × (k .at ≤ length s)
@@ -179,7 +176,7 @@ module _ {s : List ℕ} {f : State} {c : ℕ} {k : Cursor} (p : Fits s f c k) (p
   unfolding conversionMove
   convert-blank b = rw (b, p .here .next-is)
 
-  pub convert-end : f .blank ≡ false → length s ≤ k .at → conversionMove s (f .at) (stateOf e f places) ≡ stops unclosedLbrace (k .at) 0 0
+  pub convert-end : f .blank ≡ false → length s ≤ k .at → conversionMove s (f .at) (stateOf e f places) ≡ stops unclosedLbrace (k .at) afterBang 0
   unfolding conversionMove
   convert-end b l = rw (b, p .here .next-is, le-leb _ _ l)
 
@@ -192,12 +189,12 @@ module _ {s : List ℕ} {f : State} {c : ℕ} {k : Cursor} (p : Fits s f c k) (p
     unfolding conversionMove
     convert-goes t u = rw (b, p .here .next-is, lt-leb _ _ (g .there), g .code-is, g .next-is, t, u)
 
-    pub convert-open : (x is "sar") ≡ true → (code s (k′ .at) is "}:") ≡ false → conversionMove s (f .at) (stateOf e f places) ≡ stops unclosedLbrace (k′ .at) 0 0
+    pub convert-open : (x is "sar") ≡ true → (code s (k′ .at) is "}:") ≡ false → conversionMove s (f .at) (stateOf e f places) ≡ stops unclosedLbrace (k′ .at) afterConversion 0
     unfolding conversionMove
     convert-open t u = rw (b, p .here .next-is, lt-leb _ _ (g .there), g .code-is, g .next-is, t, u)
 
 -- BY THE CASE of the character
-pub move-end : {s : List ℕ} {f : State} → Room s f → length s ≤ f .at → (places e : List ℕ) → fieldMove s (f .at) (stateOf e f places) ≡ stops unclosedLbrace (f .at) 0 0
+pub move-end : {s : List ℕ} {f : State} → Room s f → length s ≤ f .at → (places e : List ℕ) → fieldMove s (f .at) (stateOf e f places) ≡ stops unclosedLbrace (f .at) inField 0
 unfolding fieldMove caseOf fieldCase
 move-end r h places e = rw (le-leb _ _ h, fieldMove)
 
@@ -208,69 +205,28 @@ opener-ascii c t =
     let h = ltb-false c 0x80 e in
     no (rw (ne-eqb c 40 (omega arith), ne-eqb c 91 (omega arith), ne-eqb c 123 (omega arith)) at t))
 
--- what a case tells
-module _ (s : List ℕ) (i : ℕ) (out : Bool) where
-  abbrev Tells : FieldCase → Type 0
-  Tells FieldCase.over = Unit {0}
-  Tells pair = code s (next s i) ≡ 61
-  Tells converts = Unit {0}
-  Tells documents = Unit {0}
-  Tells formats = out ≡ true
-  Tells opener = code s i < 0x80
-  Tells closes = out ≡ true
-  Tells closer = Unit {0}
-  Tells quote = Unit {0}
-  Tells space = Unit {0}
-  Tells backslash = Unit {0}
-  Tells stray = Unit {0}
-  Tells FieldCase.plain = Unit {0}
-
-  record Told (x : FieldCase) : Type 0 where
-    it : Tells x
-
-  chosen : (t : Bool) {x y : FieldCase} → (t ≡ true → Told x) → Told y → Told (if t then x else y)
-  chosen true p q = p refl
-  chosen false p q = q
-
-  tells : (doc : Bool) → Told (fieldCase s i out doc)
-  unfolding fieldCase
-  tells doc =
-      let c = code s i in
-      chosen (atEnd s i) (λ t. record { it = tt })
-      (chosen (c is "!=><" && code s (next s i) is "=") (λ t. record { it = eqb-true _ _ (and-right (c is "!=><") _ t) })
-      (chosen (c is "!" && out) (λ t. record { it = tt })
-      (chosen (c is "=" && out) (λ t. record { it = tt })
-      (chosen (c is ":" && out) (λ t. record { it = and-right (c is ":") _ t })
-      (chosen (c is "([{") (λ t. record { it = opener-ascii c t })
-      (chosen (c is "}" && out) (λ t. record { it = and-right (c is "}") _ t })
-      (chosen (c is ")]}") (λ t. record { it = tt })
-      (chosen (c is "\"'") (λ t. record { it = tt })
-      (chosen (c is " " && doc) (λ t. record { it = tt })
-      (chosen (c is "\\") (λ t. record { it = tt })
-      (chosen doc (λ t. record { it = tt }) (record { it = tt }))))))))))))
-
 module _ {s : List ℕ} {f : State} {c : ℕ} {k : Cursor} (p : Fits s f c k) where
   abbrev Is : FieldCase → Type 0
   Is x = x ≡ fieldCase s (f .at) (eqb (f .depth) 0) (f .documented)
 
-  told : {x : FieldCase} → Is x → Tells s (f .at) (eqb (f .depth) 0) x
-  told t = subst (λ (x : FieldCase). Tells s (f .at) (eqb (f .depth) 0) x) (sym t) (tells s (f .at) (eqb (f .depth) 0) (f .documented) .it)
+  tells : {x : FieldCase} → Is x → Tells s (f .at) (eqb (f .depth) 0) x
+  tells {x} t = told s (f .at) (eqb (f .depth) 0) (f .documented) x (sym t)
 
   -- a `=` follows
   pub pair-in : Is pair → (k .at + 1 ≤ length s) × (next s (k .at) ≡ k .at + 1)
   pair-in t =
-      let c : code s (k .at) ≡ 61 = rw (p .here .next-is) at (told t) in
+      let c : code s (k .at) ≡ 61 = rw (p .here .next-is) at (tells t) in
       let b : byte s (k .at) ≡ 61 = eqb-true _ _ (sym (code-is s (k .at) 61 (omega arith)) ∙ eq-eqb _ _ c) in
       (omega (arith, byte-in s (k .at) (omega arith)), next-ascii s (k .at) (omega arith))
 
   pub opener-in : Is opener → c < 0x80
-  opener-in t = rw (p .here .code-is) at (told t)
+  opener-in t = opener-ascii c (rw (p .here .code-is) at (tells t))
 
   pub formats-out : Is formats → f .depth ≡ 0
-  formats-out t = eqb-true _ _ (told t)
+  formats-out t = eqb-true _ _ (tells t)
 
   pub closes-out : Is closes → f .depth ≡ 0
-  closes-out t = eqb-true _ _ (told t)
+  closes-out t = eqb-true _ _ (tells t)
 
   module _ (places e : List ℕ) where
     case-is : {x : FieldCase} → Is x → caseOf s (f .at) (stateOf e f places) ≡ x
@@ -297,7 +253,7 @@ module _ {s : List ℕ} {f : State} {c : ℕ} {k : Cursor} (p : Fits s f c k) wh
     unfolding fieldMove
     backslash-stops t = rw (case-is t, fieldMove, p .here .next-is)
 
-    pub stray-stops : Is stray → fieldMove s (f .at) (stateOf e f places) ≡ stops unclosedLbrace (k .at) 0 0
+    pub stray-stops : Is stray → fieldMove s (f .at) (stateOf e f places) ≡ stops unclosedLbrace (k .at) afterEquals 0
     unfolding fieldMove
     stray-stops t = rw (case-is t, fieldMove, p .here .next-is)
 

@@ -14,7 +14,7 @@ use Rattle.definition.specs.Escapes.{refused}
 use mathlib.Core.Option.{none}
 use Rattle.definition.specs.Body.{Move, goes, stops, calls, ends, Field, state, fresh, isBlank, plain, fieldCase, fieldMove, finished, fieldN, enough}
 use Rattle.definition.proofs.CharLaws.{cases, inside-true, inside-not, code-ascii, next-ascii}
-use Rattle.definition.proofs.Moves.{Ahead, fieldSize, field-ahead}
+use Rattle.definition.proofs.Moves.{fieldSize, FieldAhead, field-ahead}
 use Rattle.definition.proofs.Whole.{field-on, field-stop, field-end}
 use Rattle.buffers.specs.Over.{over}
 use Rattle.buffers.proofs.Over.{over-nil, over-append}
@@ -85,14 +85,14 @@ module _ {s : List ℕ} {from used : ℕ} {lent : List ℕ} {f : State} {places 
         deep = h .deep;
       }
 
-  moved : (move : Move Field) → fieldMove s (f .at) now ≡ move → Ahead fieldSize (fieldSize now) (f .at < length s) (f .at < length s) s (f .at) move
+  moved : (move : Move Field) → fieldMove s (f .at) now ≡ move → FieldAhead s (f .at) now move
   moved move e = rw e at (field-ahead s (f .at) now (h .within))
 
   module _ {g : State} {places′ text′ : List ℕ} (w : Went fieldMove s f g places places′ text text′) where
     after : Field
     after = stateOf ((h .written ++ w .added) ++ pending s g) g places′
 
-    further : Ahead fieldSize (fieldSize now) (f .at < length s) (f .at < length s) s (f .at) (goes (g .at) after)
+    further : FieldAhead s (f .at) now (goes (g .at) after)
     unfolding after
     further = moved _ (w .moves (h .written))
 

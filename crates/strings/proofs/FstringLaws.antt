@@ -8,7 +8,7 @@ use native.Mathlib.Omega.{arith}
 use borrow.Author.Tests.{le-leb}
 use lib.ListN.{length, drop, length-append, length-replicate, length-take, length-drop}
 use Rattle.definition.specs.Chars.{_is_, part, atEnd, code, next}
-use Rattle.definition.specs.Numbers.{unclosedLbrace, emptyExpression, expressionNestedTooDeeply}
+use Rattle.definition.specs.Numbers.{unclosedLbrace, emptyExpression, expressionNestedTooDeeply, inField}
 use Rattle.definition.specs.Escapes as d
 use Rattle.definition.specs.Escapes.{got, refused}
 use Rattle.definition.specs.Body.{Piece, field, spec, filled, direct, Field, fresh, Move, calls, ends, textCase, textMove, textN, fieldN, specN, enough, conversionOf, fieldPieces, selfDocumenting, finished, specified, firstEnd}
@@ -151,7 +151,7 @@ module _ (s : List ℕ) (depth from : ℕ) (ex : List ℕ) (h : Head) where
   finished-blank j p b = rw b
 
   -- the end of a field after its spec
-  specified-end : (j : ℕ) (ps : List Piece) → atEnd s j ≡ true → specified s depth from j (headState ex h) ps ≡ refused unclosedLbrace j 0 0
+  specified-end : (j : ℕ) (ps : List Piece) → atEnd s j ≡ true → specified s depth from j (headState ex h) ps ≡ refused unclosedLbrace j inField 0
   unfolding specified
   specified-end j ps e = rw e
 
@@ -169,7 +169,7 @@ module _ (s : List ℕ) (depth from : ℕ) (ex : List ℕ) (h : Head) where
       j = at .at
 
       go : (x y : Bool) → atEnd s j ≡ x → h .blank ≡ y → ReadIs read fr depth words text words′ text′ k (fieldEnd s j (h .blank) b)
-      go true y p q = rw p (to-refuse (λ l. l) fr depth words text words′ text′ k read (record { number = unclosedLbrace; taken = j; a = 0; b = 0 }) (e ∙ specified-end j ps p))
+      go true y p q = rw p (to-refuse (λ l. l) fr depth words text words′ text′ k read (record { number = unclosedLbrace; taken = j; a = inField; b = 0 }) (e ∙ specified-end j ps p))
       go false true p q =
           rw (p, q)
           (to-refuse (λ l. l) fr depth words text words′ text′ k read (record { number = emptyExpression; taken = next s j; a = 0; b = 0 }) (e ∙ specified-on j ps p ∙ finished-blank (next s j) (some ps) q))
@@ -343,7 +343,7 @@ module _ (s : List ℕ) (depth at : ℕ) (fr : Frame) (words text words₁ text�
         q = ap (λ n. fieldN (enough s) (fr .kind) s depth n n fresh) (sym e) ∙ G .reads
 
         both : Reading weight (fieldSize fresh) s f (got (G .pieces) j)
-        both = subst (λ x. Reading weight (fieldSize fresh) s f x) (G .reads) (field-reading (enough s) (fr .kind) s depth f f fresh low (omega arith))
+        both = subst (λ x. Reading weight (fieldSize fresh) s f x) (G .reads) (field-reading (enough s) (fr .kind) s depth f f low (omega arith))
 
         sound : (f ≤ j) × (j ≤ length s)
         sound = both .0
@@ -357,7 +357,7 @@ module _ (s : List ℕ) (depth at : ℕ) (fr : Frame) (words text words₁ text�
     field-further f l e words′ text′ j r G = (omega (arith, both .0 .0, next-past s i′ l, e, R .upto .ahead), both .0 .1)
       where
         both : Reading weight (fieldSize fresh) s f (got (G .pieces) j)
-        both = subst (λ x. Reading weight (fieldSize fresh) s f x) (G .reads) (field-reading (enough s) (fr .kind) s depth f f fresh (rw e (next-in s i′ (omega arith))) (omega arith))
+        both = subst (λ x. Reading weight (fieldSize fresh) s f x) (G .reads) (field-reading (enough s) (fr .kind) s depth f f (rw e (next-in s i′ (omega arith))) (omega arith))
 
 -- text at depth 2
 pub too-deep : (kind : ℕ) (s : List ℕ) (depth i : ℕ) → 2 ≤ depth → textN (enough s) kind s depth i [] [] ≡ refused expressionNestedTooDeeply i 0 0

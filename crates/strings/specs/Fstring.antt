@@ -5,7 +5,7 @@ use mathlib.Core.List.{List, _∷_}
 use mathlib.Core.Bool.{Bool}
 use lib.ListN.{length}
 use Rattle.definition.specs.Chars.{if_then_else_, atEnd, next}
-use Rattle.definition.specs.Numbers.{unclosedLbrace, emptyExpression}
+use Rattle.definition.specs.Numbers.{unclosedLbrace, emptyExpression, inField}
 use Rattle.definition.specs.Escapes.{got, refused}
 use Rattle.definition.specs.Escapes as d
 use Rattle.definition.specs.Body.{Piece, spec, direct}
@@ -40,5 +40,5 @@ SpecIs read fr depth = Written (λ ps. spec (direct (suc depth) ps) ∷ ps) read
 -- the end of a field after its spec
 abbrev pub fieldEnd : List ℕ → ℕ → Bool → Sink → Read
 fieldEnd s j blank k =
-    if atEnd s j then Refused (record { number = unclosedLbrace; taken = j; a = 0; b = 0 }) else
+    if atEnd s j then Refused (record { number = unclosedLbrace; taken = j; a = inField; b = 0 }) else
     if blank then Refused (record { number = emptyExpression; taken = next s j; a = 0; b = 0 }) else Done (record { at = next s j }) k

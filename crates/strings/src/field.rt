@@ -1,8 +1,9 @@
 // A replacement field's head: from after its `{` up to and including the `}` or `:` that ends it.
 use crate::EMPTY_EXPRESSION;
 use crate::Refusal;
-use crate::UNCLOSED_LBRACE;
+use crate::unclosed;
 use buffers::add_run;
+use marks::Unclosed;
 use marks::ends_head;
 use marks::is_blank;
 use marks::is_conversion;
@@ -294,7 +295,7 @@ fn convert(s: &[u8], f: State, flag: Cursor, text: &mut [u8]) -> Turn
         return refuse(EMPTY_EXPRESSION, at);
     }
     let Step::Char(conversion, after) = flag.next_char(s) else {
-        return refuse(UNCLOSED_LBRACE, at);
+        return Turn::Refused(unclosed(Unclosed::AfterBang, at));
     };
     let to = after.at;
     if is_conversion(conversion) {
@@ -303,7 +304,7 @@ fn convert(s: &[u8], f: State, flag: Cursor, text: &mut [u8]) -> Turn
             g.conversion = conversion;
             return Turn::On(g);
         }
-        return refuse(UNCLOSED_LBRACE, to);
+        return Turn::Refused(unclosed(Unclosed::AfterConversion, to));
     }
     refuse(INVALID_CONVERSION_FLAG, to)
 }
@@ -316,7 +317,7 @@ fn read_turn(s: &[u8], f: State, text: &mut [u8], places: &mut [u8; 64]) -> Turn
     let at = f.at;
     let here = Cursor { at };
     let Step::Char(c, after) = here.next_char(s) else {
-        return refuse(UNCLOSED_LBRACE, at);
+        return Turn::Refused(unclosed(Unclosed::InField, at));
     };
     let to = after.at;
     let class = class_of(s, at, c, after, f.depth == 0, f.documented);
@@ -339,7 +340,7 @@ fn read_turn(s: &[u8], f: State, text: &mut [u8], places: &mut [u8; 64]) -> Turn
             Turn::On(g)
         }
         Class::Backslash => refuse(UNTERMINATED_STRING, to),
-        Class::Stray => refuse(UNCLOSED_LBRACE, to),
+        Class::Stray => Turn::Refused(unclosed(Unclosed::AfterEquals, to)),
         Class::Plain => Turn::On(kept(f, to, f.depth, still_blank(f.blank, c))),
     }
 }

@@ -1,7 +1,6 @@
 // F-strings: text, fields and specs, which call for one another.
 use crate::EMPTY_EXPRESSION;
 use crate::Refusal;
-use crate::UNCLOSED_LBRACE;
 use crate::emit::Frame;
 use crate::emit::Sink;
 use crate::emit::emit_field;
@@ -12,7 +11,9 @@ use crate::field::Opened;
 use crate::field::read_head;
 use crate::text::Run;
 use crate::text::text_run;
+use crate::unclosed;
 use buffers::add_run;
+use marks::Unclosed;
 use marks::brace_from;
 use utf8::Cursor;
 use utf8::Step;
@@ -60,7 +61,7 @@ fn end_field(s: &[u8], at: Cursor, blank: bool, k: Sink) -> Read
     ensures { λ r. ⌜ r ≡ fieldEnd (now (s .entry)) (at .at) blank k ⌝ }
 {
     let Step::Char(_, after) = at.next_char(s) else {
-        return refuse(UNCLOSED_LBRACE, at.at);
+        return Read::Refused(unclosed(Unclosed::InField, at.at));
     };
     if blank {
         return refuse(EMPTY_EXPRESSION, after.at);

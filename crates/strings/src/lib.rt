@@ -14,6 +14,8 @@ use entry::Class;
 use entry::Descriptor;
 use fstring::Read;
 use fstring::parse_fstring;
+use marks::Unclosed;
+use marks::reason;
 use text::Text;
 use text::parse_string;
 use utf8::Cursor;
@@ -22,7 +24,7 @@ ghost use mathlib.Core.Bool.{true};
 ghost use mathlib.Core.List.{List};
 ghost use Prim.Native.Nat.{ℕ, _<_};
 ghost use lib.ListN.{length};
-ghost use Rattle.definition.specs.Numbers.{isBytes, isUnicode};
+ghost use Rattle.definition.specs.Numbers.{isBytes, isUnicode, unclosedLbrace};
 ghost use Rattle.definition.specs.Chars.{if_then_else_};
 ghost use Rattle.definition.specs.Records.{Role, covers, Item};
 ghost use Rattle.definition.specs.Entry.{body, anyOf};
@@ -32,8 +34,10 @@ ghost use Rattle.entry.specs.Answers.{described};
 ghost use Rattle.entry.specs.Literals.{literals};
 ghost use Rattle.entry.proofs.Passed.{Passed};
 ghost use Rattle.strings.specs.declared.Outcome.the-variants.{Refused};
+ghost use Rattle.marks.specs.Marks.{reasonOf};
 ghost use Rattle.strings.specs.Emit.{Tops};
 ghost use Rattle.strings.specs.Sinks.{Fits, wholeOf};
+ghost use Rattle.strings.specs.Text.{refusal};
 ghost use Rattle.strings.specs.Fstring.{Room as BodyRoom, ReadIs};
 ghost use Rattle.strings.specs.Strings.{CallIs, wholeFor, Room, frameOf, Wrote, ListIs};
 
@@ -66,9 +70,21 @@ pub(crate) enum Listed {
     Refused(entry::Refusal),
 }
 
-pub(crate) const UNCLOSED_LBRACE: u32 = 20;
+const UNCLOSED_LBRACE: u32 = 20;
 
 pub(crate) const EMPTY_EXPRESSION: u32 = 22;
+
+// A brace that counts as unclosed, and why.
+pub(crate) fn unclosed(why: Unclosed, taken: usize) -> Refusal
+    ensures { λ r. ⌜ r ≡ refusal unclosedLbrace taken (reasonOf why) 0 ⌝ }
+{
+    Refusal {
+        number: UNCLOSED_LBRACE,
+        taken,
+        a: reason(why),
+        b: 0,
+    }
+}
 
 // A literal's body, read and written.
 fn read_body(s: &[u8], fr: Frame, words: &mut [u32], text: &mut [u8], k: Sink) -> Read

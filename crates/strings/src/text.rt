@@ -1,9 +1,10 @@
 // The text of a body: strings, bytes, and what stands between an f-string's fields.
 use crate::Refusal;
-use crate::UNCLOSED_LBRACE;
 use crate::field::wide;
+use crate::unclosed;
 use escapes::Escaped;
 use escapes::is_any_bytes;
+use marks::Unclosed;
 use marks::is_escape;
 use marks::is_foreign;
 use marks::is_special;
@@ -152,7 +153,7 @@ fn left_brace(
         return Piece::Field(after);
     }
     let Step::Char(c, past) = after.next_char(s) else {
-        return refuse(UNCLOSED_LBRACE, after.at);
+        return Piece::Refused(unclosed(Unclosed::LastBrace, after.at));
     };
     if c != 0x7B {
         return Piece::Field(after);

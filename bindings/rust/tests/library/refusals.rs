@@ -3,7 +3,8 @@
 use crate::common::side_by_side;
 use stumpgarret::StringKind::{Bytes, FString, RawFString, String as Plain};
 use stumpgarret::{
-    parse_strings, read_into, Literal, Reason, Refusal, StringKind, MOST_BODY_BYTES, MOST_LITERALS,
+    parse_strings, read_into, Literal, Reason, Refusal, StringKind, Unclosed, MOST_BODY_BYTES,
+    MOST_LITERALS,
 };
 
 const NUMBERS: [u32; 21] =
@@ -65,7 +66,11 @@ fn all() -> Vec<(Refusal, &'static str)> {
             "a bytes literal has a character that is not ASCII (refusal 12, literal 0, place 5)",
         ),
         (of(r"\N{SNOWMAN}"), "the name in an escape is not known (refusal 13, literal 0, place 5)"),
-        (of("{x!r b}"), "a '{' is not closed as it must be (refusal 20, literal 0, place 6)"),
+        (
+            of("{x!r b}"),
+            "a '{' is not closed: neither '}' nor ':' follows a conversion \
+             (refusal 20, literal 0, place 6)",
+        ),
         (of("{x!x}"), "a conversion is not 's', 'a' or 'r' (refusal 21, literal 0, place 6)"),
         (of("{ }"), "a field has no expression (refusal 22, literal 0, place 5)"),
         (of("{(]}"), "'(' is met by ']' (refusal 23, literal 0, place 5)"),
@@ -105,6 +110,25 @@ fn every_number_has_its_text() {
         assert_eq!(refusal.to_string(), text);
         let error: Box<dyn std::error::Error> = Box::new(refusal);
         assert_eq!(error.to_string(), text);
+    }
+}
+
+#[test]
+fn why_a_brace_counts_as_unclosed() {
+    let words = "a '{' is not closed: ";
+    for (body, place, why, text) in [
+        ("{x!", 5, Unclosed::AfterBang, "the literal ends right after a '!'"),
+        ("{x!r b}", 6, Unclosed::AfterConversion, "neither '}' nor ':' follows a conversion"),
+        ("{x!r", 6, Unclosed::AfterConversion, "neither '}' nor ':' follows a conversion"),
+        ("{x=y}", 6, Unclosed::AfterEquals, "something not allowed follows a self-documenting '='"),
+        ("{x= ", 6, Unclosed::InField, "the literal ends inside a field"),
+        ("{x:{y}", 8, Unclosed::InField, "the literal ends inside a field"),
+        ("a{", 4, Unclosed::LastBrace, "it is the literal's last character"),
+    ] {
+        let refusal = of(body);
+        assert_eq!(refusal.reason(), &Reason::UnclosedLbrace(why), "{}", body);
+        assert_eq!((refusal.number(), refusal.place()), (20, place), "{}", body);
+        assert_eq!(refusal.reason().to_string(), format!("{}{}", words, text));
     }
 }
 

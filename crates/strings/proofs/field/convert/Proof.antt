@@ -23,10 +23,10 @@ convert-spec =
     (λ c κs. search needs)  -- next-char-requires
     (λ c. search needs)  -- enum-known-conversion
     (λ c. search needs)  -- enum-told
-    (λ c κs. search needs)  -- refuse-requires-2
+    (λ c κs. search needs)  -- unclosed-requires
     (λ c.
     let end = step-end _ _ (sym (c .before .before .before .next-char .ensures) ∙ c .before .enum-told .given .1) in
-    λ places. rw (c .refuse2 .ensures) (λ e. convert-end (c .before .before .before .before .before .before .before .pre) places e (c .before .before .before .before .if1 .left) end))  -- returns-2
+    λ places. rw (c .unclosed .ensures) (λ e. convert-end (c .before .before .before .before .before .before .before .pre) places e (c .before .before .before .before .if1 .left) end))  -- returns-2
     (λ c κs. search needs)  -- is-conversion-requires
     (λ c κs. search needs)  -- peek-requires
     (λ c κs. search needs)  -- ends-head-requires
@@ -38,15 +38,15 @@ convert-spec =
     let flag = sym (c .before .before .before .before .before .before .before .before .is-conversion .ensures) ∙ c .before .before .before .before .before .before .before .if2 .taken in
     let end = ends-head-is (c .before .before .before .before .before .ends-head .ensures) (c .before .before .before .before .before .before .peek .ensures) (c .before .before .before .before .if3 .taken) in
     λ places. skips (p .room) _ _ _ _ (c .before .before .skip .ensures .1) (ap (λ (x : State). changed (x .spaces) (c .before .before .before .before .before .before .before .before .before .before .conversion .given .0 .0) (x .documented) x) (c .before .before .skip .ensures .0)) (λ e. convert-goes p places e (c .before .before .before .before .before .before .before .before .before .before .before .before .before .if1 .left) there flag end))  -- returns-3
-    (λ c κs. search needs)  -- refuse-requires-3
+    (λ c κs. search needs)  -- unclosed-requires-2
     (λ c.
     let p = c .before .before .before .before .before .before .before .before .before .before .before .before .before .pre in
     let there = step-char _ _ _ _ (sym (c .before .before .before .before .before .before .before .before .before .next-char .ensures) ∙ c .before .before .before .before .before .before .before .conversion .given .1) in
     let flag = sym (c .before .before .before .before .before .is-conversion .ensures) ∙ c .before .before .before .before .if2 .taken in
     let end = ends-head-is (c .before .before .ends-head .ensures) (c .before .before .before .peek .ensures) (c .before .if3 .left) in
-    λ places. rw (c .refuse3 .ensures) (λ e. convert-open p places e (c .before .before .before .before .before .before .before .before .before .before .if1 .left) there flag end))  -- returns-4
-    (λ c κs. search needs)  -- refuse-requires-4
+    λ places. rw (c .unclosed2 .ensures) (λ e. convert-open p places e (c .before .before .before .before .before .before .before .before .before .before .if1 .left) there flag end))  -- returns-4
+    (λ c κs. search needs)  -- refuse-requires-2
     (λ c.
     let p = c .before .before .before .before .before .before .before .before .before .before .pre in
     let there = step-char _ _ _ _ (sym (c .before .before .before .before .before .before .next-char .ensures) ∙ c .before .before .before .before .conversion .given .1) in
-    λ places. rw (c .refuse4 .ensures) (λ e. convert-other p places e (c .before .before .before .before .before .before .before .if1 .left) there (sym (c .before .before .is-conversion .ensures) ∙ c .before .if2 .left))))  -- returns-5
+    λ places. rw (c .refuse2 .ensures) (λ e. convert-other p places e (c .before .before .before .before .before .before .before .if1 .left) there (sym (c .before .before .is-conversion .ensures) ∙ c .before .if2 .left))))  -- returns-5

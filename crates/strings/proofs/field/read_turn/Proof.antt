@@ -30,8 +30,8 @@ read-turn-spec =
     (λ c κs. search needs)  -- next-char-requires
     (λ c. search needs)  -- enum-known-c
     (λ c. search needs)  -- enum-told
-    (λ c κs. search needs)  -- refuse-requires
-    (λ c. let end = step-end _ _ (sym (c .before .before .before .next-char .ensures) ∙ c .before .enum-told .given .1) in rw (c .refuse .ensures) (move-end (c .before .before .before .before .before .before .pre .0) end _))  -- returns
+    (λ c κs. search needs)  -- unclosed-requires
+    (λ c. let end = step-end _ _ (sym (c .before .before .before .next-char .ensures) ∙ c .before .enum-told .given .1) in rw (c .unclosed .ensures) (move-end (c .before .before .before .before .before .before .pre .0) end _))  -- returns
     (λ c κs. stepped c)  -- class-of-requires
     (λ c. search needs)  -- enum-told-2
     (λ c. let b = c .before .before in let p = fits b in let t = rw (c .enum-told2 .given .1) at (b .class-of .ensures) in let l = pair-in p t .0 in omega arith)  -- add-kept
@@ -56,9 +56,9 @@ read-turn-spec =
     (λ c κs. c .before .before .before .before .before .before .before .before .before .before .before .pre .0)  -- skip-requires-4
     (λ c. let r = c .before .before .before .before .before .before .before .before .before .before .before .before .before .before .before .pre .0 in let l = fits (c .before .before .before .before .before .before .before) .here .there in let n = ap (λ (x : State). x .spaces) (c .before .before .before .skip4 .ensures .0) in omega arith)  -- add-g
     (λ c. search needs)  -- enum-told-11
-    (λ c κs. search needs)  -- refuse-requires-2
+    (λ c κs. search needs)  -- refuse-requires
     (λ c. search needs)  -- enum-told-12
-    (λ c κs. search needs)  -- refuse-requires-3
+    (λ c κs. search needs)  -- unclosed-requires-2
     (λ c. search needs)  -- enum-told-13
     (λ c κs. search needs)  -- still-blank-requires
     (λ c κs. search needs)  -- kept-requires-2
@@ -76,6 +76,6 @@ read-turn-spec =
     (λ c. let b = c .before .before .before in let p = fits b in let t = rw (c .before .enum-told9 .given .1) at (b .class-of .ensures) in turned p quoteMove fieldMove _ _ _ _ (c .quoted .result) (λ e. quote-is p _ e t) (c .quoted .ensures _ _))  -- returns-9
     (λ c. search needs)  -- same-length-5
     (λ c. let b = c .before .before .before .before .before .before .before in let p = fits b in let t = rw (c .before .before .before .before .before .enum-told10 .given .1) at (b .class-of .ensures) in skips (p .room) _ _ _ _ (c .before .before .before .skip4 .ensures .1) (ap (λ (x : State). changed (x .spaces + 1) (x .conversion) (x .documented) x) (c .before .before .before .skip4 .ensures .0)) (λ e. space-goes p _ e t))  -- returns-10
-    (λ c. let b = c .before .before .before in let p = fits b in let t = rw (c .before .enum-told11 .given .1) at (b .class-of .ensures) in rw (c .refuse2 .ensures) (λ e. backslash-stops p _ e t))  -- returns-11
-    (λ c. let b = c .before .before .before in let p = fits b in let t = rw (c .before .enum-told12 .given .1) at (b .class-of .ensures) in rw (c .refuse3 .ensures) (λ e. stray-stops p _ e t))  -- returns-12
+    (λ c. let b = c .before .before .before in let p = fits b in let t = rw (c .before .enum-told11 .given .1) at (b .class-of .ensures) in rw (c .refuse .ensures) (λ e. backslash-stops p _ e t))  -- returns-11
+    (λ c. let b = c .before .before .before in let p = fits b in let t = rw (c .before .enum-told12 .given .1) at (b .class-of .ensures) in rw (c .unclosed2 .ensures) (λ e. stray-stops p _ e t))  -- returns-12
     (λ c. let b = c .before .before .before .before in let p = fits b in let t = rw (c .before .before .enum-told13 .given .1) at (b .class-of .ensures) in keeps (p .room) _ (after b .at) _ (c .before .still-blank .result) (omega (arith, ahead (p .here) .0)) (p .room .deep) refl (c .kept2 .ensures) (λ e. plain-goes p _ e t (c .before .still-blank .ensures))))  -- returns-13
