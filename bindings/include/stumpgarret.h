@@ -129,7 +129,8 @@ enum stumpgarret_refusal {
     STUMPGARRET_UNCLOSED_LBRACE = 20,   /* place: after the last character taken; first detail: why,
                                            one of stumpgarret_unclosed */
     STUMPGARRET_INVALID_CONVERSION_FLAG = 21, /* place: after it */
-    STUMPGARRET_EMPTY_EXPRESSION = 22,  /* place: after the ! or the closing brace */
+    STUMPGARRET_EMPTY_EXPRESSION = 22,  /* or one of blanks alone, Unicode's White_Space; place:
+                                           after the ! or the closing brace */
     STUMPGARRET_MISMATCHED_DELIMITER = 23, /* place: after the closer; details: the codes of
                                               opener and closer */
     STUMPGARRET_EXPRESSION_NESTED_TOO_DEEPLY = 24, /* place: before the opening brace */

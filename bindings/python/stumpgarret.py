@@ -129,7 +129,7 @@ REFUSALS = {
     13: ("name not held", "the library does not have this name of a character"),
     20: ("UnclosedLbrace", "{unclosed}"),
     21: ("InvalidConversionFlag", "a conversion is not s, r or a"),
-    22: ("EmptyExpression", "a field has no expression"),
+    22: ("EmptyExpression", "a field's expression is empty or blank"),
     23: ("MismatchedDelimiter", "{0:c} is closed by {1:c}"),
     24: ("ExpressionNestedTooDeeply", "a field stands in the spec of a field in a spec"),
     25: ("SingleRbrace", "a single }} stands in an f-string"),

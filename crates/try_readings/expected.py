@@ -176,6 +176,7 @@ def fields():
     refuses(fstring("{x!é}"), 21, 7)
     for body, place in (("{}", 4), ("{ \t\n}", 7), ("{!r}", 4), ("{:}", 5), ("{ =}", 6)):
         refuses(fstring(body), 22, place)
+    blanks()
     for opener, closer in (("(", "]"), ("[", ")"), ("{", ")"), ("(", "}"), ("[", "}")):
         refuses(fstring("{x" + opener + closer), 23, 6, ord(opener), ord(closer))
     refuses(side_by_side((0, "{"), (4, "{x:{y:{}", 1)), 24, 3 + 5 + 6, literal=1)
@@ -188,6 +189,35 @@ def fields():
     reads(fstring("{" + brackets(64) + "}"), JOINED, field(brackets(64), 3))
     refuses(fstring("{" + brackets(65) + "}"), 28, 2 + 1 + 65)
     reads(fstring("{'" + "(" * 65 + "'}"), JOINED, field("'" + "(" * 65 + "'", 3))
+
+
+def blanks():
+    """02, item 4: an expression of White_Space alone is refused as an empty one is; U+180E, U+200B and the like are no blanks."""
+    two = 0x85, 0xA0
+    three = 0x1680, *range(0x2000, 0x200B), 0x2028, 0x2029, 0x202F, 0x205F, 0x3000
+    for place, codes in ((6, two), (7, three)):
+        for code in codes:
+            refuses(fstring("{" + chr(code) + "}"), 22, place)
+    refuses(fstring("{\t\n\v\f\r \u0085\u00a0\u1680\u2000\u200a\u2028\u2029\u202f\u205f\u3000}"), 22, 2 + 1 + 6 + 2 * 2 + 8 * 3 + 1)
+    # after the `!`, before what follows it is looked at; at the `}`, after the spec was read; in a field of a spec
+    refuses(fstring("{\u00a0!r}"), 22, 6)
+    refuses(fstring("{\u00a0!x}"), 22, 6)
+    refuses(fstring("{\u3000:>5}"), 22, 10)
+    refuses(fstring("{\u3000:{y!x}}"), 21, 11)
+    refuses(fstring("{\u00a0=}"), 22, 7)
+    refuses(fstring("{ \u2003= :}"), 22, 11)
+    refuses(fstring("{x:{\u00a0}}"), 22, 9)
+    refuses(side_by_side((1, "{x}"), (4, "{\u3000}", 1)), 22, 6 + 5 + 5, literal=1)
+    # where the expression is not blank, and where blanks are not asked for
+    reads(fstring("{\u00a0x\u3000}"), JOINED, field("\u00a0x\u3000", 3))
+    reads(fstring("{\u00a0==}"), JOINED, field("\u00a0==", 3))
+    reads(fstring("{\u00a0''!r}"), JOINED, field("\u00a0''", 3, "r"))
+    reads(fstring("{x:\u00a0}"), JOINED, field("x", 3, parts=1), spec(1), part("\u00a0"))
+    refuses(fstring("{x=\u00a0}"), 20, 7, 3)
+    refuses(fstring("{x!\u00a0}"), 21, 7)
+    for code in (0x08, 0x0E, 0x1C, 0x1D, 0x1E, 0x1F, 0x84, 0x86, 0x9F, 0xA1, 0x167F, 0x1681, 0x180E, 0x1FFF, 0x200B, 0x2027, 0x202A, 0x202E, 0x2030, 0x205E,
+                 0x2060, 0x2FFF, 0x3001, 0xFEFF):
+        reads(fstring("{" + chr(code) + "}"), JOINED, field(chr(code), 3))
 
 
 def room():

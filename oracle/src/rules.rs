@@ -1,10 +1,6 @@
 //! Document 01's rules, and 02's, for what the Rust does not have, around what the Rust gives.
 //!
 //! * 1 to 6 are checked here, before the Rust is asked.
-//! * Blank is narrower than the Rust's `trim`. It matters only where the Rust refuses with
-//!   22 and a body has a wider blank. 01 then takes that character for any other, so the
-//!   Rust is asked again with ordinary characters in the places of the wider blanks, twice
-//!   with different ones: where the two texts differ, the blank is put back.
 //! * 28 is found by a scan of its own. The scan may assume that the Rust refuses nothing up
 //!   to the place it looks for, since an earlier refusal wins over 28.
 //! * Why a brace counts as unclosed, the first detail of 20, is found by the same scan. The Rust
@@ -47,7 +43,7 @@ pub fn reading(script: &[u8], list: &[u32]) -> Outcome {
     let (literals, ranges) = descriptors(script, list)?;
     check_size(&ranges)?;
     let bodies = well_formed_bodies(script, &literals, &ranges)?;
-    let outcome = narrow_blank_reading(&literals, &bodies)
+    let outcome = rust::read(&literals, &bodies)
         .map_err(|refusal| with_reason(&literals, &bodies, refusal));
     let Some(bracket) = first_65th_bracket(&literals, &bodies) else {
         return outcome;
@@ -175,46 +171,6 @@ fn well_formed_bodies(
             .map_err(|error| Refusal::new(6, index, literals[index].place(error.valid_up_to())))
     };
     ranges.iter().enumerate().map(body).collect()
-}
-
-/// What the Rust gives if only space and U+0009 to U+000D are blank.
-fn narrow_blank_reading(literals: &[Literal], bodies: &[String]) -> Outcome {
-    let outcome = rust::read(literals, bodies);
-    let refused_as_blank = matches!(&outcome, Err(refusal) if refusal.number == 22);
-    if !refused_as_blank || !bodies.iter().any(|body| body.contains(is_wider_blank)) {
-        return outcome;
-    }
-    let [first, second] = [1, 2].map(|round| rust::read(literals, &without_blanks(bodies, round)));
-    let (mut accepted, other) = (first?, second?);
-    accepted.text = with_blanks(&accepted.text, &other.text);
-    Ok(accepted)
-}
-
-fn is_wider_blank(c: char) -> bool {
-    c.is_whitespace() && !matches!(c, ' ' | '\u{9}'..='\u{D}')
-}
-
-/// How far the ordinary characters of a round lie from the blanks they are put for: far
-/// enough to be no blanks, near enough to have as many UTF-8 bytes.
-fn shift(blank: char, round: u32) -> u32 {
-    round * if blank.len_utf8() == 2 { 0x200 } else { 0x4000 }
-}
-
-fn without_blanks(bodies: &[String], round: u32) -> Vec<String> {
-    let ordinary = |c: char| match is_wider_blank(c) {
-        true => char::from_u32(c as u32 + shift(c, round)).expect("below the surrogates"),
-        false => c,
-    };
-    bodies.iter().map(|body| body.chars().map(ordinary).collect()).collect()
-}
-
-fn with_blanks(first: &[u8], second: &[u8]) -> Vec<u8> {
-    let chars = |text| std::str::from_utf8(text).expect("an f-string's text").chars();
-    let restored = chars(first).zip(chars(second)).map(|(one, other)| match one == other {
-        true => one,
-        false => char::from_u32(one as u32 - shift(one, 1)).expect("a blank"),
-    });
-    restored.collect::<String>().into_bytes()
 }
 
 /// What the scan of a literal comes to: 20 or 28, if every earlier character is read without

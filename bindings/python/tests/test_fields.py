@@ -181,6 +181,10 @@ class Refusals(unittest.TestCase):
         self.assertEqual(refused("f'{g(f\"{a!x}\")}{b}'"), (["g(f\"{a!x}\")", "b"], [(1, 12, 21)]))
         self.assertEqual(refused("f'{x:{y:{z}}}' f'{a}'\nf'{b}'"), (["b"], [(1, 9, 24)]))
 
+    def test_blank(self):
+        self.assertEqual(refused("f'{a}'\nf'{\xa0}' f'{b}'\nf'{c}'"), (["a", "c"], [(2, 6, 22)]))
+        self.assertEqual(refused("f'{x:{\u3000!r}}'"), ([], [(1, 9, 22)]))
+
     def test_whole_runs(self):
         self.assertEqual(refused("f'{a}'\n'a' b'b'"), (["a"], [(2, 1, 7)]))
         self.assertEqual(refused("x = (" + 1025 * "''\n" + ")"), ([], [(1, 6, 3)]))

@@ -30,6 +30,8 @@ pub enum Reason {
     /// A `{` that is not closed as it must be, and why.
     UnclosedLbrace(Unclosed),
     InvalidConversionFlag,
+    /// A field's expression is empty or blank: it has nothing, or only characters of Unicode's
+    /// White_Space.
     EmptyExpression,
     /// An opening bracket, and the one of another sort that would close it.
     MismatchedDelimiter(char, char),
@@ -74,7 +76,7 @@ impl fmt::Display for Reason {
             Self::NameNotHeld => "the name in an escape is not known",
             Self::UnclosedLbrace(why) => return write!(f, "a '{{' is not closed: {}", why),
             Self::InvalidConversionFlag => "a conversion is not 's', 'a' or 'r'",
-            Self::EmptyExpression => "a field has no expression",
+            Self::EmptyExpression => "a field's expression is empty or blank",
             Self::MismatchedDelimiter(opener, closer) => {
                 return write!(f, "'{}' is met by '{}'", opener, closer)
             }

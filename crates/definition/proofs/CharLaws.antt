@@ -9,7 +9,7 @@ use native.Mathlib.Omega.{arith, by-contra}
 use borrow.Author.Tests.{ltb-true, ltb-false, leb-true, leb-false, le-leb, lt-leb, eqb-true, eqb-false, ne-eqb}
 use lib.Dec.{ltb, leb, eqb, lit≤}
 use lib.ListN.{length, drop, getD, length-drop, List·getD-eq-default}
-use Rattle.definition.specs.Chars.{if_then_else_, byte, atEnd, noCode, Range, _to_, inside, table37, following, follow, width, decoded, code, next, before}
+use Rattle.definition.specs.Chars.{if_then_else_, byte, atEnd, noCode, Range, _to_, inside, insideAny, table37, following, follow, width, decoded, code, next, before}
 
 -- a test is true or false
 pub cases : {P : Type 0} (t : Bool) → (t ≡ true → P) → (t ≡ false → P) → P
@@ -32,6 +32,16 @@ inside-yes low high b p q = rw (le-leb _ _ p, le-leb _ _ q)
 pub inside-not : (low high b : ℕ) → (low ≤ b → b ≤ high → ⊥) → inside (low to high) b ≡ false
 inside-not low high b f =
     cases (inside (low to high) b) (λ t. absurd (f (inside-true low high b t .0) (inside-true low high b t .1))) (λ t. t)
+
+-- what is within none of the ranges
+abbrev pub Apart : List Range → ℕ → Type 0
+Apart [] b = Unit {0}
+Apart ((low to high) ∷ rs) b = (low ≤ b → b ≤ high → ⊥) × Apart rs b
+
+pub inside-none : (rs : List Range) (b : ℕ) → Apart rs b → insideAny rs b ≡ false
+unfolding insideAny
+inside-none [] b f = refl
+inside-none ((low to high) ∷ rs) b f = rw (inside-not low high b (f .0), insideAny) (inside-none rs b (f .1))
 
 -- within a list the default does not matter
 pub byte-is : (s : List ℕ) (i : ℕ) → i < length s → getD s i 0 ≡ byte s i

@@ -1,4 +1,5 @@
 pub mod Starred
+pub mod Blanks
 pub mod Seam
 pub mod Assoc
 pub mod Laid

@@ -50,6 +50,11 @@ pub data Range : Type 0 where
 abbrev pub inside : Range → ℕ → Bool
 inside (low to high) b = leb low b && leb b high
 
+-- within one of the ranges
+unfoldable pub insideAny : List Range → ℕ → Bool
+insideAny [] b = false
+insideAny (r ∷ rs) b = inside r b || insideAny rs b
+
 unfoldable pub table37 : List (Range × List Range)
 table37 =
     (0x00 to 0x7F, [])

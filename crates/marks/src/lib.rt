@@ -85,13 +85,22 @@ pub fn brace_from(s: &[u8], from: usize) -> usize
     i
 }
 
-// Whether a code is a space or U+0009 to U+000D.
+// Whether a code has Unicode's property White_Space.
 pub fn is_blank(c: u32) -> bool
     ensures { λ r. ⌜ r ≡ isBlank c ⌝ }
 {
     match c {
-        9..=13 => true,
-        32 => true,
+        0x0009..=0x000D => true,
+        0x0020 => true,
+        0x0085 => true,
+        0x00A0 => true,
+        0x1680 => true,
+        0x2000..=0x200A => true,
+        0x2028 => true,
+        0x2029 => true,
+        0x202F => true,
+        0x205F => true,
+        0x3000 => true,
         _ => false,
     }
 }

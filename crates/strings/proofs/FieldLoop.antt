@@ -12,8 +12,8 @@ use Rattle.definition.specs.Numbers.{emptyExpression}
 use Rattle.definition.specs.Chars.{if_then_else_, byte, _to_, inside, next}
 use Rattle.definition.specs.Escapes.{refused}
 use mathlib.Core.Option.{none}
-use Rattle.definition.specs.Body.{Move, goes, stops, calls, ends, Field, state, fresh, isBlank, plain, fieldCase, fieldMove, finished, fieldN, enough}
-use Rattle.definition.proofs.CharLaws.{cases, inside-true, inside-not, code-ascii, next-ascii}
+use Rattle.definition.specs.Body.{Move, goes, stops, calls, ends, Field, state, fresh, whiteSpace, isBlank, plain, fieldCase, fieldMove, finished, fieldN, enough}
+use Rattle.definition.proofs.CharLaws.{cases, inside-true, inside-none, code-ascii, next-ascii}
 use Rattle.definition.proofs.Moves.{fieldSize, FieldAhead, field-ahead}
 use Rattle.definition.proofs.Whole.{field-on, field-stop, field-end}
 use Rattle.buffers.specs.Over.{over}
@@ -160,19 +160,16 @@ module _ {s : List ℕ} {from used : ℕ} {lent : List ℕ} {f : State} {places 
 not-passing : (b k : ℕ) → passing k ≡ false → passing b ≡ true → eqb b k ≡ false
 not-passing b k n p = ne-eqb b k (λ e. false≢true (sym n ∙ subst (λ (x : ℕ). passing x ≡ true) e p))
 
-passing-ascii : (b : ℕ) → passing b ≡ true → b < 0x80
-passing-ascii b p =
+-- it is between * and z
+passing-within : (b : ℕ) → passing b ≡ true → (42 ≤ b) × (b ≤ 122)
+passing-within b p =
     cases (inside (42 to 57) b) (λ t. let h = inside-true 42 57 b t in omega arith)
     (λ t.
     cases (inside (63 to 90) b) (λ u. let h = inside-true 63 90 b u in omega arith)
     (λ u. let h = inside-true 94 122 b (rw (t, u) at p) in omega arith))
 
-not-control : (b : ℕ) → passing b ≡ true → inside (9 to 13) b ≡ false
-not-control b p =
-    inside-not 9 13 b
-    (λ x y.
-    let n : passing b ≡ false = rw (inside-not 42 57 b (λ v w. omega arith), inside-not 63 90 b (λ v w. omega arith), inside-not 94 122 b (λ v w. omega arith)) in
-    false≢true (sym n ∙ p))
+passing-ascii : (b : ℕ) → passing b ≡ true → b < 0x80
+passing-ascii b p = omega (arith, passing-within b p .1)
 
 module _ (s : List ℕ) (i : ℕ) (h : i < length s) (p : passing (byte s i) ≡ true) where
   passing-case : (out : Bool) → plain ≡ fieldCase s i out false
@@ -182,7 +179,8 @@ module _ (s : List ℕ) (i : ℕ) (h : i < length s) (p : passing (byte s i) ≡
       rw (lt-leb _ _ h, code-ascii s i (passing-ascii b p), not-passing b 33 refl p, not-passing b 61 refl p, not-passing b 62 refl p, not-passing b 60 refl p, not-passing b 58 refl p, not-passing b 40 refl p, not-passing b 91 refl p, not-passing b 123 refl p, not-passing b 125 refl p, not-passing b 41 refl p, not-passing b 93 refl p, not-passing b 34 refl p, not-passing b 39 refl p, not-passing b 32 refl p, not-passing b 92 refl p, fieldCase)
 
   not-blank : isBlank (byte s i) ≡ false
-  not-blank = let b = byte s i in let a = passing-ascii b p in rw (not-passing b 32 refl p) (not-control b p)
+  unfolding whiteSpace
+  not-blank = let w = passing-within (byte s i) p in inside-none whiteSpace (byte s i) (omega arith)
 
 module _ (s : List ℕ) (from used : ℕ) (lent places text : List ℕ) (l : length s ≤ 1048576) (u : used ≤ 2 ^ 32) where
   abbrev So : State → Type 0

@@ -1,5 +1,6 @@
 //! Inputs of the comparison: enumerated ones, the same in every run, and random ones.
 
+mod blanks;
 mod case;
 mod damage;
 mod edges;
@@ -18,15 +19,17 @@ pub use random::Random;
 pub fn enumerated(visit: &mut dyn FnMut(&Case)) {
     named::visit(visit);
     edges::visit(visit);
+    blanks::visit(visit);
     escapes::visit(visit);
     short::visit(visit);
     scalars::visit(visit);
 }
 
-/// The named ones, those at the edges, and a share of the other enumerated inputs.
+/// The named ones, those at the edges, those of blanks, and a share of the other enumerated inputs.
 pub fn sample(visit: &mut dyn FnMut(&Case)) {
     named::visit(visit);
     edges::visit(visit);
+    blanks::visit(visit);
     one_in(7, escapes::visit, visit);
     one_in(7, short::visit, visit);
     one_in(61, scalars::visit, visit);

@@ -72,7 +72,7 @@ fn all() -> Vec<(Refusal, &'static str)> {
              (refusal 20, literal 0, place 6)",
         ),
         (of("{x!x}"), "a conversion is not 's', 'a' or 'r' (refusal 21, literal 0, place 6)"),
-        (of("{ }"), "a field has no expression (refusal 22, literal 0, place 5)"),
+        (of("{ }"), "a field's expression is empty or blank (refusal 22, literal 0, place 5)"),
         (of("{(]}"), "'(' is met by ']' (refusal 23, literal 0, place 5)"),
         (
             of_run(&[(Plain, "{"), (RawFString, "{x:{y:{z}}}")]),
@@ -137,6 +137,15 @@ fn details() {
     assert_eq!(of("{x[}").reason(), &Reason::MismatchedDelimiter('[', '}'));
     assert_eq!(of("{x]").reason(), &Reason::Unmatched(']'));
     assert_eq!(of("{x:{y:{z}}}").reason(), &Reason::ExpressionNestedTooDeeply);
+}
+
+#[test]
+fn blanks_are_no_expression() {
+    for body in ["{}", "{\u{a0}}", "{\u{85}!r}", "{\t\u{3000}}", "{x:{\u{2028}}}"] {
+        assert_eq!(of(body).reason(), &Reason::EmptyExpression, "{:?}", body);
+    }
+    let (script, literals) = side_by_side(&[(FString, "{\u{200b}}")]);
+    assert!(parse_strings(script, &literals).is_ok());
 }
 
 #[test]
