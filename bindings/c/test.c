@@ -137,20 +137,23 @@ static void grows(void)
     accepted(two_answer, two_records, "VDD mv / 12.5.0f\n");
 }
 
-/* A refusal in the second literal names it, the place and both brackets. */
+/* A refusal in the second literal names it, the place, both brackets, and line and column. */
 static void refuses(void)
 {
     static const uint32_t literals[] = {
         STUMPGARRET_UNICODE, 0, 2, 1, 0, 4,
-        STUMPGARRET_RAW_FSTRING, 1, 9, 4, 4, 16,
+        STUMPGARRET_RAW_FSTRING, 1, 9, 8, 4, 20,
     };
-    static const uint32_t mismatched[] = {STUMPGARRET_MISMATCHED_DELIMITER, 1, 12, '(', ']'};
-    read_with("u'a'rf'''{(]}'''", literals, COUNT(literals), 40, 9);
+    static const uint32_t mismatched[] = {
+        STUMPGARRET_MISMATCHED_DELIMITER, 1, 16, '(', ']', 0, 2, 3,
+    };
+    read_with("u'a'rf'''\xc3\xa9\n\n{(]}'''", literals, COUNT(literals), 40, 9);
     refused(mismatched, COUNT(mismatched), 40, 9);
     const uint32_t by_name[] = {
         answer[STUMPGARRET_ANSWER_NUMBER], answer[STUMPGARRET_REFUSAL_LITERAL],
         answer[STUMPGARRET_REFUSAL_PLACE], answer[STUMPGARRET_REFUSAL_DETAIL_A],
-        answer[STUMPGARRET_REFUSAL_DETAIL_B],
+        answer[STUMPGARRET_REFUSAL_DETAIL_B], 0,
+        answer[STUMPGARRET_REFUSAL_LINE],  answer[STUMPGARRET_REFUSAL_COLUMN],
     };
     numbers_are("named number", by_name, mismatched, COUNT(by_name));
 }
@@ -161,33 +164,33 @@ static void refuses_bodies(void)
     static const struct {
         uint32_t kind;
         const char *body;
-        uint32_t expected[5];
+        uint32_t expected[STUMPGARRET_REFUSAL_COLUMN + 1];
     } rows[] = {
-        {STUMPGARRET_STRING, "a\xff", {STUMPGARRET_NOT_UTF8, 0, 2, 0, 0}},
-        {STUMPGARRET_STRING, "a\\", {STUMPGARRET_STRING_ERROR, 0, 3, 0, 0}},
-        {STUMPGARRET_STRING, "\\x4", {STUMPGARRET_UNICODE_ERROR, 0, 3, 0, 0}},
-        {STUMPGARRET_BYTES, "a\xc3\xa9", {STUMPGARRET_NON_ASCII_IN_BYTES, 0, 5, 0, 0}},
-        {STUMPGARRET_STRING, "\\N{SNOWMAN}", {STUMPGARRET_NAME_NOT_HELD, 0, 4, 0, 0}},
+        {STUMPGARRET_STRING, "a\xff", {STUMPGARRET_NOT_UTF8, 0, 2, 0, 0, 0, 0, 0}},
+        {STUMPGARRET_STRING, "a\\", {STUMPGARRET_STRING_ERROR, 0, 3, 0, 0, 0, 0, 2}},
+        {STUMPGARRET_STRING, "\\x4", {STUMPGARRET_UNICODE_ERROR, 0, 3, 0, 0, 0, 0, 2}},
+        {STUMPGARRET_BYTES, "a\xc3\xa9", {STUMPGARRET_NON_ASCII_IN_BYTES, 0, 5, 0, 0, 0, 0, 2}},
+        {STUMPGARRET_STRING, "\\N{SNOWMAN}", {STUMPGARRET_NAME_NOT_HELD, 0, 4, 0, 0, 0, 0, 3}},
         {STUMPGARRET_FSTRING, "{x!",
-         {STUMPGARRET_UNCLOSED_LBRACE, 0, 5, STUMPGARRET_UNCLOSED_AFTER_BANG, 0}},
+         {STUMPGARRET_UNCLOSED_LBRACE, 0, 5, STUMPGARRET_UNCLOSED_AFTER_BANG, 0, 0, 0, 3}},
         {STUMPGARRET_FSTRING, "{x!r b}",
-         {STUMPGARRET_UNCLOSED_LBRACE, 0, 6, STUMPGARRET_UNCLOSED_AFTER_CONVERSION, 0}},
+         {STUMPGARRET_UNCLOSED_LBRACE, 0, 6, STUMPGARRET_UNCLOSED_AFTER_CONVERSION, 0, 0, 0, 4}},
         {STUMPGARRET_FSTRING, "{x=y}",
-         {STUMPGARRET_UNCLOSED_LBRACE, 0, 6, STUMPGARRET_UNCLOSED_AFTER_EQUALS, 0}},
+         {STUMPGARRET_UNCLOSED_LBRACE, 0, 6, STUMPGARRET_UNCLOSED_AFTER_EQUALS, 0, 0, 0, 4}},
         {STUMPGARRET_FSTRING, "{x",
-         {STUMPGARRET_UNCLOSED_LBRACE, 0, 4, STUMPGARRET_UNCLOSED_IN_FIELD, 0}},
+         {STUMPGARRET_UNCLOSED_LBRACE, 0, 4, STUMPGARRET_UNCLOSED_IN_FIELD, 0, 0, 0, 2}},
         {STUMPGARRET_FSTRING, "{",
-         {STUMPGARRET_UNCLOSED_LBRACE, 0, 3, STUMPGARRET_UNCLOSED_LAST_BRACE, 0}},
-        {STUMPGARRET_FSTRING, "{x!x}", {STUMPGARRET_INVALID_CONVERSION_FLAG, 0, 6, 0, 0}},
-        {STUMPGARRET_FSTRING, "{}", {STUMPGARRET_EMPTY_EXPRESSION, 0, 4, 0, 0}},
+         {STUMPGARRET_UNCLOSED_LBRACE, 0, 3, STUMPGARRET_UNCLOSED_LAST_BRACE, 0, 0, 0, 1}},
+        {STUMPGARRET_FSTRING, "{x!x}", {STUMPGARRET_INVALID_CONVERSION_FLAG, 0, 6, 0, 0, 0, 0, 4}},
+        {STUMPGARRET_FSTRING, "{}", {STUMPGARRET_EMPTY_EXPRESSION, 0, 4, 0, 0, 0, 0, 2}},
         {STUMPGARRET_FSTRING, "{x:{y:{z}}}",
-         {STUMPGARRET_EXPRESSION_NESTED_TOO_DEEPLY, 0, 8, 0, 0}},
-        {STUMPGARRET_FSTRING, "a}b", {STUMPGARRET_SINGLE_RBRACE, 0, 4, 0, 0}},
-        {STUMPGARRET_FSTRING, "{x)", {STUMPGARRET_UNMATCHED, 0, 5, ')', 0}},
-        {STUMPGARRET_FSTRING, "{'", {STUMPGARRET_UNTERMINATED_STRING, 0, 4, 0, 0}},
+         {STUMPGARRET_EXPRESSION_NESTED_TOO_DEEPLY, 0, 8, 0, 0, 0, 0, 6}},
+        {STUMPGARRET_FSTRING, "a}b", {STUMPGARRET_SINGLE_RBRACE, 0, 4, 0, 0, 0, 0, 2}},
+        {STUMPGARRET_FSTRING, "{x)", {STUMPGARRET_UNMATCHED, 0, 5, ')', 0, 0, 0, 3}},
+        {STUMPGARRET_FSTRING, "{'", {STUMPGARRET_UNTERMINATED_STRING, 0, 4, 0, 0, 0, 0, 2}},
         {STUMPGARRET_FSTRING,
          "{((((((((((((((((((((((((((((((((((((((((((((((((((((((((((((((((((",
-         {STUMPGARRET_TOO_MANY_BRACKETS, 0, 68, 0, 0}},
+         {STUMPGARRET_TOO_MANY_BRACKETS, 0, 68, 0, 0, 0, 0, 66}},
     };
     for (size_t i = 0; i < COUNT(rows); i++) {
         uint32_t length = (uint32_t)strlen(rows[i].body);

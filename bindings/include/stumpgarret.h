@@ -93,6 +93,9 @@ enum stumpgarret_answer {
     STUMPGARRET_REFUSAL_PLACE,
     STUMPGARRET_REFUSAL_DETAIL_A,
     STUMPGARRET_REFUSAL_DETAIL_B,
+    STUMPGARRET_REFUSAL_LINE = 6,    /* of 10 to 28: the place's line in the literal's body, from 0;
+                                        a byte 10 ends a line */
+    STUMPGARRET_REFUSAL_COLUMN,      /* and its column in that line, from 0, by characters */
 
     STUMPGARRET_ANSWER_NUMBERS = 12 /* how many */
 };
@@ -107,7 +110,8 @@ enum stumpgarret_sort {
    are met in the order of the literals and their characters; the first wins. 30 and 31 come only
    for input that is otherwise accepted, 30 before 31.
    The literal is that of the first bad one for 4 and 6, of the one being read for 10 to 28, and
-   else 0. Place and details are 0 where nothing is said of them. */
+   else 0. Place and details are 0 where nothing is said of them; line and column are 0 but for 10
+   to 28. */
 enum stumpgarret_refusal {
     STUMPGARRET_ACCEPTED = 0,
     STUMPGARRET_EMPTY_LIST = 1,

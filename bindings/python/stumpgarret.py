@@ -140,6 +140,7 @@ REFUSALS = {
     31: ("too little text room", "{0} records and {1} text bytes are needed"),
 }
 NO_ROOM = (30, 31)
+IN_A_BODY = range(10, 29)
 
 # Why a brace counts as unclosed, by the first detail of 20.
 UNCLOSED = {
@@ -152,15 +153,20 @@ UNCLOSED = {
 
 
 class Refusal(Exception):
-    """The library refused a run: a number of `REFUSALS` and its name, the index of the literal from 0, the place
-    and two details. What has no literal, place or details has 0 there."""
+    """The library refused a run: a number of `REFUSALS` and its name, the index of the literal from 0, the place,
+    two details, and the place's line and column in the literal's body, both from 0. What has no literal, place,
+    details, line or column has 0 there."""
 
-    def __init__(self, number: int, literal: int, place: int, details: tuple[int, int]):
-        super().__init__(number, literal, place, details)
+    def __init__(
+        self, number: int, literal: int, place: int, details: tuple[int, int], line: int = 0, column: int = 0
+    ):
+        super().__init__(number, literal, place, details, line, column)
         self.number = number
         self.literal = literal
         self.place = place
         self.details = details
+        self.line = line
+        self.column = column
 
         self.name, self._said = REFUSALS.get(number, ("unknown to this module", ""))
 
@@ -171,8 +177,15 @@ class Refusal(Exception):
         said = self._said.format(*self.details, unclosed=unclosed)
         return f"{self.number} {self.name}" + (f": {said}" if said else "")
 
+    def position(self, line: int, column: int) -> tuple[int, int]:
+        """Line and column in a script where the literal's body begins at these, from 1."""
+        return line + self.line, self.column + (1 if self.line else column)
+
     def __str__(self) -> str:
-        return f"refused in literal {self.literal} at {self.place}: {self.meaning}"
+        at = f"refused in literal {self.literal} at {self.place}"
+        if self.number in IN_A_BODY:
+            at += ", line {} and column {} of its body".format(*self.position(1, 1))
+        return f"{at}: {self.meaning}"
 
 
 class Unavailable(Exception):
@@ -197,7 +210,7 @@ def read(script: bytes | str, literals: Iterable[Literal]) -> Answer:
     if answer[0] in NO_ROOM:
         answer, words, text = _call(script, numbers, *answer[3:5])
     if answer[0]:
-        raise Refusal(*answer[:3], tuple(answer[3:5]))
+        raise Refusal(*answer[:3], tuple(answer[3:5]), *answer[6:8])
     _, sort, u_mark, start, end, count, _, *_ = answer
     records = (words[at : at + WORDS_OF_A_RECORD] for at in range(0, count * WORDS_OF_A_RECORD, WORDS_OF_A_RECORD))
     return Answer(Sort(sort), bool(u_mark), start, end, tuple(_record(own, records, text) for own in records))
@@ -337,8 +350,8 @@ class ScriptField:
 
 @dataclass(frozen=True)
 class Refused:
-    """Something in a script whose fields are not known. `number` is the library's, and None where the script itself
-    is no Python; `reason` is meant for people."""
+    """Something in a script whose fields are not known. Line and column count from 1, the column by characters.
+    `number` is the library's, and None where the script itself is no Python; `reason` is meant for people."""
 
     line: int
     column: int
@@ -515,13 +528,15 @@ class _Lister:
         first, last = self.position(start)[0], self.position(end)[0]
         lines = f"line {first}" if first == last else f"lines {first} to {last}"
         reason = f"refused: {refusal.meaning}; no field of the literals in {lines} is listed"
-        self.refuse(refusal.place or start, refusal.number, refusal.name, reason)
+        if refusal.number in IN_A_BODY:
+            body = start + run.literals[refusal.literal].offset
+            position = refusal.position(*self.position(body))
+        else:
+            position = self.position(refusal.place or start)
+        self.refused.append(Refused(*position, refusal.number, refusal.name, reason))
 
     def refuse_text(self, error: NoPython, lost: str) -> None:
-        self.refuse(error.place, None, NO_PYTHON, str(error) + lost)
-
-    def refuse(self, place: int, number: int | None, name: str, reason: str) -> None:
-        self.refused.append(Refused(*self.position(place), number, name, reason))
+        self.refused.append(Refused(*self.position(error.place), None, NO_PYTHON, str(error) + lost))
 
     def position(self, place: int) -> tuple[int, int]:
         """The line and column of a place, both from 1."""

@@ -76,10 +76,16 @@ def reads(lent, sort, *records, room=ROOM):
     cases.append((numbers, pieces, answer, words + [FILL_WORD] * room[0], text + bytes([FILL_BYTE] * room[1])))
 
 
-def refuses(lent, number, place, a=0, b=0, literal=0, room=ROOM):
-    """A refusal. `room` is how many words and text bytes are lent."""
+def refuses(lent, number, place, a=0, b=0, literal=0, at=None, room=ROOM):
+    """A refusal. `at` is its line and column: by default the first line, with a column for each byte of the body before the place.
+    `room` is how many words and text bytes are lent."""
     numbers, pieces = lent
-    cases.append((numbers, pieces, [number, literal, place, a, b], [0] * room[0], bytes(room[1])))
+    if 10 <= number <= 28:
+        kind, flag, _, _, start, _ = numbers[6 * literal:6 * literal + 6]
+        line, column = at or (0, place - start - PREFIX[kind] - (3 if flag else 1))
+    else:
+        line, column = 0, 0
+    cases.append((numbers, pieces, [number, literal, place, a, b, 0, line, column], [0] * room[0], bytes(room[1])))
 
 
 def small_readings():
@@ -152,8 +158,8 @@ def escapes():
         refuses(side_by_side((0, body)), 10, 1 + taken)
     for body in (r"\x", r"\x4", r"\x4g", r"\u123", r"\U0011000", r"\U00110000", r"\Uffffffff"):
         refuses(side_by_side((6, body)), 11, 2 + 2)
-    refuses(side_by_side((2, "aé")), 12, 2 + 3)
-    refuses(side_by_side((5, "a"), (2, "\\\u20ac", 1)), 12, 5 + 4 + 4, literal=1)
+    refuses(side_by_side((2, "aé")), 12, 2 + 3, at=(0, 2))
+    refuses(side_by_side((5, "a"), (2, "\\\u20ac", 1)), 12, 5 + 4 + 4, literal=1, at=(0, 2))
     refuses(side_by_side((0, r"\N{degree sign}")), 13, 1 + 3)
     refuses(side_by_side((0, r"\N{" + "A" * 88 + "}")), 13, 1 + 3)
     refuses(side_by_side((0, r"\N{" + "A" * 89 + "}")), 11, 1 + 3 + 90)
@@ -163,20 +169,22 @@ def unclosed():
     for body, place, why in (
             ("{x!", 5, AFTER_BANG), ("{x=!", 6, AFTER_BANG), ("{x:{y!", 8, AFTER_BANG),
             ("{x!r", 6, AFTER_CONVERSION), ("{x!rs", 6, AFTER_CONVERSION), ("{x!s }", 6, AFTER_CONVERSION), ("{x=!a=", 7, AFTER_CONVERSION),
-            ("{x=y}", 6, AFTER_EQUALS), ("{x= \t}", 7, AFTER_EQUALS), ("{x=(!r", 7, AFTER_EQUALS), ("{x=é", 7, AFTER_EQUALS),
+            ("{x=y}", 6, AFTER_EQUALS), ("{x= \t}", 7, AFTER_EQUALS), ("{x=(!r", 7, AFTER_EQUALS),
             ("{x", 4, IN_FIELD), ("a{(", 5, IN_FIELD), ("{(!", 5, IN_FIELD), ("{x=", 5, IN_FIELD), ("{x=  ", 7, IN_FIELD), ("{x:", 5, IN_FIELD),
             ("{x:!", 6, IN_FIELD), ("{x:{", 6, IN_FIELD), ("{x:{y}", 8, IN_FIELD), ("{x!r:>5", 9, IN_FIELD), ("{ {", 5, IN_FIELD),
             ("{", 3, LAST_BRACE), ("{{{", 5, LAST_BRACE), ("{x}{", 6, LAST_BRACE)):
         refuses(fstring(body), 20, place, why)
+    refuses(fstring("{x=é"), 20, 7, AFTER_EQUALS, at=(0, 4))
     refuses(side_by_side((0, "{x!"), (4, "{x!", 1)), 20, 5 + 5 + 3, AFTER_BANG, literal=1)
 
 
 def fields():
     refuses(fstring("{x!x}"), 21, 6)
-    refuses(fstring("{x!é}"), 21, 7)
-    for body, place in (("{}", 4), ("{ \t\n}", 7), ("{!r}", 4), ("{:}", 5), ("{ =}", 6)):
+    refuses(fstring("{x!é}"), 21, 7, at=(0, 4))
+    for body, place in (("{}", 4), ("{ \t}", 6), ("{!r}", 4), ("{:}", 5), ("{ =}", 6)):
         refuses(fstring(body), 22, place)
     blanks()
+    refuses(fstring("{ \t\n}"), 22, 7, at=(1, 1))
     for opener, closer in (("(", "]"), ("[", ")"), ("{", ")"), ("(", "}"), ("[", "}")):
         refuses(fstring("{x" + opener + closer), 23, 6, ord(opener), ord(closer))
     refuses(side_by_side((0, "{"), (4, "{x:{y:{}", 1)), 24, 3 + 5 + 6, literal=1)
@@ -197,27 +205,43 @@ def blanks():
     three = 0x1680, *range(0x2000, 0x200B), 0x2028, 0x2029, 0x202F, 0x205F, 0x3000
     for place, codes in ((6, two), (7, three)):
         for code in codes:
-            refuses(fstring("{" + chr(code) + "}"), 22, place)
-    refuses(fstring("{\t\n\v\f\r \u0085\u00a0\u1680\u2000\u200a\u2028\u2029\u202f\u205f\u3000}"), 22, 2 + 1 + 6 + 2 * 2 + 8 * 3 + 1)
+            refuses(fstring("{" + chr(code) + "}"), 22, place, at=(0, 3))
+    refuses(fstring("{\t\n\v\f\r \u0085\u00a0\u1680\u2000\u200a\u2028\u2029\u202f\u205f\u3000}"), 22, 2 + 1 + 6 + 2 * 2 + 8 * 3 + 1, at=(1, 15))
     # after the `!`, before what follows it is looked at; at the `}`, after the spec was read; in a field of a spec
-    refuses(fstring("{\u00a0!r}"), 22, 6)
-    refuses(fstring("{\u00a0!x}"), 22, 6)
-    refuses(fstring("{\u3000:>5}"), 22, 10)
-    refuses(fstring("{\u3000:{y!x}}"), 21, 11)
-    refuses(fstring("{\u00a0=}"), 22, 7)
-    refuses(fstring("{ \u2003= :}"), 22, 11)
-    refuses(fstring("{x:{\u00a0}}"), 22, 9)
-    refuses(side_by_side((1, "{x}"), (4, "{\u3000}", 1)), 22, 6 + 5 + 5, literal=1)
+    refuses(fstring("{\u00a0!r}"), 22, 6, at=(0, 3))
+    refuses(fstring("{\u00a0!x}"), 22, 6, at=(0, 3))
+    refuses(fstring("{\u3000:>5}"), 22, 10, at=(0, 6))
+    refuses(fstring("{\u3000:{y!x}}"), 21, 11, at=(0, 7))
+    refuses(fstring("{\u00a0=}"), 22, 7, at=(0, 4))
+    refuses(fstring("{ \u2003= :}"), 22, 11, at=(0, 7))
+    refuses(fstring("{x:{\u00a0}}"), 22, 9, at=(0, 6))
+    refuses(side_by_side((1, "{x}"), (4, "{\u3000}", 1)), 22, 6 + 5 + 5, literal=1, at=(0, 3))
     # where the expression is not blank, and where blanks are not asked for
     reads(fstring("{\u00a0x\u3000}"), JOINED, field("\u00a0x\u3000", 3))
     reads(fstring("{\u00a0==}"), JOINED, field("\u00a0==", 3))
     reads(fstring("{\u00a0''!r}"), JOINED, field("\u00a0''", 3, "r"))
     reads(fstring("{x:\u00a0}"), JOINED, field("x", 3, parts=1), spec(1), part("\u00a0"))
-    refuses(fstring("{x=\u00a0}"), 20, 7, 3)
-    refuses(fstring("{x!\u00a0}"), 21, 7)
+    refuses(fstring("{x=\u00a0}"), 20, 7, AFTER_EQUALS, at=(0, 4))
+    refuses(fstring("{x!\u00a0}"), 21, 7, at=(0, 4))
     for code in (0x08, 0x0E, 0x1C, 0x1D, 0x1E, 0x1F, 0x84, 0x86, 0x9F, 0xA1, 0x167F, 0x1681, 0x180E, 0x1FFF, 0x200B, 0x2027, 0x202A, 0x202E, 0x2030, 0x205E,
                  0x2060, 0x2FFF, 0x3001, 0xFEFF):
         reads(fstring("{" + chr(code) + "}"), JOINED, field(chr(code), 3))
+
+
+def lines():
+    """02, item 7: line and column from the opening of a literal's body."""
+    refuses(side_by_side((1, "a\n}", 1)), 25, 4 + 3, at=(1, 1))
+    refuses(side_by_side((1, "\n\né\n\U0001f600é{!}", 1)), 22, 4 + 13, at=(3, 4))
+    refuses(side_by_side((1, "é\n{x!\n}", 1)), 21, 4 + 7, at=(2, 0))            # at a line's start
+    refuses(side_by_side((1, "{x:{y:\n{z}}}", 1)), 24, 4 + 7, at=(1, 0))
+    refuses(side_by_side((1, "a\r\n\r}", 1)), 25, 4 + 5, at=(1, 2))              # byte 13 ends no line
+    refuses(side_by_side((0, "é\\\n\\x4")), 11, 1 + 6, at=(1, 2))                 # after backslash and newline
+    refuses(side_by_side((0, "\\\n\\")), 10, 1 + 3, at=(1, 1))
+    refuses(side_by_side((2, "\n\n\u20ac", 1)), 12, 4 + 5, at=(2, 1))
+    refuses(side_by_side((1, "{'\n''"), (0, "\n")), 27, 2 + 5, at=(1, 2))
+    refuses(side_by_side((1, "{x=\n"), (0, "")), 20, 2 + 4, AFTER_EQUALS, at=(1, 0))
+    refuses(side_by_side((0, "\né\n"), (1, "é\n{", 1), (0, "\n\n}")), 20, 6 + 4 + 4, LAST_BRACE, literal=1, at=(1, 1))
+    refuses(side_by_side((0, "\n\n"), (1, "a}")), 25, 4 + 2 + 2, literal=1, at=(0, 2))
 
 
 def room():
@@ -275,7 +299,7 @@ def files():
 
 
 def fill_cases():
-    for rows in (small_readings, two_literals, entry_checks, escapes, unclosed, fields, room, limits):
+    for rows in (small_readings, two_literals, entry_checks, escapes, unclosed, fields, lines, room, limits):
         rows()
     met = {answer[0] for _, _, answer, _, _ in cases}
     assert met == NUMBERS | {0}, met

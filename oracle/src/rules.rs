@@ -5,6 +5,8 @@
 //!   to the place it looks for, since an earlier refusal wins over 28.
 //! * Why a brace counts as unclosed, the first detail of 20, is found by the same scan. The Rust
 //!   gives number and place, and the detail is added only if the scan comes to the same place.
+//! * Line and column of 10 to 28, which document 02 adds, are counted in the characters of the
+//!   refused body before the place.
 //! * 30 and 31 compare an acceptance with the room that is lent.
 
 use std::ops::Range;
@@ -43,15 +45,32 @@ pub fn reading(script: &[u8], list: &[u32]) -> Outcome {
     let (literals, ranges) = descriptors(script, list)?;
     check_size(&ranges)?;
     let bodies = well_formed_bodies(script, &literals, &ranges)?;
-    let outcome = rust::read(&literals, &bodies)
-        .map_err(|refusal| with_reason(&literals, &bodies, refusal));
-    let Some(bracket) = first_65th_bracket(&literals, &bodies) else {
+    reading_of_bodies(&literals, &bodies).map_err(|refusal| with_line(refusal, &literals, &bodies))
+}
+
+fn reading_of_bodies(literals: &[Literal], bodies: &[String]) -> Outcome {
+    let outcome = rust::read(literals, bodies)
+        .map_err(|refusal| with_reason(literals, bodies, refusal));
+    let Some(bracket) = first_65th_bracket(literals, bodies) else {
         return outcome;
     };
     match outcome {
         Err(refusal) if comes_before(&refusal, &bracket) => Err(refusal),
         _ => Err(bracket),
     }
+}
+
+/// Line and column of a refusal in a body, from 0: how often its text up to the place has a line
+/// end, and how many characters follow the last one.
+fn with_line(refusal: Refusal, literals: &[Literal], bodies: &[String]) -> Refusal {
+    if !(10..=28).contains(&refusal.number) {
+        return refusal;
+    }
+    let literal = refusal.literal as usize;
+    let taken = refusal.place - literals[literal].place(0);
+    let lines: Vec<&str> = bodies[literal][..taken as usize].split('\n').collect();
+    let column = lines[lines.len() - 1].chars().count();
+    Refusal { line: lines.len() as u32 - 1, column: column as u32, ..refusal }
 }
 
 /// What the Rust itself gives, on its domain or off it, for a list of sound literals.

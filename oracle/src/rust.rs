@@ -40,7 +40,7 @@ fn refusal(literals: &[Literal], bodies: &[String], error: LexicalError) -> Refu
         LexicalErrorType::FStringError(error) => fstring_number(error),
         LexicalErrorType::OtherError(words) => (other_number(&words), [0, 0]),
     };
-    Refusal { number, literal: literal as u32, place, details }
+    Refusal { details, ..Refusal::new(number, literal, place) }
 }
 
 /// The literal that a refusal's place lies in. An opening has at least one byte and bodies

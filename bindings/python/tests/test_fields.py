@@ -170,6 +170,23 @@ class Refusals(unittest.TestCase):
     def test_place(self):
         self.assertEqual(refused("f'{a}'\nx = ('é'\n  f'{b}' f'é}')\nf'{c}'"), (["a", "c"], [(3, 14, 25)]))
 
+    def test_line_and_column(self):
+        for source, place in (
+            ("f'}'", (1, 4)),
+            ("\n\n  é = f'é}'", (3, 11)),
+            ("x = f'''é\n\n  é}\n'''", (3, 5)),
+            ("x = f'''é\n{y!\n}'''", (3, 1)),
+            ("x = 'é\\\n\\x4'", (2, 3)),
+            ("x = ('é'\n     \"\"\"\n\n\"\"\" f'''\n😀{}''')", (5, 4)),
+            ("é = f'''{\nf(f\"\"\"{é}\n}\"\"\")}'''", (3, 2)),
+            ("x = f'{g(\"é\", f\"{(]}\")}'", (1, 20)),
+            ("é = f'''\n{x:\né{y:{z}}}'''", (3, 5)),
+            ("x = 1\r\nf'''é\r\n\r\n é}'''\r\n", (4, 4)),
+        ):
+            with self.subTest(source=source):
+                _, ((*found, _),) = refused(source)
+                self.assertEqual(tuple(found), place)
+
     def test_name_and_reason(self):
         with self.assertRaises(Incomplete) as caught:
             fields("(f'{a}'\n '\\N{SNOWMAN}')", "bench.py")

@@ -89,7 +89,8 @@ class Rows(unittest.TestCase):
         with self.assertRaises(Refusal) as caught:
             read(script, literals)
         refusal = caught.exception
-        self.assertEqual([refusal.number, refusal.literal, refusal.place, *refusal.details], answer)
+        numbers = [refusal.number, refusal.literal, refusal.place, *refusal.details, 0, refusal.line, refusal.column]
+        self.assertEqual(numbers, answer)
 
     def test_numbers(self):
         self.assertEqual(set(stumpgarret.REFUSALS), expected.NUMBERS)
@@ -123,7 +124,8 @@ class Answers(unittest.TestCase):
             read("{(]}", [Literal(1, False, 0, 4, 0, 7)])
         refusal = caught.exception
         self.assertEqual(refusal.name, "MismatchedDelimiter")
-        self.assertEqual(str(refusal), "refused in literal 0 at 5: 23 MismatchedDelimiter: ( is closed by ]")
+        text = "refused in literal 0 at 5, line 1 and column 4 of its body: 23 MismatchedDelimiter: ( is closed by ]"
+        self.assertEqual(str(refusal), text)
         self.assertEqual(str(pickle.loads(pickle.dumps(refusal))), str(refusal))
 
     def test_unclosed(self):
@@ -139,9 +141,19 @@ class Answers(unittest.TestCase):
             self.assertEqual(caught.exception.meaning, f"20 UnclosedLbrace: {why}")
         self.assertEqual(set(stumpgarret.UNCLOSED), set(expected.REASONS))
 
+    def test_line_and_column(self):
+        body = "é\n\né{}"
+        with self.assertRaises(Refusal) as caught:
+            read(2 * body, [Literal(0, True, 0, 8, 0, 14), Literal(1, True, 8, 8, 20, 35)])
+        refusal = caught.exception
+        self.assertEqual((refusal.literal, refusal.place, refusal.line, refusal.column), (1, 32, 2, 3))
+        self.assertRegex(str(refusal), "^refused in literal 1 at 32, line 3 and column 4 of its body: 22 ")
+        self.assertEqual(refusal.position(10, 5), (12, 4))
+        self.assertEqual(Refusal(25, 0, 4, (0, 0), 0, 2).position(10, 5), (10, 7))
+
     def test_every_refusal_has_words(self):
         for number in stumpgarret.REFUSALS:
-            self.assertRegex(str(Refusal(number, 0, 3, (40, 41))), f"^refused in literal 0 at 3: {number} [^{{}}]+")
+            self.assertRegex(str(Refusal(number, 0, 3, (40, 41))), f"^refused in literal 0 at 3.*: {number} [^{{}}]+")
         self.assertRegex(str(Refusal(99, 0, 3, (0, 0))), ": 99 unknown to this module$")
 
     def test_numbers_too_large(self):

@@ -28,20 +28,23 @@
 //! # Ok::<(), stumpgarret::Refusal>(())
 //! ```
 //!
-//! A refusal names its reason, the literal and the place:
+//! A refusal names its reason, the literal and the place, and the place's line and column in the
+//! literal's body:
 //!
 //! ```
 //! use stumpgarret::{parse_strings, Literal, Reason, StringKind};
 //!
-//! let script = "'a' f'{(]}'";
+//! let script = "'a' f'''µ\n{(]}'''";
 //! let literals = [
 //!     Literal::within(StringKind::String, false, 0..3),
-//!     Literal::within(StringKind::FString, false, 4..11),
+//!     Literal::within(StringKind::FString, true, 4..script.len()),
 //! ];
 //! let refusal = parse_strings(script, &literals).unwrap_err();
 //! assert_eq!(refusal.reason(), &Reason::MismatchedDelimiter('(', ']'));
-//! assert_eq!((refusal.number(), refusal.literal(), refusal.place()), (23, 1, 9));
-//! assert_eq!(refusal.to_string(), "'(' is met by ']' (refusal 23, literal 1, place 9)");
+//! assert_eq!((refusal.number(), refusal.literal(), refusal.place()), (23, 1, 14));
+//! assert_eq!((refusal.line(), refusal.column()), (1, 3));
+//! let text = "'(' is met by ']' (refusal 23, literal 1, place 14, line 1, column 3)";
+//! assert_eq!(refusal.to_string(), text);
 //! ```
 
 mod answer;

@@ -147,6 +147,8 @@ pub struct Refusal {
     reason: Reason,
     literal: usize,
     place: usize,
+    line: usize,
+    column: usize,
 }
 
 impl Refusal {
@@ -171,14 +173,28 @@ impl Refusal {
         self.place
     }
 
+    /// The place's line in the literal's body, from 0: how many line ends (byte 10) stand before it
+    /// there; 0 for a refusal that is not met in a body.
+    pub fn line(&self) -> usize {
+        self.line
+    }
+
+    /// The place's column in the literal's body, from 0: how many characters stand before it there
+    /// since the last line end; 0 for a refusal that is not met in a body.
+    pub fn column(&self) -> usize {
+        self.column
+    }
+
     pub(crate) fn new(answer: [u32; call::ANSWER]) -> Refusal {
-        let [number, literal, place, ..] = answer;
+        let [number, literal, place, _, _, _, line, column, ..] = answer;
         let reason = reason(answer).unwrap_or(Reason::UnknownAnswer);
-        Refusal { number, reason, literal: literal as usize, place: place as usize }
+        let [literal, place, line, column] = [literal, place, line, column].map(|n| n as usize);
+        Refusal { number, reason, literal, place, line, column }
     }
 
     pub(crate) fn unknown() -> Refusal {
-        Refusal { number: 0, reason: Reason::UnknownAnswer, literal: 0, place: 0 }
+        let reason = Reason::UnknownAnswer;
+        Refusal { number: 0, reason, literal: 0, place: 0, line: 0, column: 0 }
     }
 }
 
@@ -213,8 +229,12 @@ fn reason([number, _, _, a, b, ..]: [u32; call::ANSWER]) -> Option<Reason> {
 
 impl fmt::Display for Refusal {
     fn fmt(&self, f: &mut fmt::Formatter<'_>) -> fmt::Result {
-        let Refusal { number, reason, literal, place } = self;
-        write!(f, "{} (refusal {}, literal {}, place {})", reason, number, literal, place)
+        let Refusal { number, reason, literal, place, line, column } = self;
+        write!(f, "{} (refusal {}, literal {}, place {}", reason, number, literal, place)?;
+        match number {
+            10..=28 => write!(f, ", line {}, column {})", line, column),
+            _ => f.write_str(")"),
+        }
     }
 }
 
@@ -235,9 +255,10 @@ mod tests {
     #[test]
     fn an_unknown_number_is_said_to_be_so() {
         for number in [8, 14, 29, 32, u32::MAX] {
-            let refusal = Refusal::new([number, 1, 2, 3, 4, 0, 0, 0, 0, 0, 0, 0]);
+            let refusal = Refusal::new([number, 1, 2, 3, 4, 5, 6, 7, 0, 0, 0, 0]);
             assert_eq!((refusal.number(), refusal.reason()), (number, &Reason::UnknownAnswer));
             assert_eq!((refusal.literal(), refusal.place()), (1, 2));
+            assert_eq!((refusal.line(), refusal.column()), (6, 7));
         }
     }
 

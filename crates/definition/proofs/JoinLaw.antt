@@ -9,8 +9,8 @@ use borrow.Author.Tests.{le-ltb}
 use Rattle.definition.specs.Escapes.{Read, got, refused}
 use Rattle.definition.specs.Body.{Piece, readBody}
 use Rattle.definition.specs.Records.{Item, Answer, answerOf}
-use Rattle.definition.specs.Entry.{Literal, oneMore, sixes, body, refusal, firstStart, entry}
-use Rattle.definition.specs.Reading.{Outcome, accepts, refuses, readLiteral, andThen, readFrom, sortOf, uMark, lastEnd, answered, read, outcomeOf, roomFor, roomed, called, readInto, readNumbers}
+use Rattle.definition.specs.Entry.{Literal, oneMore, sixes, body, firstStart, entry}
+use Rattle.definition.specs.Reading.{Outcome, accepts, refuses, refusalIn, readLiteral, andThen, readFrom, sortOf, uMark, lastEnd, answered, read, outcomeOf, roomFor, roomed, called, readInto, readNumbers}
 use Rattle.definition.specs.Join.{shifted, joinOutcomes, Enough}
 use Rattle.definition.proofs.Laid.{answer-append}
 use Rattle.definition.proofs.EntrySplit.{entry-left, entry-right, sort-append}
@@ -21,7 +21,7 @@ shift n (accepts xs) = accepts xs
 shift n (refuses r) = refuses (shifted n r)
 
 shift-literal : (script : List ℕ) (n i : ℕ) (l : Literal) → readLiteral script (n + i) l ≡ shift n (readLiteral script i l)
-unfolding readLiteral shift shifted refusal
+unfolding refusalIn readLiteral shift shifted
 shift-literal script n i l = go (readBody (l .kind) (body script l)) refl
   where
     go : (r : Read (List Piece)) → readBody (l .kind) (body script l) ≡ r → readLiteral script (n + i) l ≡ shift n (readLiteral script i l)

@@ -6,6 +6,8 @@ pub mod Laid
 pub mod EntrySplit
 pub mod JoinLaw
 pub mod CharLaws
+pub mod Counted
+pub mod Placed
 pub mod Cases
 pub mod Moves
 pub mod Steps

@@ -8,13 +8,13 @@ use native.Mathlib.Omega.{arith}
 use lib.Dec.{T, ltb, leb}
 use lib.ListN.{length, drop, length-append, length-drop, length-replicate}
 use borrow.Author.Tests.{ltb-false}
-use Rattle.definition.specs.Numbers.{isBytes, refusals, _among_, ofEntry, ofBody, tooManyLiterals, badDescriptor, bodiesTooLong, notUtf8, mixedBytes}
+use Rattle.definition.specs.Numbers.{isBytes, emptyList, refusals, _among_, ofEntry, ofBody, tooManyLiterals, badDescriptor, bodiesTooLong, notUtf8, mixedBytes}
 use Rattle.definition.specs.Chars.{if_then_else_}
 use Rattle.definition.specs.Escapes.{Read, got, refused}
 use Rattle.definition.specs.Body.{Piece, readBody}
 use Rattle.definition.specs.Records.{Item, Record, wordsOf, merged, texts, recordAt, laid, cover, Answer, answerOf}
 use Rattle.definition.specs.Entry.{Literal, sixes, placeOf, body, Refusal, refusal, notEmpty, notMany, firstBad, bad, allGood, total, notLong, formed, illFormed, allUtf8, anyOf, firstStart, notMixed, firstOf, entry}
-use Rattle.definition.specs.Reading.{Outcome, accepts, refuses, readLiteral, andThen, readFrom, uMark, lastEnd, answered, read, outcomeOf, roomFor, roomed, allWords, inFront, wordsAfter, textAfter, Call, called, readInto, readNumbers}
+use Rattle.definition.specs.Reading.{Outcome, accepts, refuses, refusalIn, readLiteral, andThen, readFrom, uMark, lastEnd, answered, read, outcomeOf, roomFor, roomed, allWords, inFront, wordsAfter, textAfter, Call, called, readInto, readNumbers}
 use Rattle.definition.proofs.Moves.{detailed, OfBody, Sound}
 use Rattle.definition.proofs.Fuel.{body-reading}
 
@@ -47,59 +47,64 @@ body-listed r h = among-them (leb 10 (r .number) && leb (r .number) 28) (r .numb
 entry-listed : (r : Refusal) → OfEntry r → Listed r
 entry-listed r h = among-them (leb (r .number) 7) (r .number among refusals) (detailed (r .number) (r .a) (r .b)) h
 
--- a check's refusal, if there is one
-abbrev Refusing : Option Refusal → Type 0
-Refusing none = Unit {0}
-Refusing (some r) = OfEntry r
+-- THE ENTRY CHECKS: what holds of each refusal that has one of their numbers and no details holds of a check's, if there is one
+module _ (P : Refusal → Type 0) where
+  abbrev pub Refusing : Option Refusal → Type 0
+  Refusing none = Unit {0}
+  Refusing (some r) = P r
 
-by-test : (t : Bool) (r : Refusal) → OfEntry r → Refusing (if t then some r else none)
-by-test true r h = h
-by-test false r h = tt
+  by-test : (t : Bool) (r : Refusal) → P r → Refusing (if t then some r else none)
+  by-test true r h = h
+  by-test false r h = tt
 
-by-literal : (test : ℕ → Literal → Bool) (why : ℕ → Literal → Refusal) → ((i : ℕ) (l : Literal) → OfEntry (why i l))
-    → (previous i : ℕ) (ls : List Literal) → Refusing (firstBad test why previous i ls)
-unfolding firstBad
-by-literal test why h previous i [] = tt
-by-literal test why h previous i (l ∷ ls) = go (test previous l) refl (by-literal test why h (l .end) (suc i) ls)
-  where
-    go : (t : Bool) → test previous l ≡ t → Refusing (firstBad test why (l .end) (suc i) ls) → Refusing (firstBad test why previous i (l ∷ ls))
-    go true e p = rw (e, firstBad) (h i l)
-    go false e p = rw (e, firstBad) p
+  by-literal : (test : ℕ → Literal → Bool) (why : ℕ → Literal → Refusal) → ((i : ℕ) (l : Literal) → P (why i l))
+      → (previous i : ℕ) (ls : List Literal) → Refusing (firstBad test why previous i ls)
+  unfolding firstBad
+  by-literal test why h previous i [] = tt
+  by-literal test why h previous i (l ∷ ls) = go (test previous l) refl (by-literal test why h (l .end) (suc i) ls)
+    where
+      go : (t : Bool) → test previous l ≡ t → Refusing (firstBad test why (l .end) (suc i) ls) → Refusing (firstBad test why previous i (l ∷ ls))
+      go true e p = rw (e, firstBad) (h i l)
+      go false e p = rw (e, firstBad) p
 
-abbrev AllRefusing : List (Option Refusal) → Type 0
-AllRefusing [] = Unit {0}
-AllRefusing (c ∷ cs) = Refusing c × AllRefusing cs
+  abbrev AllRefusing : List (Option Refusal) → Type 0
+  AllRefusing [] = Unit {0}
+  AllRefusing (c ∷ cs) = Refusing c × AllRefusing cs
 
-first-numbered : (cs : List (Option Refusal)) → AllRefusing cs → Refusing (firstOf cs)
-unfolding firstOf
-first-numbered [] h = tt
-first-numbered (none ∷ cs) h = first-numbered cs (h .1)
-first-numbered (some r ∷ cs) h = h .0
+  by-first : (cs : List (Option Refusal)) → AllRefusing cs → Refusing (firstOf cs)
+  unfolding firstOf
+  by-first [] h = tt
+  by-first (none ∷ cs) h = by-first cs (h .1)
+  by-first (some r ∷ cs) h = h .0
 
-some-literal : (ls : List Literal) → Refusing (notEmpty ls)
-unfolding notEmpty refusal
-some-literal [] = tt
-some-literal (l ∷ ls) = tt
+  module _ (h : (n i place : ℕ) → OfEntry (refusal n i place 0 0) → P (refusal n i place 0 0)) where
+    some-literal : (ls : List Literal) → Refusing (notEmpty ls)
+    unfolding notEmpty refusal
+    some-literal [] = h emptyList 0 0 tt
+    some-literal (l ∷ ls) = tt
 
-entry-numbered : (script : List ℕ) (ls : List Literal) → Refusing (entry script ls)
-unfolding entry notMany allGood notLong allUtf8 notMixed refusal
-entry-numbered script ls =
-    first-numbered (notEmpty ls ∷ notMany ls ∷ allGood script ls ∷ notLong ls ∷ allUtf8 script ls ∷ notMixed ls ∷ []) (
-      some-literal ls,
-      (
-        by-test (ltb 1024 (length ls)) (refusal tooManyLiterals 0 0 0 0) tt,
-        (
-          by-literal (bad script) (λ i l. refusal badDescriptor i 0 0 0) (λ i l. tt) 0 0 ls,
+    pub entry-refusing : (script : List ℕ) (ls : List Literal) → Refusing (entry script ls)
+    unfolding entry notMany allGood notLong allUtf8 notMixed refusal
+    entry-refusing script ls =
+        by-first (notEmpty ls ∷ notMany ls ∷ allGood script ls ∷ notLong ls ∷ allUtf8 script ls ∷ notMixed ls ∷ []) (
+          some-literal ls,
           (
-            by-test (ltb 1048576 (total ls)) (refusal bodiesTooLong 0 0 0 0) tt,
+            by-test (ltb 1024 (length ls)) (refusal tooManyLiterals 0 0 0 0) (h tooManyLiterals 0 0 tt),
             (
-              by-literal (illFormed script) (λ i l. refusal notUtf8 i (placeOf l (formed script l)) 0 0) (λ i l. tt) 0 0 ls,
-              (by-test (anyOf isBytes ls && anyOf (λ kind. not (isBytes kind)) ls) (refusal mixedBytes 0 (firstStart ls) 0 0) tt, tt),
+              by-literal (bad script) (λ i l. refusal badDescriptor i 0 0 0) (λ i l. h badDescriptor i 0 tt) 0 0 ls,
+              (
+                by-test (ltb 1048576 (total ls)) (refusal bodiesTooLong 0 0 0 0) (h bodiesTooLong 0 0 tt),
+                (
+                  by-literal (illFormed script) (λ i l. refusal notUtf8 i (placeOf l (formed script l)) 0 0) (λ i l. h notUtf8 i (placeOf l (formed script l)) tt) 0 0 ls,
+                  (by-test (anyOf isBytes ls && anyOf (λ kind. not (isBytes kind)) ls) (refusal mixedBytes 0 (firstStart ls) 0 0) (h mixedBytes 0 (firstStart ls) tt), tt),
+                ),
+              ),
             ),
           ),
-        ),
-      ),
-    )
+        )
+
+entry-numbered : (script : List ℕ) (ls : List Literal) → Refusing OfEntry (entry script ls)
+entry-numbered script ls = entry-refusing OfEntry (λ n i place h. h) script ls
 
 -- a body's refusal
 abbrev FromBody : {A : Type 0} → Outcome A → Type 0
@@ -107,7 +112,7 @@ FromBody (accepts x) = Unit {0}
 FromBody (refuses r) = OfBody [] (r .number) (r .a) (r .b)
 
 literal-body : (script : List ℕ) (i : ℕ) (l : Literal) → FromBody (readLiteral script i l)
-unfolding readLiteral refusal
+unfolding refusalIn readLiteral
 literal-body script i l = go (readBody (l .kind) (body script l)) refl (body-reading (l .kind) (body script l) .0)
   where
     go : (r : Read (List Piece)) → readBody (l .kind) (body script l) ≡ r → Sound (body script l) 0 r → FromBody (readLiteral script i l)
@@ -139,7 +144,7 @@ pub read-numbered : (script : List ℕ) (ls : List Literal) → Numbered (entry 
 unfolding read
 read-numbered script ls = go (entry script ls) refl (entry-numbered script ls)
   where
-    go : (c : Option Refusal) → entry script ls ≡ c → Refusing c → Numbered c (read script ls)
+    go : (c : Option Refusal) → entry script ls ≡ c → Refusing OfEntry c → Numbered c (read script ls)
     go none e h = rw (e, read) (answered-body ls (readFrom script 0 ls) (from-body script 0 ls))
     go (some r) e h = (h, rw (e, read) refl)
 
@@ -189,7 +194,7 @@ pub read-sane : (script : List ℕ) (ls : List Literal) → Sane (read script ls
 unfolding read
 read-sane script ls = go (entry script ls) refl (entry-numbered script ls)
   where
-    go : (c : Option Refusal) → entry script ls ≡ c → Refusing c → Sane (read script ls)
+    go : (c : Option Refusal) → entry script ls ≡ c → Refusing OfEntry c → Sane (read script ls)
     go none e h = rw (e, read) (answered-sane ls (readFrom script 0 ls) (from-body script 0 ls))
     go (some r) e h = rw (e, read) (entry-listed r h)
 

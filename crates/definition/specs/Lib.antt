@@ -1,5 +1,6 @@
 pub mod Numbers
 pub mod Chars
+pub mod Counts
 pub mod Escapes
 pub mod Body
 pub mod Records

@@ -3,13 +3,12 @@ use mathlib.Core.Path.{_≡_, sym, ap}
 use Prim.Native.Nat.{ℕ}
 use native.Mathlib.Omega.{arith}
 use Rattle.definition.specs.Entry as d
-use Rattle.definition.specs.Entry.{refusal}
 use Rattle.definition.specs.Reading.{Outcome, accepts, refuses}
 use Rattle.entry.specs.declared.Descriptor.{Descriptor}
 use Rattle.entry.specs.declared.Refusal.{Refusal}
 use Rattle.entry.specs.declared.Checked.{Checked}
 use Rattle.entry.specs.declared.Checked.the-variants.{Passed, Refused}
-use Rattle.entry.specs.Answers.{described, says}
+use Rattle.entry.specs.Answers.{described, refusalOf, says}
 
 pub described-one : (l m : Descriptor) → described l ≡ described m → l ≡ m
 unfolding described
@@ -19,9 +18,9 @@ described-one l m e =
 differ : {P : Type 0} (n : ℕ) (r : d.Refusal) → accepts n ≡ refuses r → P
 differ n r e = let z : _≡_ {A = ℕ} 0 1 = cc in absurd (omega arith)
 
-refusal-one : (r r′ : Refusal) → refusal (r .number) (r .literal) (r .place) (r .a) (r .b) ≡ refusal (r′ .number) (r′ .literal) (r′ .place) (r′ .a) (r′ .b) → r ≡ r′
-unfolding refusal
-refusal-one r r′ e = λ i. record { number = e i .number; literal = e i .literal; place = e i .place; a = e i .a; b = e i .b }
+refusal-one : (r r′ : Refusal) → refusalOf r ≡ refusalOf r′ → r ≡ r′
+refusal-one r r′ e =
+    λ i. record { number = e i .number; literal = e i .literal; place = e i .place; a = e i .a; b = e i .b; line = e i .line; column = e i .column }
 
 pub says-one : (r r′ : Checked) → says r ≡ says r′ → r ≡ r′
 says-one (Passed n) (Passed m) e = let s : n ≡ m = cc in ap Passed s

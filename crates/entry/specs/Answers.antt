@@ -5,9 +5,11 @@ use mathlib.Core.List.{List, [], _∷_}
 use mathlib.Core.Option.{Option, none, some}
 use lib.ListN.{length}
 use Rattle.definition.specs.Numbers.{isFString, isBytes, notSixes}
-use Rattle.definition.specs.Entry.{Literal, sixes, Refusal, refusal, allGood, notLong, allUtf8, notMixed, firstOf, entry}
+use Rattle.definition.specs.Entry.{Literal, sixes, refusal, allGood, notLong, allUtf8, notMixed, firstOf, entry}
+use Rattle.definition.specs.Entry as d
 use Rattle.definition.specs.Reading.{Outcome, accepts, refuses, outcomeOf}
 use Rattle.entry.specs.declared.Descriptor.{Descriptor}
+use Rattle.entry.specs.declared.Refusal.{Refusal}
 use Rattle.entry.specs.declared.Checked.{Checked}
 use Rattle.entry.specs.declared.Checked.the-variants.{Passed, Refused}
 use Rattle.entry.specs.declared.Class.{Class}
@@ -17,13 +19,18 @@ use Rattle.entry.specs.declared.Class.the-variants.{FStrings, Bytes, Oth
 unfoldable pub described : Descriptor → Literal
 described l = record { kind = l .kind; triple = l .triple; offset = l .offset; size = l .size; start = l .start; end = l .end }
 
+-- the definition's refusal
+abbrev pub refusalOf : Refusal → d.Refusal
+refusalOf r =
+    record { number = r .number; literal = r .literal; place = r .place; a = r .a; b = r .b; line = r .line; column = r .column }
+
 -- how many literals passed, or the refusal
 abbrev pub says : Checked → Outcome ℕ
 says (Passed n) = accepts n
-says (Refused r) = refuses (refusal (r .number) (r .literal) (r .place) (r .a) (r .b))
+says (Refused r) = refuses (refusalOf r)
 
 -- 4 to 7, in that order
-unfoldable pub laterChecks : List ℕ → List Literal → Option Refusal
+unfoldable pub laterChecks : List ℕ → List Literal → Option d.Refusal
 laterChecks script ls = firstOf (allGood script ls ∷ notLong ls ∷ allUtf8 script ls ∷ notMixed ls ∷ [])
 
 -- 1 to 7, of flat numbers

@@ -20,13 +20,15 @@ pub struct Descriptor {
     pub end: u32,
 }
 
-// A refusal: its number, the literal's index from 0, the place, two details.
+// A refusal: its number, the literal's index from 0, the place, two details, and the place's line and column in the literal's body.
 pub struct Refusal {
     pub number: u32,
     pub literal: u32,
     pub place: u32,
     pub a: u32,
     pub b: u32,
+    pub line: u32,
+    pub column: u32,
 }
 
 // What a check says: how many literals passed, or the refusal.
@@ -121,6 +123,8 @@ fn refuse(number: u32, literal: u32, place: u32) -> Checked
         place,
         a: 0,
         b: 0,
+        line: 0,
+        column: 0,
     })
 }
 
@@ -303,6 +307,8 @@ fn short(number: u32, records: u32, used: u32) -> Checked
         place: 0,
         a: records,
         b: used,
+        line: 0,
+        column: 0,
     })
 }
 

@@ -16,6 +16,7 @@ use Rattle.buffers.specs.Over.{over}
 use Rattle.buffers.proofs.Over.{length-over, over-front}
 use Rattle.entry.specs.Literals.{literals}
 use Rattle.entry.specs.declared.Refusal.{Refusal}
+use Rattle.entry.specs.Answers.{refusalOf}
 use Rattle.entry.proofs.Checks.{room-enough}
 use Rattle.entry.proofs.Passed.{Passed, passed-reads}
 use Rattle.strings.specs.declared.Outcome.{Outcome}
@@ -109,14 +110,14 @@ same-text {x} {words₀} {text₀} h = ap length (h .text-is) ∙ length-over te
 
 -- the definition's refusal of a refusal
 abbrev why : Refusal → o.Outcome Answer
-why x = refuses (refusal (x .number) (x .literal) (x .place) (x .a) (x .b))
+why x = refuses (refusalOf x)
 
 -- A REFUSED CALL: it is answered, and both buffers are zeros
 module _ (words text words₁ text₁ words′ text′ : List ℕ) (x : Refusal) (r : Outcome) where
   pub refused-call : (call : Call) → call ≡ called (why x) words text → length words₁ ≡ length words → length text₁ ≡ length text
       → (r ≡ Refused x) × (words′ ≡ zeros words₁) × (text′ ≡ zeros text₁)
       → CallIs call words′ text′ r
-  unfolding called wordsAfter textAfter numbers refusal
+  unfolding called wordsAfter textAfter numbers
   refused-call call e lw lt h =
       rw e
       record { answer = rw (h .0) refl; words = h .1 ∙ ap (λ n. replicate n 0) lw; text = h .2 ∙ ap (λ n. replicate n 0) lt }
@@ -149,7 +150,7 @@ Finished w ls words text k W T r =
     → CallIs (called (roomed (length words₀) (length text₀) (answered ls (accepts xs))) words₀ text₀) W T r
 
 module _ (w : Whole) (ls : List Literal) (words text words′ : List ℕ) (k a : Sink) (closing : (T : List ℕ) → outOf a words′ T ≡ closed (wholeOf w) (outOf k words T)) where
-  pub finish-short : (y : Refusal) (W T : List ℕ) (r : Outcome) → roomFor (length words′ / 8) (length text) (a .count) (a .used) ≡ some (refusal (y .number) (y .literal) (y .place) (y .a) (y .b))
+  pub finish-short : (y : Refusal) (W T : List ℕ) (r : Outcome) → roomFor (length words′ / 8) (length text) (a .count) (a .used) ≡ some (refusalOf y)
       → (r ≡ Refused y) × (W ≡ zeros words′) × (T ≡ zeros text) → Finished w ls words text k W T r
   unfolding answered outcomeOf
   finish-short y W T r n v role xs words₀ text₀ c t p h =
@@ -169,7 +170,7 @@ module _ (script ns : List ℕ) (n : ℕ) (words text : List ℕ) (P : Passed sc
   abbrev ls : List Literal
   ls = literals ns 0 n
 
-  pub refused-list : (x : Refusal) → readFrom script 0 ls ≡ refuses (refusal (x .number) (x .literal) (x .place) (x .a) (x .b)) → readNumbers script ns words text ≡ called (why x) words text
+  pub refused-list : (x : Refusal) → readFrom script 0 ls ≡ refuses (refusalOf x) → readNumbers script ns words text ≡ called (why x) words text
   unfolding answered roomed
   refused-list x e = passed-reads script ns words text n P ∙ rw (e, answered, roomed)
 

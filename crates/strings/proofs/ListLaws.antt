@@ -5,17 +5,21 @@ use mathlib.Core.List.{List, [], _∷_, _++_, map, append-nil, append-assoc}
 use Prim.Native.Nat.{ℕ, _+_, _-_, _*_, _≤_, _<_}
 use native.Mathlib.Nat.{add-zero, sub-zero}
 use native.Mathlib.Omega.{arith}
-use lib.ListN.{length}
+use lib.ListN.{length, drop, length-take}
 use Rattle.definition.specs.Numbers.{isFString}
+use Rattle.definition.specs.Counts.{counted}
 use Rattle.definition.specs.Escapes.{got, refused}
 use Rattle.definition.specs.Escapes as d
 use Rattle.definition.specs.Body.{literal, textN, stringN, enough, alone, readBody}
 use Rattle.definition.specs.Records.{Item, itemOf}
-use Rattle.definition.specs.Entry.{refusal, opening, placeOf, body, total}
-use Rattle.definition.specs.Reading.{accepts, refuses, andThen, readLiteral, readFrom}
+use Rattle.definition.specs.Entry.{opening, placeOf, body, total}
+use Rattle.definition.specs.Reading.{accepts, refuses, andThen, refusalIn, readLiteral, readFrom}
 use Rattle.definition.specs.Reading as o
+use Rattle.definition.proofs.Counted.{counted-small}
 use Rattle.definition.proofs.Moves.{weight}
 use Rattle.definition.proofs.Fuel.{Reading, string-reading, string-last, body-reading}
+use Rattle.utf8.specs.declared.Count.{Count}
+use Rattle.utf8.specs.Steps.{countOf}
 use Rattle.buffers.specs.Over.{over}
 use Rattle.entry.specs.Answers.{described}
 use Rattle.entry.specs.Literals.{literalAt, literals}
@@ -36,7 +40,7 @@ use Rattle.strings.specs.Emit.{emits}
 use Rattle.strings.specs.Sinks.{loadOf, outOf, wholeOf, Emits}
 use Rattle.strings.specs.Text.{StringIs}
 use Rattle.strings.specs.Fstring.{ReadIs}
-use Rattle.strings.specs.Strings.{Room, frameOf, empty, All}
+use Rattle.strings.specs.Strings.{Room, Stands, frameOf, empty, All}
 use Rattle.strings.proofs.Emitted.{emits-append}
 use Rattle.strings.proofs.SinkLaws.{grown}
 use Rattle.strings.proofs.FstringLaws.{Gave, gave, refuses as written-refuses}
@@ -85,6 +89,15 @@ string-body fr s words text words′ text′ k r to e c h = rw (e, readBody, c .
 -- a body's refusal stands in the body
 pub taken-in : (kind : ℕ) (s : List ℕ) (n j a b : ℕ) → readBody kind s ≡ refused n j a b → j ≤ length s
 taken-in kind s n j a b h = let p = rw h at (body-reading kind s) in p .0 .1
+
+-- line and column in a literal's body are no more than its bytes
+pub count-fits : (script : List ℕ) (l : Descriptor) (taken : ℕ) (k : Count) → countOf k ≡ counted (body script (described l)) taken → (k .line ≤ l .size) × (k .column ≤ l .size)
+unfolding body described
+count-fits script l taken k e =
+    let s = body script (described l) in
+    let n = length-take (l .offset + l .size - l .offset) (drop (l .offset) script) in
+    let h = rw (← e) at (counted-small s taken) in
+    (omega arith, omega arith)
 
 -- THE LIST: what is read and written before literal i
 pub record Listing (script ns : List ℕ) (n : ℕ) (w : e.Whole) (words text words′ text′ : List ℕ) (i : ℕ) (k : Sink) : Type 0 where
@@ -158,18 +171,17 @@ module _ (script ns : List ℕ) (n : ℕ) (w : Whole) (words text : List ℕ) (P
         R : readBody (l .kind) (body script (described l)) ≡ refused (x .number) (x .taken) (x .a) (x .b)
         R = written-refuses (λ ps. ps) (frameOf l w) 0 words′ text′ words″ text″ k (readBody (l .kind) (body script (described l))) x H
 
-        pub taken-small : x .taken ≤ l .size
-        taken-small = omega (arith, taken-in (l .kind) (body script (described l)) (x .number) (x .taken) (x .a) (x .b) R, size)
-
-        pub place-small : placeOf (described l) (x .taken) < 4294967296
+        pub stands : Stands script l (x .taken)
         unfolding described placeOf
-        place-small = omega (arith, taken-small, good .fits)
+        stands =
+            let t = taken-in (l .kind) (body script (described l)) (x .number) (x .taken) (x .a) (x .b) R in
+            record { inside = good .inside; within = omega (arith, size); place = omega (arith, size, good .fits) }
 
-        refuses-here : readLiteral script i (described l) ≡ refuses (refusal (x .number) i (placeOf (described l) (x .taken)) (x .a) (x .b))
+        refuses-here : readLiteral script i (described l) ≡ refuses (refusalIn script i (described l) (x .number) (x .taken) (x .a) (x .b))
         unfolding readLiteral described
         refuses-here = rw (R, readLiteral)
 
-        pub refuses-all : readFrom script 0 (literals ns 0 n) ≡ refuses (refusal (x .number) i (placeOf (described l) (x .taken)) (x .a) (x .b))
+        pub refuses-all : readFrom script 0 (literals ns 0 n) ≡ refuses (refusalIn script i (described l) (x .number) (x .taken) (x .a) (x .b))
         unfolding andThen
         refuses-all = L .same ∙ rw (read-turn script ns n i h, ← q, refuses-here)
 

@@ -7,10 +7,10 @@ use lib.ListN.{length}
 use Rattle.definition.specs.Numbers.{isBytes}
 use Rattle.definition.specs.Chars.{if_then_else_}
 use Rattle.definition.specs.Records.{Role, top, raw, Item}
-use Rattle.definition.specs.Entry.{Literal, refusal, opening, anyOf, firstStart}
+use Rattle.definition.specs.Entry.{Literal, opening, placeOf, anyOf, firstStart}
 use Rattle.definition.specs.Reading.{accepts, refuses, uMark, lastEnd, Call, numbers}
 use Rattle.definition.specs.Reading as lists
-use Rattle.entry.specs.Answers.{described}
+use Rattle.entry.specs.Answers.{described, refusalOf}
 use Rattle.entry.specs.declared.Descriptor.{Descriptor}
 use Rattle.strings.specs.declared.Outcome.{Outcome}
 use Rattle.strings.specs.declared.Outcome.the-variants.{Accepted, Refused}
@@ -26,7 +26,7 @@ use Rattle.strings.specs.Sinks.{loadOf, outOf, Fits}
 -- the paper's numbers of an answer
 abbrev pub says : Outcome → List ℕ
 says (Accepted x) = 0 ∷ x .sort ∷ x .mark ∷ x .start ∷ x .end ∷ x .records ∷ x .text ∷ []
-says (Refused r) = r .number ∷ r .literal ∷ r .place ∷ r .a ∷ r .b ∷ []
+says (Refused r) = r .number ∷ r .literal ∷ r .place ∷ r .a ∷ r .b ∷ 0 ∷ r .line ∷ r .column ∷ []
 
 -- a call of the definition: what is answered, and both buffers afterwards
 pub record CallIs (call : Call) (words′ text′ : List ℕ) (r : Outcome) : Type 0 where
@@ -54,6 +54,12 @@ pub record Room (script : List ℕ) (l : Descriptor) (k : Sink) : Type 0 where
   pub load : loadOf k + 8 * l .size ≤ 16777216
   pub ordered : k .from ≤ k .used
 
+-- the body of a good literal lies in the script, so many of its bytes are taken, and their place is a number
+pub record Stands (script : List ℕ) (l : Descriptor) (taken : ℕ) : Type 0 where
+  pub inside : l .offset + l .size ≤ length script
+  pub within : taken ≤ l .size
+  pub place : placeOf (described l) taken < 4294967296
+
 -- where a literal stands
 abbrev pub frameOf : Descriptor → Whole → Frame
 frameOf l w = record { kind = l .kind; start = l .start; end = l .end; base = l .start + opening (described l); whole = w }
@@ -71,4 +77,4 @@ pub record All (reading : lists.Outcome (List Item)) (w : e.Whole) (words text w
 
 abbrev pub ListIs : lists.Outcome (List Item) → e.Whole → List ℕ → List ℕ → List ℕ → List ℕ → Listed → Type 0
 ListIs reading w words text words′ text′ (listed.Done r) = All reading w words text words′ text′ r
-ListIs reading w words text words′ text′ (listed.Refused x) = reading ≡ refuses (refusal (x .number) (x .literal) (x .place) (x .a) (x .b))
+ListIs reading w words text words′ text′ (listed.Refused x) = reading ≡ refuses (refusalOf x)

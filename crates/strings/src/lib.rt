@@ -29,8 +29,8 @@ ghost use Rattle.definition.specs.Chars.{if_then_else_};
 ghost use Rattle.definition.specs.Records.{Role, covers, Item};
 ghost use Rattle.definition.specs.Entry.{body, anyOf};
 ghost use Rattle.definition.specs.Body.{readBody};
-ghost use Rattle.definition.specs.Reading.{accepts, readFrom, sortOf, sortNumber, answered, roomed, called, readNumbers, zeros};
-ghost use Rattle.entry.specs.Answers.{described};
+ghost use Rattle.definition.specs.Reading.{accepts, refusalIn, readFrom, sortOf, sortNumber, answered, roomed, called, readNumbers, zeros};
+ghost use Rattle.entry.specs.Answers.{described, refusalOf};
 ghost use Rattle.entry.specs.Literals.{literals};
 ghost use Rattle.entry.proofs.Passed.{Passed};
 ghost use Rattle.strings.specs.declared.Outcome.the-variants.{Refused};
@@ -39,7 +39,7 @@ ghost use Rattle.strings.specs.Emit.{Tops};
 ghost use Rattle.strings.specs.Sinks.{Fits, wholeOf};
 ghost use Rattle.strings.specs.Text.{refusal};
 ghost use Rattle.strings.specs.Fstring.{Room as BodyRoom, ReadIs};
-ghost use Rattle.strings.specs.Strings.{CallIs, wholeFor, Room, frameOf, Wrote, ListIs};
+ghost use Rattle.strings.specs.Strings.{CallIs, wholeFor, Room, Stands, frameOf, Wrote, ListIs};
 
 // Why a body is refused: the number, the bytes taken at its place, two details.
 pub(crate) struct Refusal {
@@ -125,6 +125,25 @@ fn read_literal(
     read_body(&script[from..to], fr, words, text, k)
 }
 
+// The refusal of a body, number i of the list: its place, line and column.
+fn refusal_in(script: &[u8], i: u32, l: Descriptor, x: Refusal) -> entry::Refusal
+    requires { ⌜ Stands (now script) l (x .taken) ⌝ }
+    ensures { λ r. ⌜ refusalOf r ≡ refusalIn (now (script .entry)) i (described l) (x .number) (x .taken) (x .a) (x .b) ⌝ }
+{
+    let from = l.offset as usize;
+    let to = from + l.size as usize;
+    let k = utf8::count_before(&script[from..to], x.taken);
+    entry::Refusal {
+        number: x.number,
+        literal: i,
+        place: entry::place(l, x.taken as u32) as u32,
+        a: x.a,
+        b: x.b,
+        line: k.line as u32,
+        column: k.column as u32,
+    }
+}
+
 // All literals in order, read and written: the first refusal ends it.
 fn read_list(
     script: &[u8],
@@ -149,14 +168,7 @@ fn read_list(
         let l = entry::literal_at(numbers, i);
         match read_literal(script, l, whole, words, text, sink) {
             Read::Refused(x) => {
-                let place = entry::place(l, x.taken as u32) as u32;
-                return Listed::Refused(entry::Refusal {
-                    number: x.number,
-                    literal: i,
-                    place,
-                    a: x.a,
-                    b: x.b,
-                });
+                return Listed::Refused(refusal_in(script, i, l, x));
             }
             Read::Done(_, next) => {
                 sink = next;

@@ -25,7 +25,20 @@ fn twelve(o: Outcome) -> [u32; 12]
             0,
             0,
         ],
-        Outcome::Refused(r) => [r.number, r.literal, r.place, r.a, r.b, 0, 0, 0, 0, 0, 0, 0],
+        Outcome::Refused(r) => [
+            r.number,
+            r.literal,
+            r.place,
+            r.a,
+            r.b,
+            0,
+            r.line,
+            r.column,
+            0,
+            0,
+            0,
+            0,
+        ],
     }
 }
 

@@ -1,12 +1,13 @@
-// UTF-8 by the Unicode Standard, tables 3-6 and 3-7: byte classes, the character step, the well-formed prefix.
+// UTF-8 by the Unicode Standard, tables 3-6 and 3-7: byte classes, the character step, lines and columns by it, the well-formed prefix.
 ghost use mathlib.Core.Path.{_≡_};
 ghost use mathlib.Core.Bool.{true, _&&_};
 ghost use lib.Dec.{leb};
 ghost use Prim.Native.Nat.{_+_, _<_, _≤_, max, min};
 ghost use lib.ListN.{length};
 ghost use Rattle.definition.specs.Chars.{byte, follow, width, decoded, code, wellFormed};
+ghost use Rattle.definition.specs.Counts.{more, counted};
 ghost use Rattle.utf8.specs.Classes.{classes, classOf, ranges};
-ghost use Rattle.utf8.specs.Steps.{stepAt};
+ghost use Rattle.utf8.specs.Steps.{stepAt, countOf};
 ghost use Rattle.utf8.specs.Runs.{Below, Ascii};
 
 // A place in the bytes of a body.
@@ -169,6 +170,47 @@ impl Cursor {
         };
         c
     }
+}
+
+// What was counted of a text: line ends, and the characters since the last one.
+pub struct Count {
+    pub line: usize,
+    pub column: usize,
+}
+
+impl Count {
+    // One more character.
+    fn more(self, c: u32) -> Count
+        requires { ⌜ self .line + self .column < 18446744073709551615 ⌝ }
+        ensures { λ r. ⌜ countOf r ≡ more c (countOf self) ⌝ }
+    {
+        if c == 10 {
+            return Count {
+                line: self.line + 1,
+                column: 0,
+            };
+        }
+        Count {
+            line: self.line,
+            column: self.column + 1,
+        }
+    }
+}
+
+// The count of the characters that begin before a place; of all, if it is past the end.
+pub fn count_before(s: &[u8], place: usize) -> Count
+    ensures { λ r. ⌜ countOf r ≡ counted (now (s .entry)) place ⌝ }
+{
+    let mut k = Count { line: 0, column: 0 };
+    let mut at = 0;
+    while at < place {
+        let Step::Char(c, after) = (Cursor { at }).next_char(s) else {
+            return k;
+        };
+        k = k.more(c);
+        at = after.at;
+    }
+    k
 }
 
 // The greater of two bytes.

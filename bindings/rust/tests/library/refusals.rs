@@ -1,5 +1,5 @@
-//! Every refusal that a list of literals can get, by number, literal, place and text. Number 2,
-//! which it cannot, is tested beside the code.
+//! Every refusal that a list of literals can get, by number, literal, place, line, column and text.
+//! Number 2, which it cannot, is tested beside the code.
 use crate::common::side_by_side;
 use stumpgarret::StringKind::{Bytes, FString, RawFString, String as Plain};
 use stumpgarret::{
@@ -59,35 +59,57 @@ fn all() -> Vec<(Refusal, &'static str)> {
             of_run(&[(Plain, "a"), (Bytes, "b")]),
             "bytes literals and others are mixed (refusal 7, literal 0, place 0)",
         ),
-        (of("a\\"), "an escape is not finished (refusal 10, literal 0, place 4)"),
-        (of(r"\x4"), "an escape gives no character (refusal 11, literal 0, place 4)"),
+        (of("a\\"), "an escape is not finished (refusal 10, literal 0, place 4, line 0, column 2)"),
+        (
+            of(r"\x4"),
+            "an escape gives no character \
+             (refusal 11, literal 0, place 4, line 0, column 2)",
+        ),
         (
             of_run(&[(Bytes, "aé")]),
-            "a bytes literal has a character that is not ASCII (refusal 12, literal 0, place 5)",
+            "a bytes literal has a character that is not ASCII \
+             (refusal 12, literal 0, place 5, line 0, column 2)",
         ),
-        (of(r"\N{SNOWMAN}"), "the name in an escape is not known (refusal 13, literal 0, place 5)"),
+        (
+            of(r"\N{SNOWMAN}"),
+            "the name in an escape is not known \
+             (refusal 13, literal 0, place 5, line 0, column 3)",
+        ),
         (
             of("{x!r b}"),
             "a '{' is not closed: neither '}' nor ':' follows a conversion \
-             (refusal 20, literal 0, place 6)",
+             (refusal 20, literal 0, place 6, line 0, column 4)",
         ),
-        (of("{x!x}"), "a conversion is not 's', 'a' or 'r' (refusal 21, literal 0, place 6)"),
-        (of("{ }"), "a field's expression is empty or blank (refusal 22, literal 0, place 5)"),
-        (of("{(]}"), "'(' is met by ']' (refusal 23, literal 0, place 5)"),
+        (
+            of("{x!x}"),
+            "a conversion is not 's', 'a' or 'r' \
+             (refusal 21, literal 0, place 6, line 0, column 4)",
+        ),
+        (
+            of("{ }"),
+            "a field's expression is empty or blank \
+             (refusal 22, literal 0, place 5, line 0, column 3)",
+        ),
+        (of("{(]}"), "'(' is met by ']' (refusal 23, literal 0, place 5, line 0, column 3)"),
         (
             of_run(&[(Plain, "{"), (RawFString, "{x:{y:{z}}}")]),
-            "fields are nested too deeply (refusal 24, literal 1, place 12)",
+            "fields are nested too deeply (refusal 24, literal 1, place 12, line 0, column 6)",
         ),
-        (of("a}b"), "a '}' stands alone (refusal 25, literal 0, place 4)"),
-        (of("{x)}"), "nothing opens what ')' closes (refusal 26, literal 0, place 5)"),
+        (of("a}b"), "a '}' stands alone (refusal 25, literal 0, place 4, line 0, column 2)"),
+        (
+            of("{x)}"),
+            "nothing opens what ')' closes \
+             (refusal 26, literal 0, place 5, line 0, column 3)",
+        ),
         (
             of("{'a"),
             "an expression has quotes that do not end, or a backslash outside of quotes \
-             (refusal 27, literal 0, place 5)",
+             (refusal 27, literal 0, place 5, line 0, column 3)",
         ),
         (
             of(&brackets),
-            "a field has more than 64 brackets open at once (refusal 28, literal 0, place 68)",
+            "a field has more than 64 brackets open at once \
+             (refusal 28, literal 0, place 68, line 0, column 66)",
         ),
         (
             lent(31, 4),
@@ -146,6 +168,19 @@ fn blanks_are_no_expression() {
     }
     let (script, literals) = side_by_side(&[(FString, "{\u{200b}}")]);
     assert!(parse_strings(script, &literals).is_ok());
+}
+
+#[test]
+fn line_and_column_are_counted_in_the_literal() {
+    let at = |literals: &[(StringKind, &str)]| {
+        let refusal = of_run(literals);
+        (refusal.number(), refusal.literal(), refusal.line(), refusal.column())
+    };
+    assert_eq!(at(&[(FString, "é\n\né😀}")]), (25, 0, 2, 3));
+    assert_eq!(at(&[(FString, "{x!\n}")]), (21, 0, 1, 0));
+    assert_eq!(at(&[(Plain, "\\\n\\x4")]), (11, 0, 1, 2));
+    assert_eq!(at(&[(Plain, "\n\n"), (FString, "é\n"), (FString, "é\n}")]), (25, 2, 1, 1));
+    assert_eq!(at(&[(Plain, "\n"), (Bytes, "\n")]), (7, 0, 0, 0));
 }
 
 #[test]

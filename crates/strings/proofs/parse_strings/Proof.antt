@@ -1,8 +1,8 @@
 -- `strings::parse_strings` meets its contract. Assumes nothing.
 use borrow.Author.Needs.{needs}
 use mathlib.Core.Path.{refl}
-use Rattle.definition.specs.Entry.{refusal}
 use Rattle.definition.specs.Reading.{readNumbers}
+use Rattle.entry.specs.Answers.{refusalOf}
 use Rattle.entry.proofs.Passed.{passed, refused-reads}
 use Rattle.strings.proofs.CallLaws.{refused-call}
 use Rattle.strings.proofs.parse_strings.Statement.{statement}
@@ -19,7 +19,7 @@ parse-strings-spec =
     (λ c κs. let a = (c .before .before .before .before .before .before .before .before .before .before .args) in passed (a .script .now) (a .numbers .now) (c .before .before .before .count .given .0 .0) (rw (c .before .before .before .count .given .1) at (c .before .before .before .before .before .check .ensures)))  -- read-all-requires
     (λ c. search needs)  -- same-length
     (λ c. search needs)  -- same-length-2
-    (λ c. let a = (c .before .before .before .before .before .before .before .before .before .before .before .before .before .before .before .args) in let x = (c .before .before .before .before .before .before .before .before .r .given .0 .0) in refused-call (a .words .now) (a .text .now) (a .words .now) (a .text .now) (c .before .before .before .before .refuse .last .0) (c .before .before .before .before .refuse .last .1 .0) x (c .before .before .before .before .refuse .result) (readNumbers (a .script .now) (a .numbers .now) (a .words .now) (a .text .now)) (refused-reads (a .script .now) (a .numbers .now) (a .words .now) (a .text .now) (refusal (x .number) (x .literal) (x .place) (x .a) (x .b)) (rw (c .before .before .before .before .before .before .before .before .r .given .1) at (c .before .before .before .before .before .before .before .before .before .before .check .ensures))) refl refl (c .before .before .before .before .refuse .ensures))  -- returns
+    (λ c. let a = (c .before .before .before .before .before .before .before .before .before .before .before .before .before .before .before .args) in let x = (c .before .before .before .before .before .before .before .before .r .given .0 .0) in refused-call (a .words .now) (a .text .now) (a .words .now) (a .text .now) (c .before .before .before .before .refuse .last .0) (c .before .before .before .before .refuse .last .1 .0) x (c .before .before .before .before .refuse .result) (readNumbers (a .script .now) (a .numbers .now) (a .words .now) (a .text .now)) (refused-reads (a .script .now) (a .numbers .now) (a .words .now) (a .text .now) (refusalOf x) (rw (c .before .before .before .before .before .before .before .before .r .given .1) at (c .before .before .before .before .before .before .before .before .before .before .check .ensures))) refl refl (c .before .before .before .before .refuse .ensures))  -- returns
     (λ c. search needs)  -- same-length-3
     (λ c. search needs)  -- same-length-4
     (λ c. search needs))  -- returns-2

@@ -5,7 +5,7 @@ use mathlib.Core.Path.{_≡_, refl, _∙_}
 use Prim.Native.Nat.{_-_}
 use lib.ListN.{length}
 use Rattle.strings.specs.Sinks.{wholeOf}
-use Rattle.strings.proofs.ListLaws.{Listing, before-all, after-all, room, taken-small, place-small, refuses-all, next-literal}
+use Rattle.strings.proofs.ListLaws.{Listing, before-all, after-all, room, stands, refuses-all, next-literal}
 use Rattle.strings.proofs.read_list.Statement.{statement}
 use Rattle.strings.proofs.read_list.Tie as tie
 
@@ -25,12 +25,17 @@ read-list-spec =
     (λ c κs. search needs)  -- literal-at-requires
     (λ c κs. room _ _ _ _ _ _ (c .before .before .before .before .before .before .before .before .before .pre) _ _ _ _ (c .before .before .before .before .loop .inv .2) (c .before .before .before .loop-test .taken) (c .before .before .literal-at .result) (c .before .before .literal-at .ensures) (omega (arith, (c .before .before .literal-at .ok))))  -- read-literal-requires
     (λ c. search needs)  -- enum-known-x
-    (λ c. record { fits = omega (arith, taken-small _ _ _ _ _ _ (c .before .before .before .before .before .before .before .before .before .before .before .before .before .before .before .before .before .before .pre) _ _ _ _ (c .before .before .before .before .before .before .before .before .before .before .before .before .before .loop .inv .2) (c .before .before .before .before .before .before .before .before .before .before .before .before .loop-test .taken) (c .before .before .before .before .before .before .before .before .before .before .before .literal-at .result) (c .before .before .before .before .before .before .before .before .before .before .before .literal-at .ensures) (omega (arith, (c .before .before .before .before .before .before .before .before .before .before .before .literal-at .ok))) _ _ (c .before .before .x .given .0 .0) (rw (c .before .before .x .given .1) at (c .before .before .before .before .before .before .before .before .read-literal .ensures)), (c .before .before .before .before .before .before .before .before .before .before .before .literal-at .ok)) })  -- cast-place
-    (λ c κs. search needs)  -- place-requires
-    (λ c. record { fits = rw (c .place .ensures) (place-small _ _ _ _ _ _ (c .before .before .before .before .before .before .before .before .before .before .before .before .before .before .before .before .before .before .before .pre) _ _ _ _ (c .before .before .before .before .before .before .before .before .before .before .before .before .before .before .loop .inv .2) (c .before .before .before .before .before .before .before .before .before .before .before .before .before .loop-test .taken) (c .before .before .before .before .before .before .before .before .before .before .before .before .literal-at .result) (c .before .before .before .before .before .before .before .before .before .before .before .before .literal-at .ensures) (omega (arith, (c .before .before .before .before .before .before .before .before .before .before .before .before .literal-at .ok))) _ _ (c .before .before .before .x .given .0 .0) (rw (c .before .before .before .x .given .1) at (c .before .before .before .before .before .before .before .before .before .read-literal .ensures))) })  -- cast-place-2
+    (λ c κs.
+    let l = c .before .before .before .before .before .before .before .before .before .before in
+    stands _ _ _ _ _ _ (l .before .before .before .before .before .before .before .pre) _ _ _ _ (l .before .before .loop .inv .2) (l .before .loop-test .taken) (l .literal-at .result) (l .literal-at .ensures) (omega (arith, l .literal-at .ok)) _ _ (c .before .x .given .0 .0)
+    (rw (c .before .x .given .1) at (c .before .before .before .before .before .before .before .read-literal .ensures)))  -- refusal-in-requires
     (λ c. search needs)  -- same-length
     (λ c. search needs)  -- same-length-2
-    (λ c. rw (c .place .ensures) (refuses-all _ _ _ _ _ _ (c .before .before .before .before .before .before .before .before .before .before .before .before .before .before .before .before .before .before .before .pre) _ _ _ _ (c .before .before .before .before .before .before .before .before .before .before .before .before .before .before .loop .inv .2) (c .before .before .before .before .before .before .before .before .before .before .before .before .before .loop-test .taken) (c .before .before .before .before .before .before .before .before .before .before .before .before .literal-at .result) (c .before .before .before .before .before .before .before .before .before .before .before .before .literal-at .ensures) (omega (arith, (c .before .before .before .before .before .before .before .before .before .before .before .before .literal-at .ok))) _ _ (c .before .before .before .x .given .0 .0) (rw (c .before .before .before .x .given .1) at (c .before .before .before .before .before .before .before .before .before .read-literal .ensures))))  -- returns
+    (λ c.
+    let l = c .before .before .before .before .before .before .before .before .before .before .before in
+    rw (c .refusal-in .ensures)
+    (refuses-all _ _ _ _ _ _ (l .before .before .before .before .before .before .before .pre) _ _ _ _ (l .before .before .loop .inv .2) (l .before .loop-test .taken) (l .literal-at .result) (l .literal-at .ensures) (omega (arith, l .literal-at .ok)) _ _ (c .before .before .x .given .0 .0)
+    (rw (c .before .before .x .given .1) at (c .before .before .before .before .before .before .before .before .read-literal .ensures))))  -- returns
     (λ c. search needs)  -- enum-known-next
     (λ c. search needs)  -- add-i
     (λ c. search needs)  -- loop-less

@@ -1,0 +1,128 @@
+-- Where a refusal stands: in the body of the literal that it names, with the line and column of its place there, or in none. Assumes nothing.
+use mathlib.Core.Path.{_≡_, refl}
+use mathlib.Core.Bool.{Bool, true, false, _&&_}
+use mathlib.Core.List.{List, [], _∷_}
+use mathlib.Core.Logic.{_⊎_, inl, inr}
+use mathlib.Core.Option.{Option, none, some}
+use Prim.Native.Nat.{ℕ, suc, _/_, _≤_}
+use native.Mathlib.Omega.{arith}
+use lib.Dec.{T, ltb, leb, leb→le}
+use lib.ListN.{length}
+use Rattle.definition.specs.Numbers.{refusals, _among_, ofEntry, ofBody}
+use Rattle.definition.specs.Counts.{counted}
+use Rattle.definition.specs.Escapes.{Read, got, refused}
+use Rattle.definition.specs.Body.{Piece, readBody}
+use Rattle.definition.specs.Records.{Item, Answer}
+use Rattle.definition.specs.Entry.{Literal, sixes, placeOf, body, Refusal, refusal, entry}
+use Rattle.definition.specs.Reading.{Outcome, accepts, refuses, refusalIn, readLiteral, andThen, readFrom, answered, read, outcomeOf, roomFor, roomed, called, readInto, readNumbers}
+use Rattle.definition.proofs.Moves.{detailed, Sound}
+use Rattle.definition.proofs.Fuel.{body-reading}
+use Rattle.definition.proofs.Outcomes.{OfEntry, Refusing, entry-refusing}
+
+front : (a b : Bool) → T (a && b) → T a
+front true b h = tt
+front false b h = absurd h
+
+-- a literal is number n of a list whose first is number i
+pub data Numbers (l : Literal) (n : ℕ) : ℕ → List Literal → Type 0 where
+  first : {ls : List Literal} → Numbers l n n (l ∷ ls)
+  later : {i : ℕ} {k : Literal} {ls : List Literal} → Numbers l n (suc i) ls → Numbers l n i (k ∷ ls)
+
+-- a refusal in the body of the literal that it names, after so many bytes of it
+pub record InBody (script : List ℕ) (i : ℕ) (ls : List Literal) (r : Refusal) : Type 0 where
+  pub number : T (ofBody (r .number))
+  pub literal : Literal
+  pub named : Numbers literal (r .literal) i ls
+  pub taken : ℕ
+  pub within : taken ≤ length (body script literal)
+  pub place : r .place ≡ placeOf literal taken
+  pub line : r .line ≡ counted (body script literal) taken .line
+  pub column : r .column ≡ counted (body script literal) taken .column
+
+abbrev Standing : List ℕ → ℕ → List Literal → Outcome (List Item) → Type 0
+Standing script i ls (accepts xs) = Unit {0}
+Standing script i ls (refuses r) = InBody script i ls r
+
+module _ (script : List ℕ) where
+  literal-stands : (i : ℕ) (l : Literal) (ls : List Literal) → Standing script i (l ∷ ls) (readLiteral script i l)
+  unfolding refusalIn readLiteral
+  literal-stands i l ls = go (readBody (l .kind) (body script l)) refl (body-reading (l .kind) (body script l) .0)
+    where
+      go : (r : Read (List Piece)) → readBody (l .kind) (body script l) ≡ r → Sound (body script l) 0 r → Standing script i (l ∷ ls) (readLiteral script i l)
+      go (got ps j) e h = rw (e, readLiteral) tt
+      go (refused m j a b) e h =
+          rw (e, readLiteral) (record { number = front (ofBody m) _ (h .0); literal = l; named = first; taken = j; within = h .1; place = refl; line = refl; column = refl })
+
+  then-stands : (i : ℕ) (l : Literal) (ls : List Literal) (o p : Outcome (List Item)) → Standing script i (l ∷ ls) o → Standing script (suc i) ls p → Standing script i (l ∷ ls) (andThen o p)
+  unfolding andThen
+  then-stands i l ls (refuses r) p h k = h
+  then-stands i l ls (accepts xs) (refuses r) h k =
+      record { number = k .number; literal = k .literal; named = later (k .named); taken = k .taken; within = k .within; place = k .place; line = k .line; column = k .column }
+  then-stands i l ls (accepts xs) (accepts ys) h k = tt
+
+  from-stands : (i : ℕ) (ls : List Literal) → Standing script i ls (readFrom script i ls)
+  unfolding readFrom
+  from-stands i [] = tt
+  from-stands i (l ∷ ls) = then-stands i l ls (readLiteral script i l) (readFrom script (suc i) ls) (literal-stands i l ls) (from-stands (suc i) ls)
+
+-- a refusal in no body
+pub record InNone (r : Refusal) : Type 0 where
+  pub number : T (ofBody (r .number)) → ⊥
+  pub line : r .line ≡ 0
+  pub column : r .column ≡ 0
+
+-- EVERY REFUSAL STANDS IN A BODY, BY 10 TO 28, OR IN NONE
+abbrev pub Placed : List ℕ → List Literal → Outcome Answer → Type 0
+Placed script ls (accepts x) = Unit {0}
+Placed script ls (refuses r) = InBody script 0 ls r ⊎ InNone r
+
+-- the numbers of the entry checks are none of a body's
+apart : (r : Refusal) → OfEntry r → T (ofBody (r .number)) → ⊥
+apart r h k =
+    let n = r .number in
+    let a = leb→le n 7 (front (leb n 7) (n among refusals) (front (ofEntry n) (detailed n (r .a) (r .b)) h)) in
+    let b = leb→le 10 n (front (leb 10 n) (leb n 28) (front (leb 10 n && leb n 28) (n among refusals) k)) in
+    omega arith
+
+module _ (script : List ℕ) (ls : List Literal) where
+  answered-placed : (o : Outcome (List Item)) → Standing script 0 ls o → Placed script ls (answered ls o)
+  unfolding answered
+  answered-placed (accepts xs) h = tt
+  answered-placed (refuses r) h = inl h
+
+  -- with room for anything
+  read-placed : Placed script ls (read script ls)
+  unfolding read refusal
+  read-placed = go (entry script ls) refl (entry-refusing InNone (λ n i place h. record { number = apart (refusal n i place 0 0) h; line = refl; column = refl }) script ls)
+    where
+      go : (c : Option Refusal) → entry script ls ≡ c → Refusing InNone c → Placed script ls (read script ls)
+      go none e h = rw (e, read) (answered-placed (readFrom script 0 ls) (from-stands script 0 ls))
+      go (some r) e h = rw (e, read) (inr h)
+
+  roomed-placed : (w t : ℕ) (o : Outcome Answer) → Placed script ls o → Placed script ls (roomed w t o)
+  unfolding outcomeOf roomFor roomed refusal
+  roomed-placed w t (refuses r) h = h
+  roomed-placed w t (accepts x) h = go (ltb (w / 8) (length (x .records))) refl (ltb t (length (x .text))) refl
+    where
+      go : (a : Bool) → ltb (w / 8) (length (x .records)) ≡ a → (b : Bool) → ltb t (length (x .text)) ≡ b → Placed script ls (roomed w t (accepts x))
+      go true p b q = rw p (inr (record { number = λ k. k; line = refl; column = refl }))
+      go false p true q = rw (p, q) (inr (record { number = λ k. k; line = refl; column = refl }))
+      go false p false q = rw (p, q) tt
+
+  -- of descriptors with both buffers lent
+  pub into-placed : (words text : List ℕ) → Placed script ls (readInto script ls words text .outcome)
+  unfolding readInto called
+  into-placed words text = roomed-placed (length words) (length text) (read script ls) read-placed
+
+-- of flat numbers: their literals, none if some are left over
+abbrev pub listed : Option (List Literal) → List Literal
+listed none = []
+listed (some ls) = ls
+
+pub numbers-placed : (script ns words text : List ℕ) → Placed script (listed (sixes ns)) (readNumbers script ns words text .outcome)
+unfolding readNumbers called refusal
+numbers-placed script ns words text = go (sixes ns) refl
+  where
+    go : (o : Option (List Literal)) → sixes ns ≡ o → Placed script (listed o) (readNumbers script ns words text .outcome)
+    go none e = rw (e, readNumbers) (inr (record { number = λ k. k; line = refl; column = refl }))
+    go (some ls) e = rw (e, readNumbers) (into-placed script ls words text)
