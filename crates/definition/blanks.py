@@ -1,4 +1,4 @@
-# Run with Python 3, `python3 crates/definition/blanks.py`: holds the definition's White_Space, read from specs/Body.antt, against Python's unicodedata over
+# Run with Python 3, `python3 crates/definition/blanks.py`: holds the definition's White_Space, read from specs/Chars.antt, against Python's unicodedata over
 # all code points, and lists each code that differs. Fails unless these are U+001C to U+001F.
 """unicodedata does not have White_Space itself. It has what `str.isspace` goes by: the category Zs, or the bidirectional class B, S or WS. Those are all of
 White_Space and, besides, the information separators U+001C to U+001F, which Python takes for white space and Unicode does not."""
@@ -7,13 +7,13 @@ import re
 import sys
 import unicodedata
 
-BODY = os.path.join(os.path.dirname(os.path.abspath(__file__)), "specs", "Body.antt")
+CHARS = os.path.join(os.path.dirname(os.path.abspath(__file__)), "specs", "Chars.antt")
 INFORMATION_SEPARATORS = {0x1C, 0x1D, 0x1E, 0x1F}
 
 
 def white_space():
     """The codes of the definition's ranges: `whiteSpace = low to high ∷ .. ∷ []`."""
-    with open(BODY, encoding="utf-8") as file:
+    with open(CHARS, encoding="utf-8") as file:
         listed, = re.findall(r"^whiteSpace =\n((?:    .*\n)+)", file.read(), re.MULTILINE)
     *ranges, end = map(str.strip, listed.split("∷"))
     assert ranges and end == "[]", listed

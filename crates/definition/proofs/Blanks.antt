@@ -4,9 +4,9 @@ use mathlib.Core.Path.{_≡_, refl}
 use mathlib.Core.List.{List, [], _∷_, _++_, map}
 use lib.ListN.{length}
 use Rattle.definition.specs.Numbers.{emptyExpression}
-use Rattle.definition.specs.Chars.{ascii, insideAny, table37, following, follow, width, decoded, code, next, char, utf8}
+use Rattle.definition.specs.Chars.{ascii, insideAny, table37, following, follow, width, decoded, code, next, char, utf8, whiteSpace}
 use Rattle.definition.specs.Escapes.{Read, got, refused}
-use Rattle.definition.specs.Body.{Piece, field, textCase, textMove, filled, fresh, whiteSpace, add, outside, fieldCase, caseOf, fieldMove, conversionOf, fieldPieces, selfDocumenting, finished, textN, readBody}
+use Rattle.definition.specs.Body.{Piece, field, textCase, textMove, filled, fresh, add, outside, fieldCase, caseOf, fieldMove, conversionOf, fieldPieces, selfDocumenting, finished, textN, readBody}
 
 -- all of White_Space
 pub blanks : List ℕ
@@ -35,5 +35,5 @@ unfolding utf8
 full c = got (field 0 (utf8 c) 0 0 1 ∷ []) (length (around c))
 
 pub blanks-read : map (λ c. readBody 1 (around c)) (blanks ++ others) ≡ map empty blanks ++ map full others
-unfolding blanks others ascii insideAny table37 following follow width decoded code next char utf8 textCase textMove filled fresh whiteSpace add outside fieldCase caseOf fieldMove conversionOf fieldPieces selfDocumenting finished textN readBody
+unfolding blanks others ascii insideAny table37 following follow width decoded code next char utf8 whiteSpace textCase textMove filled fresh add outside fieldCase caseOf fieldMove conversionOf fieldPieces selfDocumenting finished textN readBody
 blanks-read = refl

@@ -6,7 +6,7 @@ use mathlib.Core.Option.{Option, none, some}
 use lib.Dec.{ltb, leb, eqb}
 use lib.ListN.{length, drop, replicate}
 use Rattle.definition.specs.Numbers.{isFString, isBytes, isRaw, nonAsciiInBytes, unclosedLbrace, invalidConversionFlag, emptyExpression, mismatchedDelimiter, expressionNestedTooDeeply, singleRbrace, unmatched, unterminatedString, tooManyBrackets, afterBang, afterConversion, afterEquals, inField, lastBrace}
-use Rattle.definition.specs.Chars.{if_then_else_, _is_, part, atEnd, Range, _to_, insideAny, code, next, char, before}
+use Rattle.definition.specs.Chars.{if_then_else_, _is_, part, atEnd, insideAny, code, next, char, whiteSpace, before}
 use Rattle.definition.specs.Escapes.{Read, got, refused, Meaning, escape, meant}
 
 -- A piece, in record order: a field, its spec, the spec's parts. `depth` is that of the text that it stands in
@@ -102,22 +102,6 @@ pub data Field : Type 0 where
 
 unfoldable pub fresh : Field
 fresh = state [] true [] 0 false 0
-
--- Unicode's White_Space, by ranges of the code
-unfoldable pub whiteSpace : List Range
-whiteSpace =
-    0x0009 to 0x000D
-    ∷ 0x0020 to 0x0020
-    ∷ 0x0085 to 0x0085
-    ∷ 0x00A0 to 0x00A0
-    ∷ 0x1680 to 0x1680
-    ∷ 0x2000 to 0x200A
-    ∷ 0x2028 to 0x2028
-    ∷ 0x2029 to 0x2029
-    ∷ 0x202F to 0x202F
-    ∷ 0x205F to 0x205F
-    ∷ 0x3000 to 0x3000
-    ∷ []
 
 -- blank means White_Space
 abbrev pub isBlank : ℕ → Bool

@@ -121,6 +121,22 @@ utf8 c =
     if ltb c 0x10000 then (0xE0 + c / 4096) ∷ (0x80 + c / 64 % 64) ∷ (0x80 + c % 64) ∷ [] else
     (0xF0 + c / 262144 % 8) ∷ (0x80 + c / 4096 % 64) ∷ (0x80 + c / 64 % 64) ∷ (0x80 + c % 64) ∷ []
 
+-- Unicode's White_Space, by ranges of the code
+unfoldable pub whiteSpace : List Range
+whiteSpace =
+    0x0009 to 0x000D
+    ∷ 0x0020 to 0x0020
+    ∷ 0x0085 to 0x0085
+    ∷ 0x00A0 to 0x00A0
+    ∷ 0x1680 to 0x1680
+    ∷ 0x2000 to 0x200A
+    ∷ 0x2028 to 0x2028
+    ∷ 0x2029 to 0x2029
+    ∷ 0x202F to 0x202F
+    ∷ 0x205F to 0x205F
+    ∷ 0x3000 to 0x3000
+    ∷ []
+
 -- how many bytes of s stand before the first that passes a test
 unfoldable pub before : (ℕ → Bool) → List ℕ → ℕ
 before test [] = 0

@@ -9,10 +9,10 @@ use borrow.Author.Tests.{lt-leb, ne-eqb, eq-eqb, ltb-true, ltb-false}
 use lib.Dec.{eqb, ltb}
 use lib.ListN.{length, length-append}
 use Rattle.definition.specs.Numbers.{emptyExpression}
-use Rattle.definition.specs.Chars.{if_then_else_, byte, _to_, inside, next}
+use Rattle.definition.specs.Chars.{if_then_else_, byte, _to_, inside, next, whiteSpace}
 use Rattle.definition.specs.Escapes.{refused}
 use mathlib.Core.Option.{none}
-use Rattle.definition.specs.Body.{Move, goes, stops, calls, ends, Field, state, fresh, whiteSpace, isBlank, plain, fieldCase, fieldMove, finished, fieldN, enough}
+use Rattle.definition.specs.Body.{Move, goes, stops, calls, ends, Field, state, fresh, isBlank, plain, fieldCase, fieldMove, finished, fieldN, enough}
 use Rattle.definition.proofs.CharLaws.{cases, inside-true, inside-none, code-ascii, next-ascii}
 use Rattle.definition.proofs.Moves.{fieldSize, FieldAhead, field-ahead}
 use Rattle.definition.proofs.Whole.{field-on, field-stop, field-end}

@@ -4,8 +4,8 @@ use Prim.Native.Nat.{ℕ, suc, _≤_, _<_}
 use mathlib.Core.Path.{_≡_, sym}
 use mathlib.Core.Bool.{false, or-true}
 use lib.Dec.{lit≤}
-use Rattle.definition.specs.Chars.{insideAny}
-use Rattle.definition.specs.Body.{whiteSpace, isBlank}
+use Rattle.definition.specs.Chars.{insideAny, whiteSpace}
+use Rattle.definition.specs.Body.{isBlank}
 use Rattle.definition.proofs.CharLaws.{inside-yes, inside-none}
 use Rattle.marks.proofs.is_blank.Statement.{statement}
 use Rattle.marks.proofs.is_blank.Tie as tie
