@@ -11,10 +11,12 @@ use Rattle.definition.specs.Numbers.{isFString, isBytes}
 use Rattle.definition.specs.Escapes.{Read, got, refused}
 use Rattle.definition.specs.Body.{Piece, literal, stringN, enough, alone, readBody}
 use Rattle.definition.specs.Records.{Item, itemOf, Answer, answerOf}
-use Rattle.definition.specs.Entry.{Literal, placeOf, body, Refusal, anyOf, firstStart, entry}
+use Rattle.definition.specs.Entry.{Literal, placeOf, body, Refusal, allUtf8, anyOf, firstStart, entry}
 use Rattle.definition.specs.Reading.{Outcome, accepts, refuses, readLiteral, andThen, readFrom, sortOf, uMark, lastEnd, answered, read}
+use Rattle.definition.proofs.CharLaws.{Utf8}
+use Rattle.definition.proofs.EntrySplit.{Each, utf8-each}
 use Rattle.definition.proofs.Grammar.{Parts, flat, All}
-use Rattle.definition.proofs.Conversions.{Conversion, body-converted}
+use Rattle.definition.proofs.FieldState.{Had, body-had}
 use Rattle.definition.proofs.Runs.{Run, run-append, run-top, run-alone}
 
 -- AN ACCEPTANCE: the entry checks pass, and the answer is laid out from the items of all literals
@@ -39,6 +41,10 @@ accepted script ls x h = go (entry script ls) refl (readFrom script 0 ls) refl
     go none e (refuses r) f = no-refusal r x (rw (e, f, read) at h)
     go none e (accepts xs) f = record { items = xs; passed = e; reads = f; is = sym (same-answer _ x (rw (e, f, read) at h)) }
 
+pub neither : (a b : Bool) → a || b ≡ false → (a ≡ false) × (b ≡ false)
+neither true b e = absurd (true≢false e)
+neither false b e = (refl, e)
+
 -- the items of all literals, by those of one
 module _ (Q : List Item → Type 0) (nothing : Q []) (both : (xs ys : List Item) → Q xs → Q ys → Q (xs ++ ys)) where
   abbrev pub Holds : Outcome (List Item) → Type 0
@@ -51,30 +57,25 @@ module _ (Q : List Item → Type 0) (nothing : Q []) (both : (xs ys : List Item)
   then-holds (accepts xs) (refuses r) h k = tt
   then-holds (accepts xs) (accepts ys) h k = both xs ys h k
 
-  -- a test of the kinds that no literal passes
-  from-holds : (test : ℕ → Bool) (script : List ℕ) → ((i : ℕ) (l : Literal) → test (l .kind) ≡ false → Holds (readLiteral script i l))
-      → (i : ℕ) (ls : List Literal) → anyOf test ls ≡ false → Holds (readFrom script i ls)
-  unfolding readFrom anyOf
-  from-holds test script one i [] h = nothing
-  from-holds test script one i (l ∷ ls) h =
-      then-holds (readLiteral script i l) (readFrom script (suc i) ls) (one i l (neither (test (l .kind)) (anyOf test ls) h .0)) (from-holds test script one (suc i) ls (neither (test (l .kind)) (anyOf test ls) h .1))
-    where
-      neither : (a b : Bool) → a || b ≡ false → (a ≡ false) × (b ≡ false)
-      neither true b e = absurd (true≢false e)
-      neither false b e = (refl, e)
+  from-holds : (P : Literal → Type 0) (script : List ℕ) → ((i : ℕ) (l : Literal) → P l → Holds (readLiteral script i l))
+      → (i : ℕ) (ls : List Literal) → Each P ls → Holds (readFrom script i ls)
+  unfolding readFrom
+  from-holds P script one i [] h = nothing
+  from-holds P script one i (l ∷ ls) h = then-holds (readLiteral script i l) (readFrom script (suc i) ls) (one i l (h .0)) (from-holds P script one (suc i) ls (h .1))
 
+  pub each-holds : (P : Literal → Type 0) (script : List ℕ) → ((i : ℕ) (l : Literal) → P l → Holds (readLiteral script i l))
+      → (ls : List Literal) (xs : List Item) → Each P ls → readFrom script 0 ls ≡ accepts xs → Q xs
+  each-holds P script one ls xs h e = rw e at (from-holds P script one 0 ls h)
+
+  -- by a test of the kinds that no literal passes
   pub all-hold : (test : ℕ → Bool) (script : List ℕ) → ((i : ℕ) (l : Literal) → test (l .kind) ≡ false → Holds (readLiteral script i l))
       → (ls : List Literal) (xs : List Item) → anyOf test ls ≡ false → readFrom script 0 ls ≡ accepts xs → Q xs
-  all-hold test script one ls xs h e = rw e at (from-holds test script one 0 ls h)
-
-  -- whatever the kinds
-  pub each-holds : (script : List ℕ) → ((i : ℕ) (l : Literal) → Holds (readLiteral script i l)) → (ls : List Literal) (xs : List Item) → readFrom script 0 ls ≡ accepts xs → Q xs
   unfolding anyOf
-  each-holds script one ls xs e = all-hold (λ k. false) script (λ i l h. one i l) ls xs (none-of ls) e
+  all-hold test script one ls xs h e = each-holds (λ l. test (l .kind) ≡ false) script one ls xs (none-of ls h) e
     where
-      none-of : (ls : List Literal) → anyOf (λ k. false) ls ≡ false
-      none-of [] = refl
-      none-of (l ∷ ls) = none-of ls
+      none-of : (ls : List Literal) → anyOf test ls ≡ false → Each (λ l. test (l .kind) ≡ false) ls
+      none-of [] h = tt
+      none-of (l ∷ ls) h = let n = neither (test (l .kind)) (anyOf test ls) h in (n .0, none-of ls (n .1))
 
   -- one literal, by its body's reading
   pub literal-holds : (script : List ℕ) (i : ℕ) (l : Literal)
@@ -104,19 +105,20 @@ alone-piece kind s ps j h e = go (stringN (enough s) kind s 0 []) (rw (h, readBo
     go (got t k) f = (t, cc)
     go (refused m k a b) f = let z : _≡_ {A = ℕ} 0 1 = cc in absurd (omega arith)
 
--- THE ITEMS KEEP 01'S ORDER AND RANGES
-literal-run : (script : List ℕ) (i : ℕ) (l : Literal) → Holds (Run false 0 0 0) (refl, refl) (run-append false 0 0 0) (readLiteral script i l)
-literal-run script i l = literal-holds (Run false 0 0 0) (refl, refl) (run-append false 0 0 0) script i l (λ ps j e. go (isFString (l .kind)) refl ps j e)
+-- THE ITEMS KEEP 01'S ORDER AND RANGES, and each field has what it must
+literal-run : (script : List ℕ) (i : ℕ) (l : Literal) → Utf8 (body script l) → Holds (Run false [] 0 0) (refl, refl) (run-append false [] 0 0) (readLiteral script i l)
+literal-run script i l utf8 = literal-holds (Run false [] 0 0) (refl, refl) (run-append false [] 0 0) script i l (λ ps j e. go (isFString (l .kind)) refl ps j e)
   where
     I : Piece → Item
     I = itemOf (l .kind) (l .start) (l .end) (placeOf l 0)
 
-    tree : (ps : List Piece) → (p : Parts) → ps ≡ flat 0 p [] → All Conversion 0 p → isBytes (l .kind) ≡ false → Run false 0 0 0 (map I ps)
-    tree ps p e all b = rw e (run-top Conversion (λ e c h. h) (l .kind) (l .start) (l .end) (placeOf l 0) b 0 0 p [] all (refl, refl))
+    tree : (ps : List Piece) → (p : Parts) → ps ≡ flat 0 p [] → All Had 0 p → isBytes (l .kind) ≡ false → Run false [] 0 0 (map I ps)
+    tree ps p e all b = rw e (run-top (l .kind) (l .start) (l .end) (placeOf l 0) b 0 0 p [] all (refl, refl))
 
-    go : (t : Bool) → isFString (l .kind) ≡ t → (ps : List Piece) (j : ℕ) → readBody (l .kind) (body script l) ≡ got ps j → Run false 0 0 0 (map I ps)
-    go true f ps j e = let t = rw e at (body-converted (l .kind) (body script l) f) in tree ps (t .0) (t .1) (t .2) (f-no-bytes (l .kind) f)
-    go false f ps j e = let t = alone-piece (l .kind) (body script l) ps j f e in rw (t .1) (run-alone Conversion (λ e c h. h) (l .kind) (l .start) (l .end) (placeOf l 0) (t .0))
+    go : (t : Bool) → isFString (l .kind) ≡ t → (ps : List Piece) (j : ℕ) → readBody (l .kind) (body script l) ≡ got ps j → Run false [] 0 0 (map I ps)
+    go true f ps j e = let t = rw e at (body-had (l .kind) (body script l) utf8 f) in tree ps (t .0) (t .1) (t .2) (f-no-bytes (l .kind) f)
+    go false f ps j e = let t = alone-piece (l .kind) (body script l) ps j f e in rw (t .1) (run-alone (l .kind) (l .start) (l .end) (placeOf l 0) (t .0))
 
-pub items-run : (script : List ℕ) (ls : List Literal) (xs : List Item) → readFrom script 0 ls ≡ accepts xs → Run false 0 0 0 xs
-items-run script ls xs e = each-holds (Run false 0 0 0) (refl, refl) (run-append false 0 0 0) script (literal-run script) ls xs e
+pub items-run : (script : List ℕ) (ls : List Literal) (xs : List Item) → allUtf8 script ls ≡ none → readFrom script 0 ls ≡ accepts xs → Run false [] 0 0 xs
+items-run script ls xs u e =
+    each-holds (Run false [] 0 0) (refl, refl) (run-append false [] 0 0) (λ l. Utf8 (body script l)) script (literal-run script) ls xs (utf8-each script ls u) e

@@ -1,15 +1,15 @@
 -- Characters of any bytes: where one ends, and which of them are ASCII. Assumes nothing.
-use mathlib.Core.Path.{_≡_, refl, sym, subst}
-use mathlib.Core.Bool.{Bool, true, false}
+use mathlib.Core.Path.{_≡_, refl, sym, _∙_, ap, ap₂, subst}
+use mathlib.Core.Bool.{Bool, true, false, _&&_}
 use mathlib.Core.List.{List, [], _∷_}
-use mathlib.Core.Option.{none, some}
+use mathlib.Core.Option.{Option, none, some}
 use Prim.Native.Nat.{ℕ, zero, suc, _+_, _-_, _≤_, _<_, max}
 use native.Mathlib.Nat.{add-assoc, le-of-suc-le-suc, not-suc-le-zero}
 use native.Mathlib.Omega.{arith, by-contra}
 use borrow.Author.Tests.{ltb-true, ltb-false, leb-true, leb-false, le-leb, lt-leb, eqb-true, eqb-false, ne-eqb}
 use lib.Dec.{ltb, leb, eqb, lit≤}
 use lib.ListN.{length, drop, getD, length-drop, List·getD-eq-default}
-use Rattle.definition.specs.Chars.{if_then_else_, byte, atEnd, noCode, Range, _to_, inside, insideAny, table37, following, follow, width, decoded, code, next, before}
+use Rattle.definition.specs.Chars.{if_then_else_, byte, atEnd, noCode, Range, _to_, inside, insideAny, table37, following, follow, width, decoded, code, next, formedFrom, wellFormed, before}
 
 -- a test is true or false
 pub cases : {P : Type 0} (t : Bool) → (t ≡ true → P) → (t ≡ false → P) → P
@@ -122,6 +122,15 @@ module _ (s : List ℕ) (i : ℕ) where
         ((λ l h w. omega arith), ((λ l h w. omega arith), ((λ l h w. omega arith), ((λ l h w. omega arith), ((λ l h w. omega arith), ((λ l h w. omega arith), ((λ l h w. omega arith), ((λ l h w. omega arith), tt)))))))),
       )
 
+  -- and none begins with such a byte
+  pub tail-none : (0x80 ≤ byte s i) × (byte s i ≤ 0xBF) → width s i ≡ 0
+  unfolding table37
+  tail-none t =
+      by-row (λ n. n ≡ 0) refl (
+        (λ l h w. absurd (omega arith)),
+        ((λ l h w. absurd (omega arith)), ((λ l h w. absurd (omega arith)), ((λ l h w. absurd (omega arith)), ((λ l h w. absurd (omega arith)), ((λ l h w. absurd (omega arith)), ((λ l h w. absurd (omega arith)), ((λ l h w. absurd (omega arith)), ((λ l h w. absurd (omega arith)), tt)))))))),
+      )
+
   -- the next character begins later, and no later than the end
   pub next-past : i < length s → i < next s i
   unfolding next
@@ -220,3 +229,75 @@ before-most test (b ∷ l) = go (test b) refl (before-most test l)
 -- what stands before the first byte that passes a test ends in the body
 pub before-in : (test : ℕ → Bool) (s : List ℕ) (i : ℕ) → i ≤ length s → i + before test (drop i s) ≤ length s
 before-in test s i h = omega (arith, before-most test (drop i s), length-drop i s)
+
+-- WELL-FORMED TEXT: where no character begins, a tail stands
+abbrev pub Utf8 : List ℕ → Type 0
+Utf8 s = (i : ℕ) → i < length s → width s i ≡ 0 → (0x80 ≤ byte s i) × (byte s i ≤ 0xBF)
+
+formed-heads : (n : ℕ) (s : List ℕ) (j : ℕ) → length s ≤ formedFrom n s j → (i : ℕ) → j ≤ i → i < length s → width s i ≡ 0 → (0x80 ≤ byte s i) × (byte s i ≤ 0xBF)
+unfolding formedFrom next
+formed-heads zero s j e i h l z = absurd (omega arith)
+formed-heads (suc n) s j e i h l z = go (width s j) refl (formed-heads n s)
+  where
+    go : (w : ℕ) → width s j ≡ w → ((j : ℕ) → length s ≤ formedFrom n s j → (i : ℕ) → j ≤ i → i < length s → width s i ≡ 0 → (0x80 ≤ byte s i) × (byte s i ≤ 0xBF)) → (0x80 ≤ byte s i) × (byte s i ≤ 0xBF)
+    go zero w ih = let k = rw (w, formedFrom) at e in absurd (omega arith)
+    go (suc m) w ih =
+        cases (ltb i (j + suc m))
+        (λ t.
+        cases (eqb i j) (λ q. let k = ap (width s) (eqb-true i j q) in absurd (omega arith))
+        (λ q. let k = eqb-false i j q in let b = ltb-true i (j + suc m) t in between s j i (omega arith) (rw (lt-leb (length s) j (omega arith), w) (omega arith))))
+        (λ t. ih (j + suc m) (rw (w, formedFrom) at e) i (ltb-false _ _ t) l z)
+
+pub formed-utf8 : (s : List ℕ) → length s ≤ wellFormed s → Utf8 s
+unfolding wellFormed
+formed-utf8 s h i l z = formed-heads (length s) s 0 h i (omega arith) l z
+
+-- THE SAME BYTES ARE THE SAME CHARACTER: that of well-formed text at i, in front of another text
+module _ (s t : List ℕ) (i : ℕ) (l : i < length s) (utf8 : Utf8 s) (same : (k n : ℕ) → k ≡ i + n → k < next s i → byte s k ≡ byte t n) where
+  next-width : next s i ≡ i + max 1 (width s i)
+  unfolding next
+  next-width = rw (lt-leb (length s) i l) refl
+
+  first-same : byte s i ≡ byte t 0
+  first-same = same i 0 (omega arith) (next-past s i l)
+
+  follow-same : (rs : List Range) (k n : ℕ) → k ≡ i + n → k + length rs ≤ next s i → follow rs s k ≡ follow rs t n
+  unfolding follow
+  follow-same [] k n e h = refl
+  follow-same (r ∷ rs) k n e h = ap₂ (λ b f. inside r b && f) (same k n e (omega arith)) (follow-same rs (k + 1) (n + 1) (omega arith) (omega arith))
+
+  width-same : width s i ≡ width t 0
+  unfolding width
+  width-same = go (width s i) refl
+    where
+      row : (w : ℕ) → width s i ≡ suc w → (o : Option (List Range)) → following table37 (byte s i) ≡ o → width s i ≡ width t 0
+      row w e none f = let z = rw (f, width) at e in absurd (omega arith)
+      row w e (some rs) f =
+          cases (follow rs s (i + 1))
+          (λ g.
+          let z = rw (f, g, width) at e in
+          rw (← first-same, f, ← follow-same rs (i + 1) 1 (omega arith) (omega (arith, next-width)), g, width) refl)
+          (λ g. let z = rw (f, g, width) at e in absurd (omega arith))
+
+      go : (w : ℕ) → width s i ≡ w → width s i ≡ width t 0
+      go zero e = e ∙ sym (tail-none t 0 (rw first-same at (utf8 i l e)))
+      go (suc w) e = row w e (following table37 (byte s i)) refl
+
+  decoded-same : (n : ℕ) → i + n ≤ next s i → decoded n s i ≡ decoded n t 0
+  unfolding decoded
+  decoded-same zero h = refl
+  decoded-same (suc zero) h = first-same
+  decoded-same (suc (suc zero)) h = rw (first-same, same (i + 1) 1 (omega arith) (omega arith))
+  decoded-same (suc (suc (suc zero))) h = rw (first-same, same (i + 1) 1 (omega arith) (omega arith), same (i + 2) 2 (omega arith) (omega arith))
+  decoded-same (suc (suc (suc (suc n)))) h =
+      rw (first-same, same (i + 1) 1 (omega arith) (omega arith), same (i + 2) 2 (omega arith) (omega arith), same (i + 3) 3 (omega arith) (omega arith))
+
+  pub code-same : 0 < length t → code s i ≡ code t 0
+  unfolding code
+  code-same h =
+      rw (lt-leb (length s) i l, lt-leb (length t) 0 h)
+      (decoded-same (width s i) (omega (arith, next-width)) ∙ ap (λ n. decoded n t 0) width-same)
+
+  pub next-same : 0 < length t → next s i ≡ i + next t 0
+  unfolding next
+  next-same h = next-width ∙ rw (lt-leb (length t) 0 h, width-same) (omega arith)

@@ -12,9 +12,10 @@ use borrow.Author.Tests.{ltb-false, le-ltb}
 use Rattle.definition.specs.Numbers.{isBytes, isFString, badDescriptor, notUtf8}
 use Rattle.definition.specs.Chars.{if_then_else_}
 use Rattle.definition.specs.Records.{plain, joined, bytesOnly}
-use Rattle.definition.specs.Entry.{Literal, Refusal, refusal, notEmpty, notMany, firstBad, bad, placeOf, allGood, total, notLong, formed, illFormed, allUtf8, anyOf, firstStart, notMixed, firstOf, entry}
+use Rattle.definition.specs.Entry.{Literal, Refusal, refusal, notEmpty, notMany, firstBad, bad, placeOf, body, allGood, total, notLong, formed, illFormed, allUtf8, anyOf, firstStart, notMixed, firstOf, entry}
 use Rattle.definition.specs.Reading.{sortOf}
 use Rattle.definition.specs.Join.{joinSort}
+use Rattle.definition.proofs.CharLaws.{Utf8, formed-utf8}
 
 first-head : (c : Option Refusal) (cs : List (Option Refusal)) → firstOf (c ∷ cs) ≡ none → c ≡ none
 unfolding firstOf
@@ -113,6 +114,24 @@ good-parts script xs ys e = bad-parts (bad script) (λ i l. refusal badDescripto
 utf8-parts : (script : List ℕ) (xs ys : List Literal) → allUtf8 script (xs ++ ys) ≡ none → (allUtf8 script xs ≡ none) × (allUtf8 script ys ≡ none)
 unfolding allUtf8 illFormed
 utf8-parts script xs ys e = bad-parts (illFormed script) (λ i l. refusal notUtf8 i (placeOf l (formed script l)) 0 0) (λ p l t. t) xs ys e
+
+-- what holds of each literal
+abbrev pub Each : (Literal → Type 0) → List Literal → Type 0
+Each P [] = Unit {0}
+Each P (l ∷ ls) = P l × Each P ls
+
+pub utf8-each : (script : List ℕ) (ls : List Literal) → allUtf8 script ls ≡ none → Each (λ l. Utf8 (body script l)) ls
+unfolding allUtf8 illFormed formed
+utf8-each script = go 0 0
+  where
+    why : ℕ → Literal → Refusal
+    why i l = refusal notUtf8 i (placeOf l (formed script l)) 0 0
+
+    go : (p i : ℕ) (ls : List Literal) → firstBad (illFormed script) why p i ls ≡ none → Each (λ l. Utf8 (body script l)) ls
+    go p i [] e = tt
+    go p i (l ∷ ls) e =
+        let h = bad-step (illFormed script) why (λ p l t. t) p i l ls e in
+        (formed-utf8 (body script l) (ltb-false _ _ (h .0)), go (l .end) (suc i) ls (h .1))
 
 -- 7
 any-append : (p : ℕ → Bool) (xs ys : List Literal) → anyOf p (xs ++ ys) ≡ anyOf p xs || anyOf p ys

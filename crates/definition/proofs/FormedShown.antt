@@ -8,7 +8,7 @@ use Rattle.definition.specs.Records.{Answer}
 use Rattle.definition.specs.Words.{roleAt, recordsFrom, sortFrom, answerFrom, fits, allFit, ordered, gapless, noBytes, oneOf, sorted, recordsFormed, atTop, whole, alike, apart, together, recordsWellFormed}
 
 -- the words of a record of a call from 0 to 10
-abbrev rec : (kind offset size mode parts place : ℕ) → List ℕ
+abbrev pub rec : (kind offset size mode parts place : ℕ) → List ℕ
 rec kind offset size mode parts place = kind ∷ offset ∷ size ∷ 0 ∷ 10 ∷ mode ∷ parts ∷ place ∷ []
 
 -- a sort, a count of records, their words, and whether they are formed, and well formed, over the text `ax>5`

@@ -11,7 +11,7 @@ use borrow.Author.Tests.{leb-false, eq-eqb, ne-eqb}
 use Rattle.definition.specs.Numbers.{isFString, expressionNestedTooDeeply, emptyExpression}
 use Rattle.definition.specs.Chars.{if_then_else_, _is_, part, atEnd, code, next}
 use Rattle.definition.specs.Escapes.{Read, got, refused}
-use Rattle.definition.specs.Body.{Piece, literal, field, spec, Move, goes, stops, calls, ends, deep, textCase, textMove, filled, Field, state, fresh, fieldMove, direct, conversionOf, fieldPieces, selfDocumenting, finished, specified, firstEnd, textN, fieldN, specN, enough, readBody}
+use Rattle.definition.specs.Body.{Piece, literal, field, spec, Move, goes, stops, calls, ends, tooDeep, deep, textCase, textMove, filled, Field, state, fresh, fieldMove, direct, conversionOf, fieldPieces, selfDocumenting, finished, specified, firstEnd, textN, fieldN, specN, enough, readBody}
 use Rattle.definition.proofs.Steps.{text-goes, text-stops, text-ends, text-got, text-refused, field-goes, field-stops, field-ends, field-got, field-refused, firstPiece, spec-calls, spec-ends}
 
 -- A tree: what a text holds, in order
@@ -105,40 +105,29 @@ module _ (P : List ℕ → ℕ → Type 0) where
   tree-filled d [] = (done, refl, tt)
   tree-filled d (b ∷ t) = (run (b ∷ t) done, refl, tt)
 
--- what holds of a field's state after a move
-abbrev pub Kept : (Field → Type 0) → Move Field → Type 0
-Kept Inv (goes j f) = Inv f
-Kept Inv (stops m j a b) = Unit {0}
-Kept Inv calls = Unit {0}
-Kept Inv ends = Unit {0}
+-- what holds after a move of a field: Inv of its state where it goes on, C where its expression ends
+pub data Moved (Inv : Field → Type 0) (C : Type 0) : Move Field → Type 0 where
+  on : {j : ℕ} {f : Field} → Inv f → Moved Inv C (goes j f)
+  stopped : {m j a b : ℕ} → Moved Inv C (stops m j a b)
+  at-spec : C → Moved Inv C calls
+  at-end : C → Moved Inv C ends
 
--- what holds where a field's expression ends
-abbrev pub Closed : Type 0 → Move Field → Type 0
-Closed C (goes j f) = Unit {0}
-Closed C (stops m j a b) = Unit {0}
-Closed C calls = C
-Closed C ends = C
-
-deep-case : (kind : ℕ) (s : List ℕ) (depth i : ℕ) → leb 2 depth ≡ true → textCase kind s depth i ≡ deep
+deep-case : (kind : ℕ) (s : List ℕ) (depth i : ℕ) → leb tooDeep depth ≡ true → textCase kind s depth i ≡ deep
 unfolding textCase
 deep-case kind s depth i e = rw e
 
-deep-stops : (kind : ℕ) (s : List ℕ) (depth i : ℕ) (text : List ℕ) → leb 2 depth ≡ true → textMove kind s depth i text ≡ stops expressionNestedTooDeeply i 0 0
+deep-stops : (kind : ℕ) (s : List ℕ) (depth i : ℕ) (text : List ℕ) → leb tooDeep depth ≡ true → textMove kind s depth i text ≡ stops expressionNestedTooDeeply i 0 0
 unfolding textMove
 deep-stops kind s depth i text e = rw (deep-case kind s depth i e, textMove)
 
--- An invariant of a field's state, `Inv`, that gives P where the field is finished
-module _ (Inv : Field → Type 0) (P : List ℕ → ℕ → Type 0)
+-- P of a field's expression and of its conversion, where it is finished
+abbrev pub Closes : (List ℕ → ℕ → Type 0) → Field → Type 0
+Closes P (state e b o c d w) = b ≡ false → (p : Option (List Piece)) → P e (conversionOf d c p)
+
+-- an invariant of a field's state, `Inv`, that gives P there
+module _ (kind : ℕ) (s : List ℕ) (Inv : Field → Type 0) (P : List ℕ → ℕ → Type 0)
     (start : Inv fresh)
-    (step : (s : List ℕ) (i : ℕ) (f : Field) → Inv f → Kept Inv (fieldMove s i f))
-    (close : (s : List ℕ) (i : ℕ) (e : List ℕ) (b : Bool) (o : List ℕ) (c : ℕ) (d : Bool) (w : ℕ) → Inv (state e b o c d w)
-    → Closed (b ≡ false → (p : Option (List Piece)) → P e (conversionOf d c p)) (fieldMove s i (state e b o c d w))) where
-  abbrev Closes : Field → Type 0
-  Closes (state e b o c d w) = b ≡ false → (p : Option (List Piece)) → P e (conversionOf d c p)
-
-  closes : (s : List ℕ) (i : ℕ) (f : Field) → Inv f → Closed (Closes f) (fieldMove s i f)
-  closes s i (state e b o c d w) h = close s i e b o c d w h
-
+    (step : (i : ℕ) (f : Field) → Inv f → Moved Inv (Closes P f) (fieldMove s i f)) where
   tree-documented : (depth : ℕ) (d : Bool) (e : List ℕ) (w : ℕ) → Tree P depth (selfDocumenting depth d e w)
   unfolding selfDocumenting
   tree-documented depth true e w = (run (e ++ (61 ∷ [])) (run (replicate w 32) done), refl, tt)
@@ -154,7 +143,7 @@ module _ (Inv : Field → Type 0) (P : List ℕ → ℕ → Type 0)
       none-left : (q : Parts) → count q + direct (suc depth) [] ≡ count q
       none-left q = omega arith
 
-  finished-tree : (depth from j : ℕ) (f : Field) (p : Option (List Piece)) → depth ≤ 1 → Closes f
+  finished-tree : (depth from j : ℕ) (f : Field) (p : Option (List Piece)) → depth ≤ 1 → Closes P f
       → TreeIn P (suc depth) p → TreeRead P depth (finished depth from j f p)
   unfolding finished
   finished-tree depth from j (state e b o c d w) p l h k = go b refl
@@ -163,22 +152,22 @@ module _ (Inv : Field → Type 0) (P : List ℕ → ℕ → Type 0)
       go true y = tt
       go false y = tree-append P depth (selfDocumenting depth d e w) (fieldPieces depth e (conversionOf d c p) from p) (tree-documented depth d e w) (tree-field depth e (conversionOf d c p) from p l (h y p) k)
 
-  specified-tree : (s : List ℕ) (depth from j : ℕ) (f : Field) (ps : List Piece) → depth ≤ 1 → Closes f → Tree P (suc depth) ps → TreeRead P depth (specified s depth from j f ps)
+  specified-tree : (depth from j : ℕ) (f : Field) (ps : List Piece) → depth ≤ 1 → Closes P f → Tree P (suc depth) ps → TreeRead P depth (specified s depth from j f ps)
   unfolding specified
-  specified-tree s depth from j f ps l h k = go (atEnd s j) refl
+  specified-tree depth from j f ps l h k = go (atEnd s j) refl
     where
       go : (t : Bool) → atEnd s j ≡ t → TreeRead P depth (specified s depth from j f ps)
       go true e = rw e tt
       go false e = rw e (finished-tree depth from (next s j) f (some ps) l h k)
 
   record Trees (n : ℕ) : Type 0 where
-    text : (kind : ℕ) (s : List ℕ) (depth i : ℕ) (text : List ℕ) (ps : List Piece) → Tree P depth ps → TreeRead P depth (textN n kind s depth i text ps)
-    field : (kind : ℕ) (s : List ℕ) (depth from i : ℕ) (f : Field) → depth ≤ 1 → Inv f → TreeRead P depth (fieldN n kind s depth from i f)
-    spec : (kind : ℕ) (s : List ℕ) (depth i : ℕ) → TreeRead P (suc depth) (specN n kind s depth i)
+    text : (depth i : ℕ) (text : List ℕ) (ps : List Piece) → Tree P depth ps → TreeRead P depth (textN n kind s depth i text ps)
+    field : (depth from i : ℕ) (f : Field) → depth ≤ 1 → Inv f → TreeRead P depth (fieldN n kind s depth from i f)
+    spec : (depth i : ℕ) → TreeRead P (suc depth) (specN n kind s depth i)
 
-  module _ (n : ℕ) (D : Trees n) (kind : ℕ) (s : List ℕ) (depth : ℕ) where
+  module _ (n : ℕ) (D : Trees n) (depth : ℕ) where
     text-tree : (i : ℕ) (text : List ℕ) (ps : List Piece) → Tree P depth ps → TreeRead P depth (textN (suc n) kind s depth i text ps)
-    text-tree i text ps h = test (leb 2 depth) refl
+    text-tree i text ps h = test (leb tooDeep depth) refl
       where
         Goal : Type 0
         Goal = TreeRead P depth (textN (suc n) kind s depth i text ps)
@@ -186,31 +175,34 @@ module _ (Inv : Field → Type 0) (P : List ℕ → ℕ → Type 0)
         after : (r : Read (List Piece)) → fieldN n kind s depth (next s i) (next s i) fresh ≡ r → TreeRead P depth r → textMove kind s depth i text ≡ calls → Goal
         after (got qs j) f k e =
             rw (text-got n kind s depth i text ps qs j e f)
-            (D .text kind s depth j [] (ps ++ filled depth text ++ qs) (tree-append P depth (ps ++ filled depth text) qs (tree-append P depth ps (filled depth text) h (tree-filled P depth text)) k))
+            (D .text depth j [] (ps ++ filled depth text ++ qs) (tree-append P depth (ps ++ filled depth text) qs (tree-append P depth ps (filled depth text) h (tree-filled P depth text)) k))
         after (refused m j a b) f k e = rw (text-refused n kind s depth i text ps m j a b e f) tt
 
         go : (x : Move (List ℕ)) → textMove kind s depth i text ≡ x → depth ≤ 1 → Goal
-        go (goes j text′) e l = rw (text-goes n kind s depth i text ps j text′ e) (D .text kind s depth j text′ ps h)
+        go (goes j text′) e l = rw (text-goes n kind s depth i text ps j text′ e) (D .text depth j text′ ps h)
         go (stops m j a b) e l = rw (text-stops n kind s depth i text ps m j a b e) tt
-        go calls e l = after (fieldN n kind s depth (next s i) (next s i) fresh) refl (D .field kind s depth (next s i) (next s i) fresh l start) e
+        go calls e l = after (fieldN n kind s depth (next s i) (next s i) fresh) refl (D .field depth (next s i) (next s i) fresh l start) e
         go ends e l = rw (text-ends n kind s depth i text ps e) (tree-append P depth ps (filled depth text) h (tree-filled P depth text))
 
-        test : (t : Bool) → leb 2 depth ≡ t → Goal
+        test : (t : Bool) → leb tooDeep depth ≡ t → Goal
         test true e = rw (text-stops n kind s depth i text ps expressionNestedTooDeeply i 0 0 (deep-stops kind s depth i text e)) tt
-        test false e = go (textMove kind s depth i text) refl (omega (arith, leb-false 2 depth e))
+        test false e = go (textMove kind s depth i text) refl (omega (arith, leb-false tooDeep depth e))
 
     field-tree : (from i : ℕ) (f : Field) → depth ≤ 1 → Inv f → TreeRead P depth (fieldN (suc n) kind s depth from i f)
-    field-tree from i f l h = go (fieldMove s i f) refl (step s i f h) (closes s i f h)
+    field-tree from i f l h = go (fieldMove s i f) refl (step i f h)
       where
-        after : (r : Read (List Piece)) → specN n kind s depth (next s i) ≡ r → TreeRead P (suc depth) r → fieldMove s i f ≡ calls → Closes f → TreeRead P depth (fieldN (suc n) kind s depth from i f)
-        after (got ps j) g k e c = rw (field-got n kind s depth from i f ps j e g) (specified-tree s depth from j f ps l c k)
+        Goal : Type 0
+        Goal = TreeRead P depth (fieldN (suc n) kind s depth from i f)
+
+        after : (r : Read (List Piece)) → specN n kind s depth (next s i) ≡ r → TreeRead P (suc depth) r → fieldMove s i f ≡ calls → Closes P f → Goal
+        after (got ps j) g k e c = rw (field-got n kind s depth from i f ps j e g) (specified-tree depth from j f ps l c k)
         after (refused m j a b) g k e c = rw (field-refused n kind s depth from i f m j a b e g) tt
 
-        go : (x : Move Field) → fieldMove s i f ≡ x → Kept Inv x → Closed (Closes f) x → TreeRead P depth (fieldN (suc n) kind s depth from i f)
-        go (goes j f′) e k c = rw (field-goes n kind s depth from i f j f′ e) (D .field kind s depth from j f′ l k)
-        go (stops m j a b) e k c = rw (field-stops n kind s depth from i f m j a b e) tt
-        go calls e k c = after (specN n kind s depth (next s i)) refl (D .spec kind s depth (next s i)) e c
-        go ends e k c = rw (field-ends n kind s depth from i f e) (finished-tree depth from (next s i) f none l c tt)
+        go : (x : Move Field) → fieldMove s i f ≡ x → Moved Inv (Closes P f) x → Goal
+        go (goes j f′) e (on k) = rw (field-goes n kind s depth from i f j f′ e) (D .field depth from j f′ l k)
+        go (stops m j a b) e stopped = rw (field-stops n kind s depth from i f m j a b e) tt
+        go calls e (at-spec c) = after (specN n kind s depth (next s i)) refl (D .spec depth (next s i)) e c
+        go ends e (at-end c) = rw (field-ends n kind s depth from i f e) (finished-tree depth from (next s i) f none l c tt)
 
     spec-tree : (i : ℕ) → TreeRead P (suc depth) (specN (suc n) kind s depth i)
     spec-tree i = go (code s (firstEnd s i) is "{") refl
@@ -219,19 +211,15 @@ module _ (Inv : Field → Type 0) (P : List ℕ → ℕ → Type 0)
         first = tree-filled P (suc depth) (part s i (firstEnd s i))
 
         go : (t : Bool) → (code s (firstEnd s i) is "{") ≡ t → TreeRead P (suc depth) (specN (suc n) kind s depth i)
-        go true e = rw (spec-calls n kind s depth i e) (D .text kind s (suc depth) (firstEnd s i) [] (firstPiece s depth i) first)
+        go true e = rw (spec-calls n kind s depth i e) (D .text (suc depth) (firstEnd s i) [] (firstPiece s depth i) first)
         go false e = rw (spec-ends n kind s depth i e) first
 
   trees : (n : ℕ) → Trees n
   unfolding textN
-  trees zero = record { text = λ kind s depth i text ps h. tt; field = λ kind s depth from i f l h. tt; spec = λ kind s depth i. tt }
-  trees (suc n) = record {
-    text = λ kind s depth. text-tree n (trees n) kind s depth;
-    field = λ kind s depth. field-tree n (trees n) kind s depth;
-    spec = λ kind s depth. spec-tree n (trees n) kind s depth;
-  }
+  trees zero = record { text = λ depth i text ps h. tt; field = λ depth from i f l h. tt; spec = λ depth i. tt }
+  trees (suc n) = record { text = text-tree n (trees n); field = field-tree n (trees n); spec = spec-tree n (trees n) }
 
   -- A BODY of an f-string is such a tree
-  pub body-tree : (kind : ℕ) (s : List ℕ) → isFString kind ≡ true → TreeRead P 0 (readBody kind s)
+  pub body-tree : isFString kind ≡ true → TreeRead P 0 (readBody kind s)
   unfolding readBody
-  body-tree kind s e = rw (e, readBody) (trees (enough s) .text kind s 0 0 [] [] (done, refl, tt))
+  body-tree e = rw (e, readBody) (trees (enough s) .text 0 0 [] [] (done, refl, tt))

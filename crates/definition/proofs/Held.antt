@@ -5,27 +5,26 @@ use mathlib.Core.List.{List, _++_}
 use mathlib.Core.Option.{Option, none, some}
 use Prim.Native.Nat.{ℕ, _*_}
 use native.Mathlib.Omega.{arith}
-use lib.Dec.{T}
 use lib.ListN.{length, drop, length-append}
 use borrow.Author.Tests.{le-leb}
-use Rattle.definition.specs.Numbers.{refusals, _among_, notSixes}
+use Rattle.definition.specs.Numbers.{notSixes}
 use Rattle.definition.specs.Records.{Answer}
 use Rattle.definition.specs.Entry.{Literal, sixes, Refusal, refusal}
-use Rattle.definition.specs.Reading.{Outcome, accepts, refuses, read, roomed, allWords, wordsAfter, textAfter, numbers, Call, called, readInto, readNumbers}
-use Rattle.definition.specs.Words.{word, answerFrom, lie, heldFrom, recordsWellFormed}
+use Rattle.definition.specs.Reading.{Outcome, accepts, refuses, read, allWords, wordsAfter, textAfter, numbers, Call, called, readInto, readNumbers}
+use Rattle.definition.specs.Words.{word, answerFrom, lie, heldFrom, recordsWellFormed, assured}
 use Rattle.definition.proofs.Outcomes.{Listed, Sane, all-words, into-sane, numbers-sane}
 use Rattle.definition.proofs.Room.{roomed-accepts}
-use Rattle.definition.proofs.WellFormed.{well-formed, answer-back}
+use Rattle.definition.proofs.WellFormed.{well-formed, answer-back, all-assured}
 
 -- what a call leaves: the returned numbers and both buffers
 abbrev pub held : Call → Answer
 held c = heldFrom (numbers (c .outcome)) (c .words) (c .text)
 
--- AFTER A CALL THAT ACCEPTS that is the answer, roles too; it is well formed, and it lies in the buffers
+-- AFTER A CALL THAT ACCEPTS that is the answer, roles too; it is well formed, it lies in the buffers, and its expressions have what they must
 abbrev pub Held : Call → Type 0
 Held c =
     (x : Answer) → c .outcome ≡ accepts x
-    → (held c ≡ x) × (recordsWellFormed x ≡ true) × (lie (length (x .records)) (length (x .text)) (c .words) (c .text) ≡ true)
+    → (held c ≡ x) × (recordsWellFormed x ≡ true) × (lie (length (x .records)) (length (x .text)) (c .words) (c .text) ≡ true) × (assured x ≡ true)
 
 module _ (words text : List ℕ) (x : Answer) where
   accepted-held : (script : List ℕ) (ls : List Literal) → read script ls ≡ accepts x
@@ -46,7 +45,7 @@ pub into-held : (script : List ℕ) (ls : List Literal) (words text : List ℕ) 
 unfolding readInto called
 into-held script ls words text x e =
     let r = roomed-accepts (length words) (length text) (read script ls) x e in
-    (rw e (accepted-held words text x script ls r), well-formed script ls x r, rw e (accepted-lies words text x))
+    (rw e (accepted-held words text x script ls r), well-formed script ls x r, rw e (accepted-lies words text x), all-assured script ls x r)
 
 -- of flat numbers
 pub numbers-held : (script ns words text : List ℕ) → Held (readNumbers script ns words text)
@@ -59,6 +58,19 @@ numbers-held script ns words text = go (sixes ns) refl
     go : (o : Option (List Literal)) → sixes ns ≡ o → Held (readNumbers script ns words text)
     go none i = rw (i, readNumbers) (λ x e. no x (refusal notSixes 0 0 0 0) e)
     go (some ls) i = rw (i, readNumbers) (into-held script ls words text)
+
+-- WHAT YOU MAY ASSUME OF EVERY EXPRESSION, of what a caller holds
+abbrev pub Assured : Call → Type 0
+Assured c = (x : Answer) → c .outcome ≡ accepts x → assured (held c) ≡ true
+
+held-assured : (c : Call) → Held c → Assured c
+held-assured c h x e = let k = h x e in ap assured (k .0) ∙ k .3
+
+pub numbers-assured : (script ns words text : List ℕ) → Assured (readNumbers script ns words text)
+numbers-assured script ns words text = held-assured (readNumbers script ns words text) (numbers-held script ns words text)
+
+pub into-assured : (script : List ℕ) (ls : List Literal) (words text : List ℕ) → Assured (readInto script ls words text)
+into-assured script ls words text = held-assured (readInto script ls words text) (into-held script ls words text)
 
 -- NO TWO OUTCOMES. Calls that return the same numbers, 0 where they end, and leave the same words and text
 abbrev pub Alike : Call → Call → Type 0

@@ -8,6 +8,7 @@ pub mod JoinLaw
 pub mod CharLaws
 pub mod Counted
 pub mod Placed
+pub mod Adds
 pub mod Cases
 pub mod Moves
 pub mod Steps
@@ -20,10 +21,12 @@ pub mod ViewLaw
 pub mod Room
 pub mod Shown
 pub mod Grammar
-pub mod Conversions
+pub mod FieldState
 pub mod Runs
 pub mod Accepted
 pub mod One
 pub mod WellFormed
 pub mod Held
+pub mod Raw
 pub mod FormedShown
+pub mod AssuredShown

@@ -1,25 +1,28 @@
 -- An accepted answer is well formed, and it is what its numbers, words and text say. Assumes nothing.
 use mathlib.Core.Path.{_≡_, refl, sym, _∙_, ap, ap₂}
 use mathlib.Core.Bool.{Bool, true, false, _&&_, _||_, not, Bool·beq}
-use mathlib.Core.List.{List, [], _∷_, _++_, map}
+use mathlib.Core.List.{List, [], _∷_, _++_, map, append-assoc}
 use Prim.Native.Nat.{ℕ, zero, suc, _+_}
+use native.Mathlib.Nat.{add-sub-cancel-left}
 use native.Mathlib.Omega.{arith}
 use lib.Dec.{leb, eqb}
-use lib.ListN.{length}
-use lib.Seq.{take-append-seam}
-use borrow.Author.Tests.{eq-eqb}
+use lib.ListN.{length, length-append}
+use lib.Seq.{take-append-seam, drop-append-seam}
+use borrow.Author.Tests.{eqb-true, eq-eqb, le-leb}
 use Rattle.definition.specs.Numbers.{isFString, isBytes, isUnicode}
-use Rattle.definition.specs.Chars.{if_then_else_}
+use Rattle.definition.specs.Chars.{if_then_else_, part}
 use Rattle.definition.specs.Body.{Piece, literal, field, spec}
 use Rattle.definition.specs.Records.{Role, top, raw, inner, touching, covers, Item, item, itemOf, Record, wordsOf, glue, merge, bothItems, merged, texts, recordAt, laid, cover, Sort, plain, joined, bytesOnly, Answer, answerOf}
+use Rattle.definition.specs.Matched.{matched, blank}
 use Rattle.definition.specs.Entry.{Literal, placeOf, anyOf, firstStart}
 use Rattle.definition.specs.Reading.{accepts, readFrom, sortOf, uMark, lastEnd, read, allWords, sortNumber}
-use Rattle.definition.specs.Words.{word, owing, roleAt, recordsFrom, sortFrom, answerFrom, fits, allFit, hasSpec, ordered, gapless, noBytes, oneOf, sorted, recordsFormed, together, atTop, whole, alike, apart, recordsWellFormed}
+use Rattle.definition.specs.Words.{word, roleAt, recordsFrom, sortFrom, answerFrom, fits, allFit, hasSpec, ordered, gapless, noBytes, oneOf, sorted, recordsFormed, together, atTop, whole, alike, apart, recordsWellFormed, expressed, within, twoDeep, assured}
+use Rattle.definition.proofs.CharLaws.{cases}
 use Rattle.definition.proofs.Seam.{touch-eq, glue-true, glue-false}
 use Rattle.definition.proofs.Laid.{itemRole, laid-length}
 use Rattle.definition.proofs.Outcomes.{Gapless, Sane, read-sane}
 use Rattle.definition.proofs.EntrySplit.{notBytes, passes}
-use Rattle.definition.proofs.Runs.{Ranged, Fit, Run, run-zero, run-merged}
+use Rattle.definition.proofs.Runs.{owe, owing-owe, Ranged, Fit, Run, run-zero, run-merged}
 use Rattle.definition.proofs.Accepted.{From, accepted, items-run, literal-holds, all-hold, f-no-bytes}
 use Rattle.definition.proofs.One.{one-record, not-mixed}
 
@@ -32,63 +35,78 @@ module _ (S E u : ℕ) where
   L n xs = map (cover S E u) (laid n xs)
 
   -- WHAT AN ITEM'S RECORD IS, by the item's role
-  module _ (due : Bool) (owed s e : ℕ) (x : Item) where
-    fit-role : (r : Role) → Fit r due owed s e x → roleAt owed (x .kind) ≡ r
+  module _ (due : Bool) (ns : List ℕ) (s e : ℕ) (x : Item) where
+    fit-role : (r : Role) → Fit r due ns s e x → roleAt (owe ns) (x .kind) ≡ r
     unfolding roleAt
     fit-role top h = rw (h .1, h .2) refl
     fit-role raw h = rw (h .2) refl
-    fit-role inner h = h .0
+    fit-role inner h = h .placed
 
-    fit-fits : (r : Role) → Fit r due owed s e x → fits (x .kind) (length (x .text)) (if covers r then u else x .mode) (x .parts) (x .place) ≡ true
+    fit-fits : (r : Role) → Fit r due ns s e x → fits (x .kind) (length (x .text)) (if covers r then u else x .mode) (x .parts) (x .place) ≡ true
     unfolding fits covers
     fit-fits top h = rw (h .2, h .3, h .4) refl
     fit-fits raw h = rw (h .2, h .3, h .4) refl
-    fit-fits inner h = h .1
+    fit-fits inner h = h .formed
 
-    fit-ordered : (r : Role) → Fit r due owed s e x → (Bool·beq (eqb (x .kind) 3) due && (not (eqb (x .kind) 4) || eqb owed 0)) ≡ true
+    fit-ordered : (r : Role) → Fit r due ns s e x → (Bool·beq (eqb (x .kind) 3) due && (not (eqb (x .kind) 4) || eqb (owe ns) 0)) ≡ true
     fit-ordered top h = rw (h .0, h .1, h .2) refl
     fit-ordered raw h = rw (h .0, h .1, h .2) refl
-    fit-ordered inner h = rw (h .2, h .3) (same due)
+    fit-ordered inner h = rw (h .is-due, h .no-bytes) (same due)
       where
         same : (b : Bool) → (Bool·beq b b && true) ≡ true
         same true = refl
         same false = refl
 
-    fit-whole : (r : Role) → Fit r due owed s e x
+    fit-whole : (r : Role) → Fit r due ns s e x
         → (if atTop r then eqb (if covers r then S else x .start) S && eqb (if covers r then E else x .end) E && eqb (if covers r then u else x .mode) u else (not (eqb (x .kind) 1) || eqb (if covers r then u else x .mode) 0)) ≡ true
     unfolding atTop covers
     fit-whole top h = rw (eq-eqb S S refl, eq-eqb E E refl, eq-eqb u u refl) refl
     fit-whole raw h = rw (eq-eqb S S refl, eq-eqb E E refl, eq-eqb u u refl) refl
-    fit-whole inner h = h .4
+    fit-whole inner h = h .unmarked
 
-    fit-ranged : (r : Role) → Fit r due owed s e x → Ranged owed s e (if covers r then S else x .start) (if covers r then E else x .end)
+    fit-ranged : (r : Role) → Fit r due ns s e x → Ranged (owe ns) s e (if covers r then S else x .start) (if covers r then E else x .end)
     unfolding covers
     fit-ranged top h = rw (h .1) refl
     fit-ranged raw h = rw (h .1) refl
-    fit-ranged inner h = h .5
+    fit-ranged inner h = h .ranged
+
+    -- a field is at most two deep, and its expression is matched and not blank
+    fit-field : (r : Role) → Fit r due ns s e x → ((not (eqb (x .kind) 2) || leb (length ns) 2) ≡ true) × ((not (eqb (x .kind) 2) || matched (x .text) && not (blank (x .text))) ≡ true)
+    fit-field top h = rw (h .2) (refl, refl)
+    fit-field raw h = rw (h .2) (refl, refl)
+    fit-field inner h =
+        cases (eqb (x .kind) 2) (λ t. let k = h .had (eqb-true (x .kind) 2 t) in rw (t, le-leb (length ns) 2 (k .0), k .1 .matches, k .1 .says) (refl, refl))
+        (λ t. rw t (refl, refl))
 
     -- what follows, after the record's range
-    fit-follows : (r : Role) (xs : List Item) → Fit r due owed s e x → Run (hasSpec (x .kind) (x .parts)) (owing owed (x .parts)) (x .start) (x .end) xs
-        → Run (hasSpec (x .kind) (x .parts)) (owing owed (x .parts)) (if covers r then S else x .start) (if covers r then E else x .end) xs
-    unfolding covers
-    fit-follows top xs h k = rw (h .1, h .3) (run-zero (hasSpec (x .kind) 0) (x .start) (x .end) S E xs (rw (h .1, h .3) at k))
-    fit-follows raw xs h k = rw (h .1, h .3) (run-zero (hasSpec (x .kind) 0) (x .start) (x .end) S E xs (rw (h .1, h .3) at k))
+    fit-follows : (r : Role) (xs : List Item) → Fit r due ns s e x → Run (hasSpec (x .kind) (x .parts)) (within (x .parts ∷ ns)) (x .start) (x .end) xs
+        → Run (hasSpec (x .kind) (x .parts)) (within (x .parts ∷ ns)) (if covers r then S else x .start) (if covers r then E else x .end) xs
+    unfolding covers within
+    fit-follows top xs h k = rw (h .3, h .1) (run-zero (hasSpec (x .kind) 0) (x .start) (x .end) S E xs (rw (h .3, h .1) at k))
+    fit-follows raw xs h k = rw (h .3, h .1) (run-zero (hasSpec (x .kind) 0) (x .start) (x .end) S E xs (rw (h .3, h .1) at k))
     fit-follows inner xs h k = k
 
-  -- THE RECORDS OF ITEMS IN ORDER: they are what their words say, and they meet the rules
-  record Good (n : ℕ) (due : Bool) (owed s e : ℕ) (xs : List Item) : Type 0 where
-    back : (rest : List ℕ) → recordsFrom (length xs) owed (allWords (L n xs) ++ rest) ≡ L n xs
+  -- THE RECORDS OF ITEMS IN ORDER: they are what their words say, they meet the rules, and each field has what it must
+  record Good (n : ℕ) (due : Bool) (ns : List ℕ) (s e : ℕ) (xs : List Item) : Type 0 where
+    back : (rest : List ℕ) → recordsFrom (length xs) (owe ns) (allWords (L n xs) ++ rest) ≡ L n xs
     fit : allFit (L n xs) ≡ true
-    order : ordered due owed (L n xs) ≡ true
+    order : ordered due (owe ns) (L n xs) ≡ true
     covered : whole S E u (L n xs) ≡ true
-    ranges : together owed s e (L n xs) ≡ true
+    ranges : together (owe ns) s e (L n xs) ≡ true
+    depth : twoDeep ns (L n xs) ≡ true
+    had : (before : List ℕ) → length before ≡ n → expressed (before ++ texts xs) (L n xs) ≡ true
 
-  laid-good : (n : ℕ) (due : Bool) (owed s e : ℕ) (xs : List Item) → Run due owed s e xs → Good n due owed s e xs
-  unfolding recordsFrom allWords wordsOf allFit ordered whole together laid cover recordAt
-  laid-good n due owed s e [] h = record { back = λ rest. refl; fit = refl; order = eq-eqb owed 0 (h .1); covered = refl; ranges = refl }
-  laid-good n due owed s e (x ∷ xs) h =
+  part-at : (n : ℕ) (before t rest : List ℕ) → length before ≡ n → part (before ++ (t ++ rest)) n (n + length t) ≡ t
+  part-at n before t rest l = rw (← l, add-sub-cancel-left, drop-append-seam before (t ++ rest)) (take-append-seam t rest)
+
+  laid-good : (n : ℕ) (due : Bool) (ns : List ℕ) (s e : ℕ) (xs : List Item) → Run due ns s e xs → Good n due ns s e xs
+  unfolding recordsFrom allWords wordsOf allFit ordered whole together twoDeep expressed texts laid cover recordAt
+  laid-good n due ns s e [] h = record { back = λ rest. refl; fit = refl; order = rw (h .1) refl; covered = refl; ranges = refl; depth = refl; had = λ before l. refl }
+  laid-good n due ns s e (x ∷ xs) h =
       let r = x .role in
-      let g = laid-good (n + length (x .text)) (hasSpec (x .kind) (x .parts)) (owing owed (x .parts)) (if covers r then S else x .start) (if covers r then E else x .end) xs (fit-follows due owed s e x r xs (h .0) (h .1)) in
+      let m = n + length (x .text) in
+      let g = laid-good m (hasSpec (x .kind) (x .parts)) (within (x .parts ∷ ns)) (if covers r then S else x .start) (if covers r then E else x .end) xs (fit-follows due ns s e x r xs (h .0) (h .1)) in
+      let f = fit-field due ns s e x r (h .0) in
       record {
         back = λ rest. ap₂ (λ r l. record {
           role = r;
@@ -100,11 +118,13 @@ module _ (S E u : ℕ) where
           mode = if covers (x .role) then u else x .mode;
           parts = x .parts;
           place = x .place;
-        } ∷ l) (fit-role due owed s e x r (h .0)) (g .back rest);
-        fit = both-true _ _ (fit-fits due owed s e x r (h .0)) (g .fit);
-        order = both-true _ _ (fit-ordered due owed s e x r (h .0)) (g .order);
-        covered = both-true _ _ (fit-whole due owed s e x r (h .0)) (g .covered);
-        ranges = both-true _ _ (fit-ranged due owed s e x r (h .0)) (g .ranges);
+        } ∷ l) (fit-role due ns s e x r (h .0)) (rw (owing-owe ns (x .parts)) (g .back rest));
+        fit = both-true _ _ (fit-fits due ns s e x r (h .0)) (g .fit);
+        order = rw (owing-owe ns (x .parts)) (both-true _ _ (fit-ordered due ns s e x r (h .0)) (g .order));
+        covered = both-true _ _ (fit-whole due ns s e x r (h .0)) (g .covered);
+        ranges = rw (owing-owe ns (x .parts)) (both-true _ _ (fit-ranged due ns s e x r (h .0)) (g .ranges));
+        depth = both-true _ _ (f .0) (g .depth);
+        had = λ before l. rw (part-at n before (x .text) (texts xs) l) (both-true _ _ (f .1) (rw (append-assoc before (x .text) (texts xs)) at (g .had (before ++ x .text) (length-append before (x .text) ∙ ap (λ k. k + length (x .text)) l))));
       }
 
 -- NO TWO THAT TOUCH ARE LEFT
@@ -240,7 +260,7 @@ sort-table : (ls : List Literal) (f b : Bool) → anyOf isFString ls ≡ f → a
 unfolding sortOf
 sort-table ls f b p q = rw (p, q) refl
 
-laid-back : (q : Sort) (u s e : ℕ) (xs : List Item) → Good s e u 0 false 0 0 0 (merged xs) → (words text : List ℕ)
+laid-back : (q : Sort) (u s e : ℕ) (xs : List Item) → Good s e u 0 false [] 0 0 (merged xs) → (words text : List ℕ)
     → answerFrom (sortNumber q) u s e (length (map (cover s e u) (laid 0 (merged xs)))) (length (texts (merged xs))) (allWords (map (cover s e u) (laid 0 (merged xs))) ++ words) (texts (merged xs) ++ text)
     ≡ answerOf q u s e xs
 unfolding answerFrom answerOf
@@ -261,10 +281,10 @@ module _ (script : List ℕ) (ls : List Literal) (x : Answer) (e : read script l
   abbrev rs : List Record
   rs = map (cover (firstStart ls) (lastEnd 0 ls) (uMark ls)) (laid 0 (merged (from .items)))
 
-  good : Good (firstStart ls) (lastEnd 0 ls) (uMark ls) 0 false 0 0 0 (merged (from .items))
+  good : Good (firstStart ls) (lastEnd 0 ls) (uMark ls) 0 false [] 0 0 (merged (from .items))
   good =
-      laid-good (firstStart ls) (lastEnd 0 ls) (uMark ls) 0 false 0 0 0 (merged (from .items))
-      (run-merged false 0 0 0 (from .items) (items-run script ls (from .items) (from .reads)))
+      laid-good (firstStart ls) (lastEnd 0 ls) (uMark ls) 0 false [] 0 0 (merged (from .items))
+      (run-merged false [] 0 0 (from .items) (items-run script ls (from .items) (passes script ls (from .passed) .well) (from .reads)))
 
   is-sort : x .sort ≡ sortOf ls
   unfolding answerOf
@@ -321,3 +341,16 @@ module _ (script : List ℕ) (ls : List Literal) (x : Answer) (e : read script l
       → answerFrom (sortNumber (x .sort)) (x .uMark) (x .start) (x .end) (length (x .records)) (length (x .text)) (allWords (x .records) ++ words) (x .text ++ text) ≡ x
   unfolding answerOf
   answer-back words text = rw (from .is) (laid-back (sortOf ls) (uMark ls) (firstStart ls) (lastEnd 0 ls) (from .items) good words text)
+
+  -- every field's expression is matched and not blank
+  pub all-expressed : expressed (x .text) (x .records) ≡ true
+  unfolding answerOf
+  all-expressed = rw (from .is) (good .had [] refl)
+
+  -- and fields lie at most two deep
+  pub two-deep : twoDeep [] (x .records) ≡ true
+  two-deep = ap (twoDeep []) is-records ∙ good .depth
+
+  pub all-assured : assured x ≡ true
+  unfolding assured
+  all-assured = both-true _ _ (both-true _ _ all-expressed two-deep) none-touch

@@ -61,12 +61,16 @@ stringN (suc n) kind s i text =
 pub data TextCase : Type 0 where
   deep over opens last doubled lone escapes plain : TextCase
 
+-- the depth of text that is 24
+abbrev pub tooDeep : ℕ
+tooDeep = 2
+
 -- a backslash before a brace stays and the brace is read next
 unfoldable pub textCase : ℕ → List ℕ → ℕ → ℕ → TextCase
 textCase kind s depth i =
     let c = code s i in
     let c′ = code s (next s i) in
-    if leb 2 depth then deep else
+    if leb tooDeep depth then deep else
     if atEnd s i then over else
     if c is "{" && eqb depth 0 && c′ is "{" then doubled else
     if c is "{" && eqb depth 0 && atEnd s (next s i) then last else

@@ -8,5 +8,6 @@ pub mod Entry
 pub mod Reading
 pub mod Join
 pub mod View
+pub mod Matched
 pub mod Words
 pub mod Lines

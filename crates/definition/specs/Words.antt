@@ -1,10 +1,11 @@
--- What records are by their numbers alone: the answer that a caller holds, and 01's record rules. Nothing of the reading uses it.
+-- What records are by their numbers alone: the answer that a caller holds, 01's record rules, and what every expression has. Nothing of the reading uses it.
 use Prim.Native.Nat.{ℕ, zero, suc, _+_, _-_, _*_}
 use mathlib.Core.Bool.{Bool, true, false, _&&_, _||_, not, Bool·beq}
 use mathlib.Core.List.{List, [], _∷_}
 use lib.Dec.{leb, eqb}
 use lib.ListN.{length, getD, take, drop}
 use Rattle.definition.specs.Chars.{if_then_else_, _is_, part}
+use Rattle.definition.specs.Matched.{matched, blank}
 use Rattle.definition.specs.Records.{Role, top, raw, inner, Record, Sort, plain, joined, bytesOnly, Answer}
 
 -- word k of some words; 0 where they end before it
@@ -155,3 +156,26 @@ recordsWellFormed x =
     && whole (x .start) (x .end) (x .uMark) (x .records)
     && apart (x .records)
     && leb (x .uMark) 1
+
+-- WHAT YOU MAY ASSUME OF EVERY EXPRESSION (02, item 14). The text of each field is matched and not blank
+unfoldable pub expressed : (text : List ℕ) → List Record → Bool
+expressed text [] = true
+expressed text (r ∷ rs) =
+    let e = part text (r .offset) (r .offset + r .size) in
+    (not (eqb (r .kind) 2) || matched e && not (blank e)) && expressed text rs
+
+-- Of the records before, the last one first: how many parts are to come. The next record is a part of the first that has any. What it stands
+-- in, without it
+unfoldable pub within : List ℕ → List ℕ
+within [] = []
+within (zero ∷ ns) = within ns
+within (suc n ∷ ns) = n ∷ ns
+
+-- fields lie at most two deep: a field stands in no record, or in a field and its spec; the first of these records stands in ns
+unfoldable pub twoDeep : (ns : List ℕ) → List Record → Bool
+twoDeep ns [] = true
+twoDeep ns (r ∷ rs) = (not (eqb (r .kind) 2) || leb (length ns) 2) && twoDeep (within (r .parts ∷ ns)) rs
+
+-- ASSURED: both, and no two top-level literals touch
+unfoldable pub assured : Answer → Bool
+assured x = expressed (x .text) (x .records) && twoDeep [] (x .records) && apart (x .records)

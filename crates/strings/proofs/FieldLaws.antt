@@ -215,7 +215,7 @@ module _ {s : List ℕ} {f : State} {c : ℕ} {k : Cursor} (p : Fits s f c k) wh
   -- a `=` follows
   pub pair-in : Is pair → (k .at + 1 ≤ length s) × (next s (k .at) ≡ k .at + 1)
   pair-in t =
-      let c : code s (k .at) ≡ 61 = rw (p .here .next-is) at (tells t) in
+      let c : code s (k .at) ≡ 61 = rw (p .here .next-is) at (tells t .1) in
       let b : byte s (k .at) ≡ 61 = eqb-true _ _ (sym (code-is s (k .at) 61 (omega arith)) ∙ eq-eqb _ _ c) in
       (omega (arith, byte-in s (k .at) (omega arith)), next-ascii s (k .at) (omega arith))
 
