@@ -193,6 +193,17 @@ def escapes():
     yield 0, ("N{" + "é" * 44 + "A}").encode()
 
 
+def blocks():
+    """Longer than a block of 64 bytes: characters over its ends and cut at the end, and one byte that is another."""
+    for c in "\u00e9\u0800\u20ac\ud7ff\U00010000\U0010ffff":
+        for n in range(4):
+            yield ("a" * n + c * 50).encode()[:100]
+    text = ("\u00e9\u20ac\U00010000a" * 10).encode()
+    for at in range(58, 72):
+        for other in (0x41, 0x80, 0xC1, 0xE0, 0xF4):
+            yield text[:at] + bytes([other]) + text[at + 1:]
+
+
 def main():
     here = os.path.dirname(os.path.abspath(__file__))
     vectors, lines = bytearray(), []
@@ -203,7 +214,7 @@ def main():
 
     for b, k in enumerate(classes()):
         add("b", 0, 0, bytes([b]), ("class", k))
-    for s in sequences():
+    for s in itertools.chain(sequences(), blocks()):
         add("c", 0, 0, s, ("formed", formed(s), *chars(s)))
     for kind, s in escapes():
         answer = escape(kind, s, 0)

@@ -3,19 +3,14 @@ use native.Mathlib.Omega.{arith}
 use Prim.Native.Nat.{ℕ, zero, suc, pred, _+_, _-_, _≤_, _<_}
 use mathlib.Core.Path.{_≡_, refl, _∙_, subst}
 use mathlib.Core.List.{List}
+use borrow.Author.Tests.{ltb-true, ltb-false}
+use lib.Dec.{ltb}
 use lib.ListN.{length}
-use Rattle.definition.specs.Chars.{width, formedFrom}
-use Rattle.definition.proofs.CharLaws.{width-in, width-ascii}
-use Rattle.utf8.specs.Runs.{Below, Ascii}
+use Rattle.definition.specs.Chars.{width, formedFrom, wellFormed}
+use Rattle.definition.proofs.CharLaws.{cases, width-in, width-end, width-ascii}
+use Rattle.utf8.specs.Runs.{Below, Ascii, Formed}
 
--- the prefix is well-formed up to i, and goes on from there
-pub record Formed (s : List ℕ) (i : ℕ) : Type 0 where
-  pub fuel : ℕ
-  pub enough : length s ≤ i + fuel
-  pub within : i ≤ length s
-  pub same : formedFrom (length s) s 0 ≡ formedFrom fuel s i
-
-pub stop : (fuel : ℕ) (s : List ℕ) (i : ℕ) → width s i ≡ 0 → formedFrom fuel s i ≡ i
+stop : (fuel : ℕ) (s : List ℕ) (i : ℕ) → width s i ≡ 0 → formedFrom fuel s i ≡ i
 unfolding formedFrom
 stop zero s i h = refl
 stop (suc fuel) s i h = rw (h, formedFrom)
@@ -51,3 +46,9 @@ past s i j a f =
 
 pub begun : (s : List ℕ) (i : ℕ) → Ascii s 0 i → Formed s i
 begun s i a = past s 0 i a (record { fuel = length s; enough = omega arith; within = omega arith; same = refl })
+
+-- at the end, or before what is not well-formed, the prefix ends
+pub ended : (s : List ℕ) (i : ℕ) → Formed s i → (i < length s → width s i ≡ 0) → wellFormed s ≡ i
+unfolding wellFormed
+ended s i f h =
+    f .same ∙ stop (f .fuel) s i (cases (ltb i (length s)) (λ t. h (ltb-true i (length s) t)) (λ t. width-end s i (ltb-false i (length s) t)))

@@ -4,3 +4,4 @@ pub mod Steps
 pub mod Runs
 pub mod Formed
 pub mod Common
+pub mod Fitting

@@ -1,6 +1,6 @@
 // UTF-8 by the Unicode Standard, tables 3-6 and 3-7: byte classes, the character step, lines and columns by it, the well-formed prefix.
 ghost use mathlib.Core.Path.{_≡_};
-ghost use mathlib.Core.Bool.{true, _&&_};
+ghost use mathlib.Core.Bool.{true, false, _&&_};
 ghost use lib.Dec.{leb};
 ghost use Prim.Native.Nat.{_+_, _<_, _≤_, max, min};
 ghost use lib.ListN.{length};
@@ -8,7 +8,8 @@ ghost use Rattle.definition.specs.Chars.{byte, follow, width, decoded, code, we
 ghost use Rattle.definition.specs.Counts.{more, counted};
 ghost use Rattle.utf8.specs.Classes.{classes, classOf, ranges};
 ghost use Rattle.utf8.specs.Steps.{stepAt, countOf};
-ghost use Rattle.utf8.specs.Runs.{Below, Ascii};
+ghost use Rattle.utf8.specs.Runs.{Below, Ascii, Formed};
+ghost use Rattle.utf8.specs.Fits.{isDue, SecondFits, Fits, AllFit, Fitting, lastStart};
 
 // A place in the bytes of a body.
 pub struct Cursor {
@@ -324,14 +325,150 @@ fn common_len(s: &[u8], at: usize) -> usize
     0
 }
 
-// The length of the longest well-formed prefix, which has all bytes up to an index.
-fn well_formed_from(s: &[u8], from: usize) -> usize
-    requires { ⌜ Ascii (now s) 0 from ⌝ }
-    ensures { λ r. ⌜ r ≡ wellFormed (now (s .entry)) ⌝ }
+// Whether after the bytes z, y and x one of 80 to BF must stand: x begins a character, or y one of three bytes or more, or z one of four.
+fn is_due(z: u8, y: u8, x: u8) -> bool
+    ensures { λ r. ⌜ r ≡ isDue z y x ⌝ }
+{
+    if 0xC2 <= x {
+        return true;
+    }
+    if 0xE0 <= y {
+        return true;
+    }
+    0xF0 <= z
+}
+
+// Whether a byte is one of 80 to BF.
+fn is_trail(b: u8) -> bool
+    ensures { λ r. ⌜ r ≡ (leb 0x80 b && leb b 0xBF) ⌝ }
+{
+    if b < 0x80 {
+        return false;
+    }
+    b <= 0xBF
+}
+
+// 0 only if both hold or neither.
+fn differ(a: bool, b: bool) -> u8
+    ensures { λ r. ⌜ (r ≡ 0 → a ≡ b) ⌝ }
+{
+    if a {
+        if b { 0 } else { 1 }
+    } else {
+        if b { 1 } else { 0 }
+    }
+}
+
+// 0 only if not both hold.
+fn both(a: bool, b: bool) -> u8
+    ensures { λ r. ⌜ (r ≡ 0 → (a && b) ≡ false) ⌝ }
+{
+    if a { if b { 1 } else { 0 } } else { 0 }
+}
+
+// 0 only if the byte b, where it is one of 80 to BF, is within its range as the second after x.
+fn second_misfit(x: u8, b: u8) -> u8
+    ensures { λ r. ⌜ (r ≡ 0 → SecondFits x b) ⌝ }
+{
+    let low = greater(both(x == 0xE0, b < 0xA0), both(x == 0xF0, b < 0x90));
+    let high = greater(both(x == 0xED, 0xA0 <= b), both(x == 0xF4, 0x90 <= b));
+    greater(low, high)
+}
+
+// 0 only if the byte b may stand after z, y and x.
+fn misfit(z: u8, y: u8, x: u8, b: u8) -> u8
+    ensures { λ r. ⌜ (r ≡ 0 → Fits z y x b) ⌝ }
+{
+    let open = differ(is_due(z, y, x), is_trail(b));
+    let never = greater(both(0xC0 <= b, b < 0xC2), both(0xC2 <= b, 0xF5 <= b));
+    greater(greater(open, never), second_misfit(x, b))
+}
+
+// Whether from each index up to another the fourth of four bytes may stand after the three.
+fn is_fitting(s: &[u8], from: usize, to: usize) -> bool
+    requires { ⌜ to + 3 ≤ length (now s) ⌝ }
+    ensures { λ r. ⌜ (r ≡ true → AllFit (now (s .entry)) from to) ⌝ }
+{
+    let mut most = 0;
+    let mut i = from;
+    while i < to {
+        most = greater(most, misfit(s[i], s[i + 1], s[i + 2], s[i + 3]));
+        i += 1;
+    }
+    most == 0
+}
+
+// The same from an index on for 64, with a short way over ASCII.
+fn is_fitting_block(s: &[u8], i: usize) -> bool
+    requires { ⌜ i + 67 ≤ length (now s) ⌝ }
+    ensures { λ r. ⌜ (r ≡ true → AllFit (now (s .entry)) i (i + 64)) ⌝ }
+{
+    if is_ascii(s, i + 3, i + 67) {
+        if is_due(s[i], s[i + 1], s[i + 2]) {
+            return false;
+        }
+        return true;
+    }
+    is_fitting(s, i, i + 64)
+}
+
+// So far from an index on, by blocks of 64, the fourth of four bytes may stand after the three.
+fn fitting_blocks(s: &[u8], at: usize) -> usize
+    requires { ⌜ at + 3 ≤ length (now s) ⌝ }
+    ensures { λ r. ⌜ Fitting (now (s .entry)) at r ⌝ }
+{
+    let mut i = at;
+    while 67 <= s.len() - i {
+        if is_fitting_block(s, i) {
+            i += 64;
+        } else {
+            return i;
+        }
+    }
+    i
+}
+
+// Where the last character begins if the three bytes at an index leave one open, else just after them.
+fn last_start(s: &[u8], i: usize) -> usize
+    requires { ⌜ i + 3 ≤ length (now s) ⌝ }
+    ensures { λ r. ⌜ r ≡ lastStart (now (s .entry)) i ⌝ }
+{
+    if 0xC2 <= byte_at(s, i + 2) {
+        return i + 2;
+    }
+    if 0xE0 <= byte_at(s, i + 1) {
+        return i + 1;
+    }
+    if 0xF0 <= byte_at(s, i) {
+        return i;
+    }
+    i + 3
+}
+
+// Further on from the end of a character, by blocks, to the end of another.
+fn formed_blocks(s: &[u8], at: usize) -> usize
+    requires { ⌜ Formed (now s) at ⌝ }
+    ensures { λ r. ⌜ Formed (now (s .entry)) r ⌝ }
+{
+    if at < 3 {
+        return at;
+    }
+    let from = at - 3;
+    if is_due(s[from], s[from + 1], s[from + 2]) {
+        return at;
+    }
+    let to = fitting_blocks(s, from);
+    last_start(s, to)
+}
+
+// Further on from the end of a character, one by one, to the end of the first that ends at an index or after it; if one is not well-formed, up to that.
+fn formed_until(s: &[u8], from: usize, to: usize) -> usize
+    requires { ⌜ Formed (now s) from × (to ≤ length (now s)) ⌝ }
+    ensures { λ r. ⌜ Formed (now (s .entry)) r × (r < to → width (now (s .entry)) r ≡ 0) ⌝ }
 {
     let table = CLASS;
     let mut at = from;
-    while at < s.len() {
+    while at < to {
         if byte_at(s, at) < 0x80 {
             at = ascii_end(s, at + 1);
             continue;
@@ -354,9 +491,14 @@ fn well_formed_from(s: &[u8], from: usize) -> usize
 pub fn well_formed(s: &[u8]) -> usize
     ensures { λ r. ⌜ r ≡ wellFormed (now (s .entry)) ⌝ }
 {
-    let at = ascii_end(s, 0);
-    if s.len() <= at {
-        return at;
+    let ascii = ascii_end(s, 0);
+    if s.len() <= ascii {
+        return ascii;
     }
-    well_formed_from(s, at)
+    if s.len() < 67 {
+        return formed_until(s, ascii, s.len());
+    }
+    let begun = formed_until(s, ascii, 3);
+    let blocks = formed_blocks(s, begun);
+    formed_until(s, blocks, s.len())
 }

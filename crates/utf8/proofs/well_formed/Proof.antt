@@ -1,18 +1,20 @@
 -- `utf8::well_formed` meets its contract. Assumes nothing.
 use borrow.Author.Needs.{needs}
-use mathlib.Core.Path.{sym, _∙_}
-use Rattle.definition.specs.Chars.{wellFormed}
-use Rattle.definition.proofs.CharLaws.{width-end}
-use Rattle.utf8.proofs.Formed.{stop, begun}
+use native.Mathlib.Omega.{arith}
+use mathlib.Core.Path.{sym}
+use Rattle.utf8.proofs.Formed.{begun, ended}
 use Rattle.utf8.proofs.well_formed.Statement.{statement}
 use Rattle.utf8.proofs.well_formed.Tie as tie
 
 pub well-formed-spec : {M : Type 1} → statement M
-unfolding wellFormed
 well-formed-spec =
     tie.close
     (tie.spec
     (λ c κs. search needs)  -- ascii-end-requires
-    (λ c. sym (begun _ _ (c .before .ascii-end .ensures) .same ∙ stop _ _ _ (width-end _ _ (c .if1 .taken))))  -- returns
-    (λ c κs. search needs)  -- well-formed-from-requires
-    (λ c. search needs))  -- returns-2
+    (λ c. sym (ended _ _ (begun _ _ (c .before .ascii-end .ensures)) (λ h. absurd (omega (arith, c .if1 .taken)))))  -- returns
+    (λ c κs. (begun _ _ (c .before .before .ascii-end .ensures), search needs))  -- formed-until-requires
+    (λ c. sym (ended _ _ (c .formed-until .ensures .0) (c .formed-until .ensures .1)))  -- returns-2
+    (λ c κs. (begun _ _ (c .before .before .ascii-end .ensures), search needs))  -- formed-until-requires-2
+    (λ c κs. c .formed-until2 .ensures .0)  -- formed-blocks-requires
+    (λ c κs. (c .formed-blocks .ensures, search needs))  -- formed-until-requires-3
+    (λ c. sym (ended _ _ (c .formed-until3 .ensures .0) (c .formed-until3 .ensures .1))))  -- returns-3
