@@ -85,7 +85,7 @@ module _ (Q : List Item → Type 0) (nothing : Q []) (both : (xs ys : List Item)
     where
       go : (r : Read (List Piece)) → readBody (l .kind) (body script l) ≡ r → Holds (readLiteral script i l)
       go (got ps j) e = rw (e, readLiteral) (h ps j e)
-      go (refused m j a b) e = rw (e, readLiteral) tt
+      go (refused x) e = rw (e, readLiteral) tt
 
 -- an f-string is no bytes literal
 pub f-no-bytes : (kind : ℕ) → isFString kind ≡ true → isBytes kind ≡ false
@@ -103,7 +103,7 @@ alone-piece kind s ps j h e = go (stringN (enough s) kind s 0 []) (rw (h, readBo
   where
     go : (r : Read (List ℕ)) → alone r ≡ got ps j → (t : List ℕ) × (ps ≡ literal 0 t ∷ [])
     go (got t k) f = (t, cc)
-    go (refused m k a b) f = let z : _≡_ {A = ℕ} 0 1 = cc in absurd (omega arith)
+    go (refused x) f = let z : _≡_ {A = ℕ} 0 1 = cc in absurd (omega arith)
 
 -- THE ITEMS KEEP 01'S ORDER AND RANGES, and each field has what it must
 literal-run : (script : List ℕ) (i : ℕ) (l : Literal) → Utf8 (body script l) → Holds (Run false [] 0 0) (refl, refl) (run-append false [] 0 0) (readLiteral script i l)

@@ -15,14 +15,21 @@ use Rattle.definition.specs.Body.{isBlank, matching}
 use Rattle.definition.specs.Matched.{Seen, clear, quoted, broken, closed, see, seeAll, settled, matched, blankAfter, blank}
 use Rattle.definition.proofs.CharLaws.{cases, byte-in, next-past, next-in, next-from, between, code-wide, next-ascii, code-ascii, code-is, Utf8, code-same, next-same}
 
--- a text with the brackets o open before it and o′ after it; x is whether it is blank, whatever follows
+-- a text with the brackets o open before it and o′ after it
+abbrev pub Sees : (o t o′ : List ℕ) → Type 0
+Sees o t o′ = seeAll (clear o) t ≡ clear o′
+
+-- and with whether it is blank, x, whatever follows
 pub record Adds (o o′ : List ℕ) (x : Bool) (t : List ℕ) : Type 0 where
-  pub sees : seeAll (clear o) t ≡ clear o′
+  pub sees : Sees o t o′
   pub blanks : (u : List ℕ) → blank (t ++ u) ≡ (x && blank u)
 
-pub adds-none : Adds [] [] true []
+pub sees-none : (o : List ℕ) → Sees o [] o
 unfolding seeAll
-adds-none = record { sees = refl; blanks = λ u. refl }
+sees-none o = refl
+
+pub adds-none : Adds [] [] true []
+adds-none = record { sees = sees-none []; blanks = λ u. refl }
 
 see-append : (x : Seen) (s t : List ℕ) → seeAll x (s ++ t) ≡ seeAll (seeAll x s) t
 unfolding seeAll
@@ -30,9 +37,12 @@ see-append x [] t = refl
 see-append x (b ∷ s) t = see-append (see x b) s t
 
 -- one after the other
+pub sees-both : {o′ o″ : List ℕ} (o t t′ : List ℕ) → Sees o t o′ → Sees o′ t′ o″ → Sees o (t ++ t′) o″
+sees-both o t t′ a b = see-append (clear o) t t′ ∙ ap (λ z. seeAll z t′) a ∙ b
+
 pub adds-both : {o o′ o″ : List ℕ} {x y : Bool} {t t′ : List ℕ} → Adds o o′ x t → Adds o′ o″ y t′ → Adds o o″ (x && y) (t ++ t′)
 adds-both {o} {o′} {o″} {x} {y} {t} {t′} a b = record {
-  sees = see-append (clear o) t t′ ∙ ap (λ z. seeAll z t′) (a .sees) ∙ b .sees;
+  sees = sees-both o t t′ (a .sees) (b .sees);
   blanks = λ u. ap blank (append-assoc t t′ u) ∙ a .blanks (t′ ++ u) ∙ ap (λ z. x && z) (b .blanks u) ∙ sym (and-assoc x y (blank u));
 }
 
@@ -81,6 +91,9 @@ mark-closer {a} {o} c =
   where
     same : {x : Bool} → x ≡ true → (if x then clear o else broken) ≡ clear o
     same e = rw e refl
+
+pub closer-ascii : (c : ℕ) → (c is ")]}") ≡ true → c < 0x80
+closer-ascii c = one-of (λ c. c < 0x80) ")]}" c (omega arith, (omega arith, (omega arith, tt)))
 
 mark-pair : {o : List ℕ} (c : ℕ) → (c is "!=><") ≡ true → Mark o o c
 unfolding see insideAny whiteSpace
@@ -141,9 +154,13 @@ module _ (s : List ℕ) (i : ℕ) (l : i < length s) where
       ))
       (λ e. let n = eqb-false k i e in high-calm (byte s k) (between s i k (omega arith) q .0))
 
+  pub sees-char : Calm (code s i) → (o : List ℕ) → Sees o (char s i) o
+  sees-char h o =
+      calm-all o (char s i) (λ k m. rw (char-byte (i + k) k refl (omega (arith, char-length))) (calm-byte (i + k) h (omega arith) (omega (arith, char-length))))
+
   pub adds-char : Utf8 s → Calm (code s i) → (o : List ℕ) → Adds o o (isBlank (code s i)) (char s i)
   adds-char utf8 h o = record {
-    sees = calm-all o (char s i) (λ k m. rw (char-byte (i + k) k refl (omega (arith, char-length))) (calm-byte (i + k) h (omega arith) (omega (arith, char-length))));
+    sees = sees-char h o;
     blanks = λ u. blanked u;
   }
     where
@@ -157,7 +174,7 @@ module _ (s : List ℕ) (i : ℕ) (l : i < length s) where
 
 -- A MARK is a whole character
 module _ (s : List ℕ) (i : ℕ) where
-  ascii-in : code s i < 0x80 → byte s i < 0x80
+  pub ascii-in : code s i < 0x80 → byte s i < 0x80
   ascii-in h = cases (ltb (byte s i) 0x80) (λ e. ltb-true _ _ e) (λ e. let w = code-wide s i (ltb-false _ _ e) in absurd (omega arith))
 
   pub adds-mark : {o o′ : List ℕ} → Mark o o′ (code s i) → Adds o o′ false (char s i)
@@ -168,7 +185,7 @@ module _ (s : List ℕ) (i : ℕ) where
       rw (next-ascii s i b, e, drop-cons s i 256 (byte-in s i (omega arith)), ← code-ascii s i b) (a .1)
 
 -- one of the four pairs
-part-split : (s : List ℕ) (i j k : ℕ) → i ≤ j → j ≤ k → part s i k ≡ part s i j ++ part s j k
+pub part-split : (s : List ℕ) (i j k : ℕ) → i ≤ j → j ≤ k → part s i k ≡ part s i j ++ part s j k
 part-split s i j k h l =
     let e : k - i ≡ (j - i) + (k - j) = omega arith in
     let f : i + (j - i) ≡ j = omega arith in

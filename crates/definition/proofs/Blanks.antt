@@ -5,7 +5,7 @@ use mathlib.Core.List.{List, [], _∷_, _++_, map}
 use lib.ListN.{length}
 use Rattle.definition.specs.Numbers.{emptyExpression}
 use Rattle.definition.specs.Chars.{ascii, insideAny, table37, following, follow, width, decoded, code, next, char, utf8, whiteSpace}
-use Rattle.definition.specs.Escapes.{Read, got, refused}
+use Rattle.definition.specs.Escapes.{fault, Read, got, refused}
 use Rattle.definition.specs.Body.{Piece, field, textCase, textMove, filled, fresh, add, outside, fieldCase, caseOf, fieldMove, conversionOf, fieldPieces, selfDocumenting, finished, textN, readBody}
 
 -- all of White_Space
@@ -28,7 +28,7 @@ around c = ascii "{" ++ utf8 c ++ ascii "}"
 
 -- refused after its `}`, or read
 abbrev pub empty : ℕ → Read (List Piece)
-empty c = refused emptyExpression (length (around c)) 0 0
+empty c = refused (fault emptyExpression (length (around c)))
 
 abbrev pub full : ℕ → Read (List Piece)
 unfolding utf8

@@ -17,14 +17,14 @@ module _ (s : List ℕ) (i : ℕ) (out : Bool) where
   abbrev pub Tells : FieldCase → Type 0
   Tells FieldCase.over = Unit {0}
   Tells pair = ((code s i is "!=><") ≡ true) × (code s (next s i) ≡ 61)
-  Tells converts = Unit {0}
-  Tells documents = Unit {0}
+  Tells converts = out ≡ true
+  Tells documents = out ≡ true
   Tells formats = out ≡ true
   Tells opener = (code s i is "([{") ≡ true
   Tells closes = out ≡ true
   Tells closer = (code s i is ")]}") ≡ true
   Tells quote = (code s i is "\"'") ≡ true
-  Tells space = Unit {0}
+  Tells space = code s i ≡ 32
   Tells backslash = Unit {0}
   Tells stray = Unit {0}
   Tells FieldCase.plain = (i < length s) × Calm (code s i)
@@ -42,14 +42,14 @@ module _ (s : List ℕ) (i : ℕ) (out : Bool) where
       let c = code s i in
       chosen (atEnd s i) FieldCase.over (λ t. tt) (λ h.
       chosen (c is "!=><" && code s (next s i) is "=") pair (λ t. let b = and-both (c is "!=><") _ t in (b .0, eqb-true _ _ (b .1))) (λ t.
-      chosen (c is "!" && out) converts (λ t. tt) (λ t.
-      chosen (c is "=" && out) documents (λ t. tt) (λ t.
+      chosen (c is "!" && out) converts (λ t. and-both (c is "!") _ t .1) (λ t.
+      chosen (c is "=" && out) documents (λ t. and-both (c is "=") _ t .1) (λ t.
       chosen (c is ":" && out) formats (λ t. and-both (c is ":") _ t .1) (λ t.
       chosen (c is "([{") opener (λ t. t) (λ o.
       chosen (c is "}" && out) closes (λ t. and-both (c is "}") _ t .1) (λ t.
       chosen (c is ")]}") closer (λ t. t) (λ k.
       chosen (c is "\"'") quote (λ t. t) (λ q.
-      chosen (c is " " && doc) space (λ t. tt) (λ t.
+      chosen (c is " " && doc) space (λ t. eqb-true _ _ (and-both (c is " ") _ t .0)) (λ t.
       chosen (c is "\\") backslash (λ t. tt) (λ e.
       chosen doc stray (λ t. tt) (λ t. record { it = (leb-false (length s) i h, (q, o, k, e)) }))))))))))))
 

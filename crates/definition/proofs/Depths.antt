@@ -8,7 +8,7 @@ use native.Mathlib.Omega.{arith}
 use borrow.Author.Tests.{ne-eqb}
 use Rattle.definition.specs.Numbers.{emptyExpression}
 use Rattle.definition.specs.Chars.{if_then_else_, _is_, atEnd, code, next}
-use Rattle.definition.specs.Escapes.{Read, got, refused}
+use Rattle.definition.specs.Escapes.{fault, Read, got, refused}
 use Rattle.definition.specs.Body.{Piece, literal, field, spec, Move, goes, stops, calls, ends, filled, Field, state, fresh, textMove, fieldMove, direct, conversionOf, fieldPieces, selfDocumenting, finished, specified, firstEnd, textN, fieldN, specN}
 use Rattle.definition.proofs.Steps.{text-goes, text-stops, text-ends, text-got, text-refused, field-goes, field-stops, field-ends, field-got, field-refused, firstPiece, spec-calls, spec-ends}
 
@@ -20,7 +20,7 @@ Deep depth (spec n ∷ ps) = Deep depth ps
 
 abbrev pub DeepRead : ℕ → Read (List Piece) → Type 0
 DeepRead depth (got ps j) = Deep depth ps
-DeepRead depth (refused m j a b) = Unit {0}
+DeepRead depth (refused x) = Unit {0}
 
 deep-append : (depth : ℕ) (ps qs : List Piece) → Deep depth ps → Deep depth qs → Deep depth (ps ++ qs)
 deep-append depth [] qs h k = k
@@ -44,12 +44,12 @@ finished-deep : (depth from j : ℕ) (f : Field) (ps : List Piece) → Deep (suc
 unfolding finished selfDocumenting fieldPieces
 finished-deep depth from j (state e b o c d w) ps h = (plain b d, formatted b d)
   where
-    plain : (b d : Bool) → DeepRead depth (if b then refused emptyExpression j 0 0 else got (selfDocumenting depth d e w ++ fieldPieces depth e (conversionOf d c none) from none) j)
+    plain : (b d : Bool) → DeepRead depth (if b then refused (fault emptyExpression j) else got (selfDocumenting depth d e w ++ fieldPieces depth e (conversionOf d c none) from none) j)
     plain true d = tt
     plain false true = (omega arith, (omega arith, (omega arith, tt)))
     plain false false = (omega arith, tt)
 
-    formatted : (b d : Bool) → DeepRead depth (if b then refused emptyExpression j 0 0 else got (selfDocumenting depth d e w ++ fieldPieces depth e (conversionOf d c (some ps)) from (some ps)) j)
+    formatted : (b d : Bool) → DeepRead depth (if b then refused (fault emptyExpression j) else got (selfDocumenting depth d e w ++ fieldPieces depth e (conversionOf d c (some ps)) from (some ps)) j)
     formatted true d = tt
     formatted false true = (omega arith, (omega arith, (omega arith, shallower depth ps h)))
     formatted false false = (omega arith, shallower depth ps h)
@@ -75,11 +75,11 @@ module _ (n : ℕ) (D : Depths n) (kind : ℕ) (s : List ℕ) (depth : ℕ) wher
       after (got qs j) f k e =
           rw (text-got n kind s depth i text ps qs j e f)
           (D .text kind s depth j [] (ps ++ filled depth text ++ qs) (deep-append depth (ps ++ filled depth text) qs (deep-append depth ps (filled depth text) h (filled-deep depth text)) k))
-      after (refused m j a b) f k e = rw (text-refused n kind s depth i text ps m j a b e f) tt
+      after (refused x) f k e = rw (text-refused n kind s depth i text ps x e f) tt
 
       go : (x : Move (List ℕ)) → textMove kind s depth i text ≡ x → DeepRead depth (textN (suc n) kind s depth i text ps)
       go (goes j text′) e = rw (text-goes n kind s depth i text ps j text′ e) (D .text kind s depth j text′ ps h)
-      go (stops m j a b) e = rw (text-stops n kind s depth i text ps m j a b e) tt
+      go (stops x) e = rw (text-stops n kind s depth i text ps x e) tt
       go calls e = after (fieldN n kind s depth (next s i) (next s i) fresh) refl (D .field kind s depth (next s i) (next s i) fresh) e
       go ends e = rw (text-ends n kind s depth i text ps e) (deep-append depth ps (filled depth text) h (filled-deep depth text))
 
@@ -88,11 +88,11 @@ module _ (n : ℕ) (D : Depths n) (kind : ℕ) (s : List ℕ) (depth : ℕ) wher
     where
       after : (r : Read (List Piece)) → specN n kind s depth (next s i) ≡ r → DeepRead (suc depth) r → fieldMove s i f ≡ calls → DeepRead depth (fieldN (suc n) kind s depth from i f)
       after (got ps j) g k e = rw (field-got n kind s depth from i f ps j e g) (specified-deep s depth from j f ps k)
-      after (refused m j a b) g k e = rw (field-refused n kind s depth from i f m j a b e g) tt
+      after (refused x) g k e = rw (field-refused n kind s depth from i f x e g) tt
 
       go : (x : Move Field) → fieldMove s i f ≡ x → DeepRead depth (fieldN (suc n) kind s depth from i f)
       go (goes j f′) e = rw (field-goes n kind s depth from i f j f′ e) (D .field kind s depth from j f′)
-      go (stops m j a b) e = rw (field-stops n kind s depth from i f m j a b e) tt
+      go (stops x) e = rw (field-stops n kind s depth from i f x e) tt
       go calls e = after (specN n kind s depth (next s i)) refl (D .spec kind s depth (next s i)) e
       go ends e = rw (field-ends n kind s depth from i f e) (finished-deep depth from (next s i) f [] tt .0)
 

@@ -1,7 +1,7 @@
 -- A field's state over its moves: its conversion is none, s, a or r, and its expression is matched and not blank. Assumes nothing.
 use mathlib.Core.Path.{_≡_, refl}
-use mathlib.Core.Bool.{Bool, true, false, _&&_, not, and-false, false≢true}
-use mathlib.Core.List.{List, [], _∷_, _++_}
+use mathlib.Core.Bool.{Bool, true, false, _&&_, not, and-false}
+use mathlib.Core.List.{List, [], _∷_, _++_, map}
 use mathlib.Core.Option.{Option, none, some}
 use Prim.Native.Nat.{ℕ, _+_}
 use lib.Dec.{ltb, eqb}
@@ -9,12 +9,13 @@ use lib.ListN.{length}
 use borrow.Author.Tests.{leb-false, not-false}
 use Rattle.definition.specs.Numbers.{isFString}
 use Rattle.definition.specs.Chars.{if_then_else_, _is_, atEnd, code, next, char}
-use Rattle.definition.specs.Body.{Piece, Move, goes, Field, state, fresh, add, documented, spaced, FieldCase, pair, converts, documents, formats, opener, closes, closer, quote, space, backslash, stray, fieldCase, outside, caseOf, conversionMove, openMove, matching, closeMove, quoteMove, fieldMove, conversionOf, readBody}
+use Rattle.definition.specs.Body.{Piece, Bracket, Move, goes, Field, state, fresh, add, documented, spaced, FieldCase, pair, converts, documents, formats, opener, closes, closer, quote, space, backslash, stray, fieldCase, outside, caseOf, conversionMove, openMove, matching, closeMove, quoteMove, fieldMove, conversionOf, readBody}
 use Rattle.definition.specs.Matched.{matched, blank}
 use Rattle.definition.specs.Words.{isConversion}
 use Rattle.definition.proofs.CharLaws.{cases, Utf8}
 use Rattle.definition.proofs.Adds.{Adds, adds-none, adds-both, adds-matched, adds-blank, mark-opener, mark-closer, adds-char, adds-mark, adds-pair, closing, adds-quoted}
 use Rattle.definition.proofs.Cases.{Tells, told}
+use Rattle.definition.proofs.Moves.{none-open}
 use Rattle.definition.proofs.Grammar.{Moved, on, stopped, at-spec, at-end, Closes, TreeRead, body-tree}
 
 -- WHAT A FIELD HAS: its expression, and its conversion
@@ -23,9 +24,13 @@ pub record Had (e : List ℕ) (c : ℕ) : Type 0 where
   pub matches : matched e ≡ true
   pub says : blank e ≡ false
 
+-- the open brackets without their places
+abbrev pub codes : List Bracket → List ℕ
+codes o = map (λ b. b .bracket) o
+
 -- from its state, which keeps this
 abbrev pub Keeps : Field → Type 0
-Keeps (state e b o c d w) = (isConversion c ≡ true) × Adds [] o b e
+Keeps (state e b o c d w) = (isConversion c ≡ true) × Adds [] (codes o) b e
 
 is-flag : (c : ℕ) → (c is "sar") ≡ true → isConversion c ≡ true
 is-flag c h = cases (eqb c 0) (λ t. rw t refl) (λ t. rw t h)
@@ -61,12 +66,12 @@ module _ (s : List ℕ) (utf8 : Utf8 s) (i : ℕ) {C : Type 0} where
   unfolding closeMove
   close-moves (state e b [] c d w) h p = stopped
   close-moves (state e b (a ∷ o) c d w) h p =
-      either (matching a (code s i)) (λ m. on (h .0, rw and-false at (adds-both (h .1) (adds-mark s i (mark-closer (code s i) p m))))) (λ m. stopped)
+      either (matching (a .bracket) (code s i)) (λ m. on (h .0, rw and-false at (adds-both (h .1) (adds-mark s i (mark-closer (code s i) p m))))) (λ m. stopped)
 
   -- more of the expression
   add-moves : (f : Field) (j : ℕ) (t : List ℕ) (x : Bool) → Keeps f → ((o : List ℕ) → Adds o o x t) → Moved Keeps C (goes j (add t x f))
   unfolding add
-  add-moves (state e b o c d w) j t x h a = on {f = state (e ++ t) (b && x) o c d w} (h .0, adds-both (h .1) (a o))
+  add-moves (state e b o c d w) j t x h a = on {f = state (e ++ t) (b && x) o c d w} (h .0, adds-both (h .1) (a (codes o)))
 
   quote-moves : (f : Field) → Keeps f → (code s i is "\"'") ≡ true → Moved Keeps C (quoteMove s i f)
   unfolding quoteMove
@@ -75,7 +80,7 @@ module _ (s : List ℕ) (utf8 : Utf8 s) (i : ℕ) {C : Type 0} where
       (λ t. add-moves f _ _ _ h (adds-quoted s i p (leb-false (length s) (closing s i) t)))
 
   -- by the case of the character
-  case-moves : (e : List ℕ) (b : Bool) (o : List ℕ) (c : ℕ) (d : Bool) (w : ℕ) → Keeps (state e b o c d w) → (outside o ≡ true → C) → Moved Keeps C (fieldMove s i (state e b o c d w))
+  case-moves : (e : List ℕ) (b : Bool) (o : List Bracket) (c : ℕ) (d : Bool) (w : ℕ) → Keeps (state e b o c d w) → (outside o ≡ true → C) → Moved Keeps C (fieldMove s i (state e b o c d w))
   unfolding fieldMove caseOf char documented spaced
   case-moves e b o c d w h ends = go (fieldCase s i (outside o) d) refl
     where
@@ -99,12 +104,6 @@ module _ (s : List ℕ) (utf8 : Utf8 s) (i : ℕ) {C : Type 0} where
       go backslash q = rw (q, fieldMove) stopped
       go stray q = rw (q, fieldMove) stopped
       go FieldCase.plain q = let t = tells FieldCase.plain q in rw (q, fieldMove) (add-moves f _ _ _ h (adds-char s i (t .0) utf8 (t .1)))
-
--- WHERE IT ENDS no bracket is open
-none-open : (o : List ℕ) → outside o ≡ true → o ≡ []
-unfolding outside
-none-open [] h = refl
-none-open (a ∷ o) h = absurd (false≢true h)
 
 -- EVERY FIELD of a well-formed body has that, and lies at most two deep
 pub body-had : (kind : ℕ) (s : List ℕ) → Utf8 s → isFString kind ≡ true → TreeRead Had 0 (readBody kind s)

@@ -9,9 +9,10 @@ use lib.ListN.{length}
 use Rattle.definition.specs.Numbers.{isFString}
 use Rattle.definition.specs.Chars.{_is_, part, code, next}
 use Rattle.definition.specs.Escapes.{Read, got, refused}
-use Rattle.definition.specs.Body.{Piece, Move, goes, stops, calls, ends, stringMove, stringN, filled, Field, fresh, textMove, fieldMove, finished, plainRun, firstEnd, textN, fieldN, specN, enough, alone, readBody}
+use Rattle.definition.specs.Body.{Piece, Bracket, Move, goes, stops, calls, ends, stringMove, stringN, filled, Field, fresh, textMove, fieldMove, finished, plainRun, firstEnd, textN, fieldN, specN, enough, alone, readBody}
 use Rattle.definition.proofs.CharLaws.{next-past, next-in, next-from, before-in}
-use Rattle.definition.proofs.Moves.{SoundIn, Sound, textSize, weight, Carries, Ahead, carried, later, bracketsOf, part-short, string-ahead, text-ahead, fieldSize, FieldAhead, field-ahead, finished-sound, specified-sound, Light, weight-append, filled-light, finished-light, specified-light}
+use Rattle.definition.proofs.OpenBrackets.{Open}
+use Rattle.definition.proofs.Moves.{SoundIn, Sound, textSize, weight, Ahead, later, bracketsOf, part-short, string-ahead, text-ahead, fieldSize, FieldAhead, field-ahead, finished-sound, specified-sound, Light, weight-append, filled-light, finished-light, specified-light}
 use Rattle.definition.proofs.Steps.{string-goes, string-stops, string-ends, text-goes, text-stops, text-ends, text-got, text-refused, field-goes, field-stops, field-ends, field-got, field-refused, firstPiece, spec-calls, spec-ends}
 
 -- moves enough at i: twice the bytes left, and e more
@@ -26,7 +27,7 @@ first-light : (s : List ℕ) (depth i : ℕ) → weight (firstPiece s depth i) +
 first-light s depth i = omega (arith, filled-light (suc depth) (part s i (firstEnd s i)), part-short s i (firstEnd s i))
 
 -- a sound reading that is light from w on, and the same one again
-abbrev AgreeIn : {A : Type 0} → List ℕ → (A → ℕ) → ℕ → List ℕ → ℕ → Read A → Read A → Type 0
+abbrev AgreeIn : {A : Type 0} → List Bracket → (A → ℕ) → ℕ → List ℕ → ℕ → Read A → Read A → Type 0
 AgreeIn o size w s i r r′ = SoundIn o s i r × (r ≡ r′) × Light size w i r
 
 abbrev Agree : {A : Type 0} → (A → ℕ) → ℕ → List ℕ → ℕ → Read A → Read A → Type 0
@@ -34,13 +35,13 @@ Agree size = AgreeIn [] size
 
 lighter : {A : Type 0} (size : A → ℕ) (w w′ i j : ℕ) (r : Read A) → w′ + 4 * i ≤ w + 4 * j → Light size w′ j r → Light size w i r
 lighter size w w′ i j (got v k) h p = omega arith
-lighter size w w′ i j (refused n k a b) h p = tt
+lighter size w w′ i j (refused x) h p = tt
 
-later-in : {A : Type 0} (o o′ : List ℕ) (size : A → ℕ) (w w′ : ℕ) (s : List ℕ) (i j : ℕ) (r r′ : Read A) → i ≤ j → w′ + 4 * i ≤ w + 4 * j → Carries o o′ → AgreeIn o′ size w′ s j r r′ → AgreeIn o size w s i r r′
+later-in : {A : Type 0} (o o′ : List Bracket) (size : A → ℕ) (w w′ : ℕ) (s : List ℕ) (i j : ℕ) (r r′ : Read A) → i ≤ j → w′ + 4 * i ≤ w + 4 * j → (Open s i o → Open s j o′) → AgreeIn o′ size w′ s j r r′ → AgreeIn o size w s i r r′
 later-in o o′ size w w′ s i j r r′ h k c p = (later o o′ s i j r h c (p .0), p .1, lighter size w w′ i j r k (p .2))
 
 both-later : {A : Type 0} (size : A → ℕ) (w w′ : ℕ) (s : List ℕ) (i j : ℕ) (r r′ : Read A) → i ≤ j → w′ + 4 * i ≤ w + 4 * j → Agree size w′ s j r r′ → Agree size w s i r r′
-both-later size w w′ s i j r r′ h k p = later-in [] [] size w w′ s i j r r′ h k (λ c x. absurd x) p
+both-later size w w′ s i j r r′ h k p = later-in [] [] size w w′ s i j r r′ h k (λ q. q) p
 
 -- the three readers with n moves: sound, and the same with m moves
 record Reads (n : ℕ) : Type 0 where
@@ -70,14 +71,14 @@ module _ (n : ℕ) (R : Reads n) (kind : ℕ) (s : List ℕ) where
           (both-later weight (weight ps + textSize text) (weight qs′ + 0) s i j (textN n kind s depth j [] qs′) (textN m kind s depth j [] qs′) (omega (arith, next-from s i))
           (omega (arith, next-from s i, weight-append (ps ++ filled depth text) qs, weight-append ps (filled depth text), filled-light depth text))
           (R .text m kind s depth j [] qs′ (sound .1) (omega (arith, next-past s i h)) (omega (arith, next-past s i h))))
-      after (refused x j b c) f sound light same h e =
-          rw (text-refused n kind s depth i text ps x j b c e f, text-refused m kind s depth i text ps x j b c e (sym same ∙ f)) (sound, refl, tt)
+      after (refused x) f sound light same h e =
+          rw (text-refused n kind s depth i text ps x e f, text-refused m kind s depth i text ps x e (sym same ∙ f)) (sound, refl, tt)
 
       go : (x : Move (List ℕ)) → textMove kind s depth i text ≡ x → Ahead textSize (textSize text) (i < length s) (Unit {0}) s i x → Goal
       go (goes j text′) e h =
           rw (text-goes n kind s depth i text ps j text′ e, text-goes m kind s depth i text ps j text′ e)
           (both-later weight (weight ps + textSize text) (weight ps + textSize text′) s i j (textN n kind s depth j text′ ps) (textN m kind s depth j text′ ps) (omega arith) (omega arith) (R .text m kind s depth j text′ ps (h .1) (omega arith) (omega arith)))
-      go (stops x j b c) e h = rw (text-stops n kind s depth i text ps x j b c e, text-stops m kind s depth i text ps x j b c e) (h, refl, tt)
+      go (stops x) e h = rw (text-stops n kind s depth i text ps x e, text-stops m kind s depth i text ps x e) (h, refl, tt)
       go calls e h =
           let f = R .field m kind s depth a a fresh (next-in s i l) (omega (arith, next-past s i h)) (omega (arith, next-past s i h)) in
           after (fieldN n kind s depth a a fresh) refl (f .0) (f .2) (f .1) h e
@@ -99,14 +100,14 @@ module _ (n : ℕ) (R : Reads n) (kind : ℕ) (s : List ℕ) where
           let n′ = next-past s i h in
           rw (field-got n kind s depth from i f ps j e g, field-got m kind s depth from i f ps j e (sym same ∙ g))
           (specified-sound (bracketsOf f) s depth from i j f ps (omega arith) (sound .1), refl, specified-light s depth from i j f ps (omega arith) (omega arith))
-      after (refused x j b c) g sound light same h e =
-          rw (field-refused n kind s depth from i f x j b c e g, field-refused m kind s depth from i f x j b c e (sym same ∙ g)) ((carried (bracketsOf f) [] x b c (λ c k. absurd k) (sound .0), sound .1), refl, tt)
+      after (refused x) g sound light same h e =
+          rw (field-refused n kind s depth from i f x e g, field-refused m kind s depth from i f x e (sym same ∙ g)) ((λ q. sound .0 tt, sound .1), refl, tt)
 
       go : (x : Move Field) → fieldMove s i f ≡ x → FieldAhead s i f x → Goal
       go (goes j f′) e h =
           rw (field-goes n kind s depth from i f j f′ e, field-goes m kind s depth from i f j f′ e)
           (later-in (bracketsOf f) (bracketsOf f′) weight (fieldSize f) (fieldSize f′) s i j (fieldN n kind s depth from j f′) (fieldN m kind s depth from j f′) (omega arith) (omega arith) (h .3) (R .field m kind s depth from j f′ (h .1) (omega arith) (omega arith)))
-      go (stops x j b c) e h = rw (field-stops n kind s depth from i f x j b c e, field-stops m kind s depth from i f x j b c e) (h, refl, tt)
+      go (stops x) e h = rw (field-stops n kind s depth from i f x e, field-stops m kind s depth from i f x e) (h, refl, tt)
       go calls e h =
           let g = R .spec m kind s depth a (next-in s i l) (omega (arith, next-past s i h)) (omega (arith, next-past s i h)) in
           after (specN n kind s depth a) refl (g .0) (g .2) (g .1) h e
@@ -148,7 +149,7 @@ string-reads (suc n) (suc m) kind s i text l p q = go (λ j text′. string-read
     go ih (goes j text′) e h =
         rw (string-goes n kind s i text j text′ e, string-goes m kind s i text j text′ e)
         (both-later textSize (textSize text) (textSize text′) s i j (stringN n kind s j text′) (stringN m kind s j text′) (omega arith) (omega arith) (ih j text′ (h .1) (omega arith) (omega arith)))
-    go ih (stops x j b c) e h = rw (string-stops n kind s i text x j b c e, string-stops m kind s i text x j b c e) (h, refl, tt)
+    go ih (stops x) e h = rw (string-stops n kind s i text x e, string-stops m kind s i text x e) (h, refl, tt)
     go ih calls e h = absurd h
     go ih ends e h = rw (string-ends n kind s i text e, string-ends m kind s i text e) ((omega arith, l), refl, omega arith)
 
@@ -192,7 +193,7 @@ string-last (suc n) kind s i text t j g = go (λ k text′. string-last n kind s
     go : ((k : ℕ) (text′ : List ℕ) → stringN n kind s k text′ ≡ got t j → length s ≤ j)
         → (x : Move (List ℕ)) → stringMove kind s i text ≡ x → Ahead textSize (textSize text) ⊥ (length s ≤ i) s i x → length s ≤ j
     go ih (goes k text′) e h = ih k text′ (sym (string-goes n kind s i text k text′ e) ∙ g)
-    go ih (stops x k b c) e h = let y = sym (string-stops n kind s i text x k b c e) ∙ g in let z : _≡_ {A = ℕ} 0 1 = cc in absurd (omega arith)
+    go ih (stops x) e h = let y = sym (string-stops n kind s i text x e) ∙ g in let z : _≡_ {A = ℕ} 0 1 = cc in absurd (omega arith)
     go ih calls e h = absurd h
     go ih ends e h = let y = sym (string-ends n kind s i text e) ∙ g in let z : i ≡ j = cc in omega arith
 
@@ -206,11 +207,11 @@ body-reading kind s = go (isFString kind) refl
 
     one : (r : Read (List ℕ)) → Reading textSize 0 s 0 r → Reading weight 1 s 0 (alone r)
     one (got t j) p = (p .0, omega arith)
-    one (refused m j a b) p = (p .0, tt)
+    one (refused x) p = (p .0, tt)
 
     more : (r : Read (List Piece)) → Reading weight 0 s 0 r → Reading weight 1 s 0 r
     more (got ps j) p = (p .0, omega arith)
-    more (refused m j a b) p = p
+    more (refused x) p = p
 
     go : (t : Bool) → isFString kind ≡ t → Reading weight 1 s 0 (readBody kind s)
     go true e = rw (e, readBody) (more (textN (enough s) kind s 0 0 [] []) (text-reading (enough s) kind s 0 0 [] [] (omega arith) (omega arith)))

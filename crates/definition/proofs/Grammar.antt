@@ -10,7 +10,7 @@ use lib.ListN.{replicate}
 use borrow.Author.Tests.{leb-false, eq-eqb, ne-eqb}
 use Rattle.definition.specs.Numbers.{isFString, expressionNestedTooDeeply, emptyExpression}
 use Rattle.definition.specs.Chars.{if_then_else_, _is_, part, atEnd, code, next}
-use Rattle.definition.specs.Escapes.{Read, got, refused}
+use Rattle.definition.specs.Escapes.{Fault, fault, Read, got, refused}
 use Rattle.definition.specs.Body.{Piece, literal, field, spec, Move, goes, stops, calls, ends, tooDeep, deep, textCase, textMove, filled, Field, state, fresh, fieldMove, direct, conversionOf, fieldPieces, selfDocumenting, finished, specified, firstEnd, textN, fieldN, specN, enough, readBody}
 use Rattle.definition.proofs.Steps.{text-goes, text-stops, text-ends, text-got, text-refused, field-goes, field-stops, field-ends, field-got, field-refused, firstPiece, spec-calls, spec-ends}
 
@@ -89,7 +89,7 @@ module _ (P : List ℕ → ℕ → Type 0) where
 
   abbrev pub TreeRead : ℕ → Read (List Piece) → Type 0
   TreeRead d (got ps j) = Tree d ps
-  TreeRead d (refused m j a b) = Unit {0}
+  TreeRead d (refused x) = Unit {0}
 
   -- a spec's, if there is one
   abbrev pub TreeIn : ℕ → Option (List Piece) → Type 0
@@ -108,7 +108,7 @@ module _ (P : List ℕ → ℕ → Type 0) where
 -- what holds after a move of a field: Inv of its state where it goes on, C where its expression ends
 pub data Moved (Inv : Field → Type 0) (C : Type 0) : Move Field → Type 0 where
   on : {j : ℕ} {f : Field} → Inv f → Moved Inv C (goes j f)
-  stopped : {m j a b : ℕ} → Moved Inv C (stops m j a b)
+  stopped : {x : Fault} → Moved Inv C (stops x)
   at-spec : C → Moved Inv C calls
   at-end : C → Moved Inv C ends
 
@@ -116,7 +116,7 @@ deep-case : (kind : ℕ) (s : List ℕ) (depth i : ℕ) → leb tooDeep depth �
 unfolding textCase
 deep-case kind s depth i e = rw e
 
-deep-stops : (kind : ℕ) (s : List ℕ) (depth i : ℕ) (text : List ℕ) → leb tooDeep depth ≡ true → textMove kind s depth i text ≡ stops expressionNestedTooDeeply i 0 0
+deep-stops : (kind : ℕ) (s : List ℕ) (depth i : ℕ) (text : List ℕ) → leb tooDeep depth ≡ true → textMove kind s depth i text ≡ stops (fault expressionNestedTooDeeply i)
 unfolding textMove
 deep-stops kind s depth i text e = rw (deep-case kind s depth i e, textMove)
 
@@ -148,7 +148,7 @@ module _ (kind : ℕ) (s : List ℕ) (Inv : Field → Type 0) (P : List ℕ → 
   unfolding finished
   finished-tree depth from j (state e b o c d w) p l h k = go b refl
     where
-      go : (x : Bool) → b ≡ x → TreeRead P depth (if x then refused emptyExpression j 0 0 else got (selfDocumenting depth d e w ++ fieldPieces depth e (conversionOf d c p) from p) j)
+      go : (x : Bool) → b ≡ x → TreeRead P depth (if x then refused (fault emptyExpression j) else got (selfDocumenting depth d e w ++ fieldPieces depth e (conversionOf d c p) from p) j)
       go true y = tt
       go false y = tree-append P depth (selfDocumenting depth d e w) (fieldPieces depth e (conversionOf d c p) from p) (tree-documented depth d e w) (tree-field depth e (conversionOf d c p) from p l (h y p) k)
 
@@ -176,16 +176,16 @@ module _ (kind : ℕ) (s : List ℕ) (Inv : Field → Type 0) (P : List ℕ → 
         after (got qs j) f k e =
             rw (text-got n kind s depth i text ps qs j e f)
             (D .text depth j [] (ps ++ filled depth text ++ qs) (tree-append P depth (ps ++ filled depth text) qs (tree-append P depth ps (filled depth text) h (tree-filled P depth text)) k))
-        after (refused m j a b) f k e = rw (text-refused n kind s depth i text ps m j a b e f) tt
+        after (refused x) f k e = rw (text-refused n kind s depth i text ps x e f) tt
 
         go : (x : Move (List ℕ)) → textMove kind s depth i text ≡ x → depth ≤ 1 → Goal
         go (goes j text′) e l = rw (text-goes n kind s depth i text ps j text′ e) (D .text depth j text′ ps h)
-        go (stops m j a b) e l = rw (text-stops n kind s depth i text ps m j a b e) tt
+        go (stops x) e l = rw (text-stops n kind s depth i text ps x e) tt
         go calls e l = after (fieldN n kind s depth (next s i) (next s i) fresh) refl (D .field depth (next s i) (next s i) fresh l start) e
         go ends e l = rw (text-ends n kind s depth i text ps e) (tree-append P depth ps (filled depth text) h (tree-filled P depth text))
 
         test : (t : Bool) → leb tooDeep depth ≡ t → Goal
-        test true e = rw (text-stops n kind s depth i text ps expressionNestedTooDeeply i 0 0 (deep-stops kind s depth i text e)) tt
+        test true e = rw (text-stops n kind s depth i text ps (fault expressionNestedTooDeeply i) (deep-stops kind s depth i text e)) tt
         test false e = go (textMove kind s depth i text) refl (omega (arith, leb-false tooDeep depth e))
 
     field-tree : (from i : ℕ) (f : Field) → depth ≤ 1 → Inv f → TreeRead P depth (fieldN (suc n) kind s depth from i f)
@@ -196,11 +196,11 @@ module _ (kind : ℕ) (s : List ℕ) (Inv : Field → Type 0) (P : List ℕ → 
 
         after : (r : Read (List Piece)) → specN n kind s depth (next s i) ≡ r → TreeRead P (suc depth) r → fieldMove s i f ≡ calls → Closes P f → Goal
         after (got ps j) g k e c = rw (field-got n kind s depth from i f ps j e g) (specified-tree depth from j f ps l c k)
-        after (refused m j a b) g k e c = rw (field-refused n kind s depth from i f m j a b e g) tt
+        after (refused x) g k e c = rw (field-refused n kind s depth from i f x e g) tt
 
         go : (x : Move Field) → fieldMove s i f ≡ x → Moved Inv (Closes P f) x → Goal
         go (goes j f′) e (on k) = rw (field-goes n kind s depth from i f j f′ e) (D .field depth from j f′ l k)
-        go (stops m j a b) e stopped = rw (field-stops n kind s depth from i f m j a b e) tt
+        go (stops x) e stopped = rw (field-stops n kind s depth from i f x e) tt
         go calls e (at-spec c) = after (specN n kind s depth (next s i)) refl (D .spec depth (next s i)) e c
         go ends e (at-end c) = rw (field-ends n kind s depth from i f e) (finished-tree depth from (next s i) f none l c tt)
 

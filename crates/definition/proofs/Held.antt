@@ -78,7 +78,7 @@ Alike c c′ = ((k : ℕ) → word (numbers (c .outcome)) k ≡ word (numbers (c
 
 same-refusal : (r r′ : Refusal) → ((k : ℕ) → word (numbers (refuses r)) k ≡ word (numbers (refuses r′)) k) → r ≡ r′
 unfolding numbers
-same-refusal r r′ h = λ i. record { number = h 0 i; literal = h 1 i; place = h 2 i; a = h 3 i; b = h 4 i; line = h 6 i; column = h 7 i }
+same-refusal r r′ h = λ i. record { number = h 0 i; literal = h 1 i; place = h 2 i; a = h 3 i; b = h 4 i; opened = h 5 i; line = h 6 i; column = h 7 i }
 
 -- no refusal has an acceptance's 0
 differ : {P : Type 0} (x : Answer) (r : Refusal) → Listed r → word (numbers (accepts x)) 0 ≡ word (numbers (refuses r)) 0 → P

@@ -26,7 +26,7 @@ shift-literal script n i l = go (readBody (l .kind) (body script l)) refl
   where
     go : (r : Read (List Piece)) → readBody (l .kind) (body script l) ≡ r → readLiteral script (n + i) l ≡ shift n (readLiteral script i l)
     go (got ps j) e = rw (e, readLiteral)
-    go (refused m j a b) e = rw (e, readLiteral)
+    go (refused x) e = rw (e, readLiteral)
 
 shift-then : (n : ℕ) (o p : Outcome (List Item)) → andThen (shift n o) (shift n p) ≡ shift n (andThen o p)
 unfolding shift andThen

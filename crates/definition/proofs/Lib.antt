@@ -10,6 +10,7 @@ pub mod Counted
 pub mod Placed
 pub mod Adds
 pub mod Cases
+pub mod OpenBrackets
 pub mod Moves
 pub mod Steps
 pub mod Fuel

@@ -1,6 +1,6 @@
 -- What holds of every outcome: a refusal's number and details, and an acceptance's offsets, counts and lengths. Assumes nothing.
 use mathlib.Core.Path.{_≡_, refl}
-use mathlib.Core.Bool.{Bool, true, false, _&&_, _||_, not}
+use mathlib.Core.Bool.{Bool, true, false, _&&_, not}
 use mathlib.Core.List.{List, [], _∷_, map}
 use mathlib.Core.Option.{Option, none, some}
 use Prim.Native.Nat.{ℕ, suc, _+_, _*_, _/_, _≤_}
@@ -8,7 +8,7 @@ use native.Mathlib.Omega.{arith}
 use lib.Dec.{T, ltb, leb}
 use lib.ListN.{length, drop, length-append, length-drop, length-replicate}
 use borrow.Author.Tests.{ltb-false}
-use Rattle.definition.specs.Numbers.{isBytes, emptyList, refusals, _among_, ofEntry, ofBody, tooManyLiterals, badDescriptor, bodiesTooLong, notUtf8, mixedBytes}
+use Rattle.definition.specs.Numbers.{isBytes, emptyList, refusals, _among_, ofEntry, tooManyLiterals, badDescriptor, bodiesTooLong, notUtf8, mixedBytes}
 use Rattle.definition.specs.Chars.{if_then_else_}
 use Rattle.definition.specs.Escapes.{Read, got, refused}
 use Rattle.definition.specs.Body.{Piece, readBody}
@@ -34,15 +34,8 @@ among-them : (x y z : Bool) → T ((x && y) && z) → T (y && z)
 among-them true y z h = h
 among-them false y z h = absurd h
 
-body-listed : (r : Refusal) → OfBody [] (r .number) (r .a) (r .b) → Listed r
-body-listed r h = among-them (leb 10 (r .number) && leb (r .number) 28) (r .number among refusals) d (none-before (ofBody (r .number)) d h)
-  where
-    d : Bool
-    d = detailed (r .number) (r .a) (r .b)
-
-    none-before : (x y : Bool) → T (x && (y || false)) → T (x && y)
-    none-before x true h = h
-    none-before x false h = h
+body-listed : (r : Refusal) → OfBody (r .number) (r .a) (r .b) → Listed r
+body-listed r h = among-them (leb 10 (r .number) && leb (r .number) 28) (r .number among refusals) (detailed (r .number) (r .a) (r .b)) h
 
 entry-listed : (r : Refusal) → OfEntry r → Listed r
 entry-listed r h = among-them (leb (r .number) 7) (r .number among refusals) (detailed (r .number) (r .a) (r .b)) h
@@ -109,7 +102,7 @@ entry-numbered script ls = entry-refusing OfEntry (λ n i place h. h) script ls
 -- a body's refusal
 abbrev FromBody : {A : Type 0} → Outcome A → Type 0
 FromBody (accepts x) = Unit {0}
-FromBody (refuses r) = OfBody [] (r .number) (r .a) (r .b)
+FromBody (refuses r) = OfBody (r .number) (r .a) (r .b)
 
 literal-body : (script : List ℕ) (i : ℕ) (l : Literal) → FromBody (readLiteral script i l)
 unfolding refusalIn readLiteral
@@ -117,7 +110,7 @@ literal-body script i l = go (readBody (l .kind) (body script l)) refl (body-rea
   where
     go : (r : Read (List Piece)) → readBody (l .kind) (body script l) ≡ r → Sound (body script l) 0 r → FromBody (readLiteral script i l)
     go (got ps j) e h = rw (e, readLiteral) tt
-    go (refused m j a b) e h = rw (e, readLiteral) (h .0)
+    go (refused x) e h = rw (e, readLiteral) (h .0 tt .0)
 
 then-body : (o p : Outcome (List Item)) → FromBody o → FromBody p → FromBody (andThen o p)
 unfolding andThen

@@ -1,4 +1,5 @@
--- Where a refusal stands: in the body of the literal that it names, with the line and column of its place there, or in none. Assumes nothing.
+-- Where a refusal stands: in the body of the literal that it names, with the line and column of its place there and the place of 23's bracket, or
+-- in none. Assumes nothing.
 use mathlib.Core.Path.{_≡_, refl}
 use mathlib.Core.Bool.{Bool, true, false, _&&_}
 use mathlib.Core.List.{List, [], _∷_}
@@ -6,16 +7,17 @@ use mathlib.Core.Logic.{_⊎_, inl, inr}
 use mathlib.Core.Option.{Option, none, some}
 use Prim.Native.Nat.{ℕ, suc, _/_, _≤_}
 use native.Mathlib.Omega.{arith}
-use lib.Dec.{T, ltb, leb, leb→le}
+use lib.Dec.{T, ltb, leb, eqb, leb→le}
 use lib.ListN.{length}
-use Rattle.definition.specs.Numbers.{refusals, _among_, ofEntry, ofBody}
+use Rattle.definition.specs.Numbers.{mismatchedDelimiter, refusals, _among_, ofEntry, ofBody}
 use Rattle.definition.specs.Counts.{counted}
-use Rattle.definition.specs.Escapes.{Read, got, refused}
+use Rattle.definition.specs.Escapes.{Fault, Read, got, refused}
 use Rattle.definition.specs.Body.{Piece, readBody}
 use Rattle.definition.specs.Records.{Item, Answer}
 use Rattle.definition.specs.Entry.{Literal, sixes, placeOf, body, Refusal, refusal, entry}
-use Rattle.definition.specs.Reading.{Outcome, accepts, refuses, refusalIn, readLiteral, andThen, readFrom, answered, read, outcomeOf, roomFor, roomed, called, readInto, readNumbers}
-use Rattle.definition.proofs.Moves.{detailed, Sound}
+use Rattle.definition.specs.Reading.{Outcome, accepts, refuses, openedAt, refusalIn, readLiteral, andThen, readFrom, answered, read, outcomeOf, roomFor, roomed, called, readInto, readNumbers}
+use Rattle.definition.proofs.OpenBrackets.{Wrong}
+use Rattle.definition.proofs.Moves.{detailed, Names, Sound}
 use Rattle.definition.proofs.Fuel.{body-reading}
 use Rattle.definition.proofs.Outcomes.{OfEntry, Refusing, entry-refusing}
 
@@ -28,6 +30,11 @@ pub data Numbers (l : Literal) (n : ℕ) : ℕ → List Literal → Type 0 where
   first : {ls : List Literal} → Numbers l n n (l ∷ ls)
   later : {i : ℕ} {k : Literal} {ls : List Literal} → Numbers l n (suc i) ls → Numbers l n i (k ∷ ls)
 
+-- the place just after a bracket, by whether the number is 23: it stands in the body as 23 says
+abbrev pub Opened : List ℕ → Literal → ℕ → Refusal → Bool → Type 0
+Opened script l taken r true = (k : ℕ) × (r .opened ≡ placeOf l k) × Wrong (body script l) taken k (r .a) (r .b)
+Opened script l taken r false = r .opened ≡ 0
+
 -- a refusal in the body of the literal that it names, after so many bytes of it
 pub record InBody (script : List ℕ) (i : ℕ) (ls : List Literal) (r : Refusal) : Type 0 where
   pub number : T (ofBody (r .number))
@@ -36,6 +43,7 @@ pub record InBody (script : List ℕ) (i : ℕ) (ls : List Literal) (r : Refusal
   pub taken : ℕ
   pub within : taken ≤ length (body script literal)
   pub place : r .place ≡ placeOf literal taken
+  pub opened : Opened script literal taken r (eqb (r .number) mismatchedDelimiter)
   pub line : r .line ≡ counted (body script literal) taken .line
   pub column : r .column ≡ counted (body script literal) taken .column
 
@@ -45,19 +53,24 @@ Standing script i ls (refuses r) = InBody script i ls r
 
 module _ (script : List ℕ) where
   literal-stands : (i : ℕ) (l : Literal) (ls : List Literal) → Standing script i (l ∷ ls) (readLiteral script i l)
-  unfolding refusalIn readLiteral
+  unfolding openedAt refusalIn readLiteral
   literal-stands i l ls = go (readBody (l .kind) (body script l)) refl (body-reading (l .kind) (body script l) .0)
     where
+      opens : (x : Fault) (t : Bool) → eqb (x .number) mismatchedDelimiter ≡ t → Names (body script l) x t → Opened script l (x .taken) (refusalIn script i l x) t
+      opens x true e h = (x .opened, rw e refl, h)
+      opens x false e h = rw e refl
+
       go : (r : Read (List Piece)) → readBody (l .kind) (body script l) ≡ r → Sound (body script l) 0 r → Standing script i (l ∷ ls) (readLiteral script i l)
       go (got ps j) e h = rw (e, readLiteral) tt
-      go (refused m j a b) e h =
-          rw (e, readLiteral) (record { number = front (ofBody m) _ (h .0); literal = l; named = first; taken = j; within = h .1; place = refl; line = refl; column = refl })
+      go (refused x) e h =
+          let says = h .0 tt in
+          rw (e, readLiteral) (record { number = front (ofBody (x .number)) _ (says .0); literal = l; named = first; taken = x .taken; within = h .1; place = refl; opened = opens x (eqb (x .number) mismatchedDelimiter) refl (says .1); line = refl; column = refl })
 
   then-stands : (i : ℕ) (l : Literal) (ls : List Literal) (o p : Outcome (List Item)) → Standing script i (l ∷ ls) o → Standing script (suc i) ls p → Standing script i (l ∷ ls) (andThen o p)
   unfolding andThen
   then-stands i l ls (refuses r) p h k = h
   then-stands i l ls (accepts xs) (refuses r) h k =
-      record { number = k .number; literal = k .literal; named = later (k .named); taken = k .taken; within = k .within; place = k .place; line = k .line; column = k .column }
+      record { number = k .number; literal = k .literal; named = later (k .named); taken = k .taken; within = k .within; place = k .place; opened = k .opened; line = k .line; column = k .column }
   then-stands i l ls (accepts xs) (accepts ys) h k = tt
 
   from-stands : (i : ℕ) (ls : List Literal) → Standing script i ls (readFrom script i ls)
@@ -68,6 +81,7 @@ module _ (script : List ℕ) where
 -- a refusal in no body
 pub record InNone (r : Refusal) : Type 0 where
   pub number : T (ofBody (r .number)) → ⊥
+  pub opened : r .opened ≡ 0
   pub line : r .line ≡ 0
   pub column : r .column ≡ 0
 
@@ -93,7 +107,7 @@ module _ (script : List ℕ) (ls : List Literal) where
   -- with room for anything
   read-placed : Placed script ls (read script ls)
   unfolding read refusal
-  read-placed = go (entry script ls) refl (entry-refusing InNone (λ n i place h. record { number = apart (refusal n i place 0 0) h; line = refl; column = refl }) script ls)
+  read-placed = go (entry script ls) refl (entry-refusing InNone (λ n i place h. record { number = apart (refusal n i place 0 0) h; opened = refl; line = refl; column = refl }) script ls)
     where
       go : (c : Option Refusal) → entry script ls ≡ c → Refusing InNone c → Placed script ls (read script ls)
       go none e h = rw (e, read) (answered-placed (readFrom script 0 ls) (from-stands script 0 ls))
@@ -105,8 +119,8 @@ module _ (script : List ℕ) (ls : List Literal) where
   roomed-placed w t (accepts x) h = go (ltb (w / 8) (length (x .records))) refl (ltb t (length (x .text))) refl
     where
       go : (a : Bool) → ltb (w / 8) (length (x .records)) ≡ a → (b : Bool) → ltb t (length (x .text)) ≡ b → Placed script ls (roomed w t (accepts x))
-      go true p b q = rw p (inr (record { number = λ k. k; line = refl; column = refl }))
-      go false p true q = rw (p, q) (inr (record { number = λ k. k; line = refl; column = refl }))
+      go true p b q = rw p (inr (record { number = λ k. k; opened = refl; line = refl; column = refl }))
+      go false p true q = rw (p, q) (inr (record { number = λ k. k; opened = refl; line = refl; column = refl }))
       go false p false q = rw (p, q) tt
 
   -- of descriptors with both buffers lent
@@ -124,5 +138,5 @@ unfolding readNumbers called refusal
 numbers-placed script ns words text = go (sixes ns) refl
   where
     go : (o : Option (List Literal)) → sixes ns ≡ o → Placed script (listed o) (readNumbers script ns words text .outcome)
-    go none e = rw (e, readNumbers) (inr (record { number = λ k. k; line = refl; column = refl }))
+    go none e = rw (e, readNumbers) (inr (record { number = λ k. k; opened = refl; line = refl; column = refl }))
     go (some ls) e = rw (e, readNumbers) (into-placed script ls words text)

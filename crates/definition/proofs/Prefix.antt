@@ -10,11 +10,11 @@ use Rattle.definition.proofs.Steps.{text-goes, text-stops, text-ends, t
 -- a reading with pieces in front
 abbrev pub following : List Piece → Read (List Piece) → Read (List Piece)
 following ps (got qs j) = got (ps ++ qs) j
-following ps (refused m j a b) = refused m j a b
+following ps (refused x) = refused x
 
 twice : (ps qs : List Piece) (r : Read (List Piece)) → following (ps ++ qs) r ≡ following ps (following qs r)
 twice ps qs (got rs j) = ap (λ l. got l j) (append-assoc ps qs rs)
-twice ps qs (refused m j a b) = refl
+twice ps qs (refused x) = refl
 
 pub text-prefix : (n kind : ℕ) (s : List ℕ) (depth i : ℕ) (text : List ℕ) (ps : List Piece) → textN n kind s depth i text ps ≡ following ps (textN n kind s depth i text [])
 unfolding textN
@@ -32,11 +32,11 @@ text-prefix (suc n) kind s depth i text ps = go (text-prefix n kind s depth) (te
         ∙ twice ps (filled depth text ++ qs) (textN n kind s depth j [] [])
         ∙ ap (following ps) (sym (ih j [] (filled depth text ++ qs)))
         ∙ ap (following ps) (sym (text-got n kind s depth i text [] qs j e f))
-    after ih (refused m j a b) f e =
-        text-refused n kind s depth i text ps m j a b e f ∙ ap (following ps) (sym (text-refused n kind s depth i text [] m j a b e f))
+    after ih (refused x) f e =
+        text-refused n kind s depth i text ps x e f ∙ ap (following ps) (sym (text-refused n kind s depth i text [] x e f))
 
     go : Prefixed → (x : Move (List ℕ)) → textMove kind s depth i text ≡ x → textN (suc n) kind s depth i text ps ≡ following ps (textN (suc n) kind s depth i text [])
     go ih (goes j text′) e = text-goes n kind s depth i text ps j text′ e ∙ ih j text′ ps ∙ ap (following ps) (sym (text-goes n kind s depth i text [] j text′ e))
-    go ih (stops m j a b) e = text-stops n kind s depth i text ps m j a b e ∙ ap (following ps) (sym (text-stops n kind s depth i text [] m j a b e))
+    go ih (stops x) e = text-stops n kind s depth i text ps x e ∙ ap (following ps) (sym (text-stops n kind s depth i text [] x e))
     go ih calls e = after ih (fieldN n kind s depth (next s i) (next s i) fresh) refl e
     go ih ends e = text-ends n kind s depth i text ps e ∙ ap (following ps) (sym (text-ends n kind s depth i text [] e))

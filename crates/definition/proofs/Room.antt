@@ -1,8 +1,8 @@
 -- What 30 and 31 tell: their details are what an acceptance needs, and with so much room there is one. Assumes nothing.
 use Prim.Native.Nat.{ℕ, _/_, _≤_}
 use mathlib.Core.Path.{_≡_, refl, _∙_, ap}
-use mathlib.Core.Bool.{Bool, true, false, _&&_, _||_}
-use mathlib.Core.List.{List, []}
+use mathlib.Core.Bool.{Bool, true, false, _&&_}
+use mathlib.Core.List.{List}
 use mathlib.Core.Option.{Option, none, some}
 use native.Mathlib.Omega.{arith}
 use lib.Dec.{T, ltb, leb}
@@ -84,8 +84,8 @@ under n m h b c t = go (leb n m) refl t
     go true e t = omega (arith, leb-true n m e)
     go false e t = absurd t
 
-body-below : (n a b : ℕ) → OfBody [] n a b → n ≤ 28
-body-below n a b h = go (leb 10 n) (detailed n a b || false) h
+body-below : (n a b : ℕ) → OfBody n a b → n ≤ 28
+body-below n a b h = go (leb 10 n) (detailed n a b) h
   where
     go : (x y : Bool) → T ((x && leb n 28 && n among refusals) && y) → n ≤ 28
     go true y h = under n 28 (omega arith) (n among refusals) y h

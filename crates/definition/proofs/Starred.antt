@@ -1,4 +1,4 @@
--- 01's starred readings, and 02's five reasons of 20: a table and a claim over it each, computed. Assumes nothing.
+-- 01's starred readings, 02's five reasons of 20, and its places of 23: a table and a claim over it each, computed. Assumes nothing.
 use Prim.Native.Nat.{ℕ, _+_}
 use Prim.Native.String.{String}
 use mathlib.Core.Path.{_≡_, refl}
@@ -11,7 +11,7 @@ use Rattle.definition.specs.Escapes.{octalDigit, octalFrom, hexDigit, sc
 use Rattle.definition.specs.Body.{withEscape, stringCase, stringMove, stringN, textCase, textMove, filled, fresh, add, documented, spaced, outside, fieldCase, caseOf, conversionMove, openMove, closeMove, quoteMove, fieldMove, direct, conversionOf, fieldPieces, selfDocumenting, finished, specified, plainRun, textN, alone, readBody}
 use Rattle.definition.specs.Records.{Role, top, raw, inner, touching, covers, Record, item, itemOf, glue, merge, bothItems, merged, texts, recordAt, laid, cover, Sort, plain, joined, bytesOnly, Answer, answerOf}
 use Rattle.definition.specs.Entry.{Literal, opening, placeOf, body, refusal, notEmpty, notMany, firstBad, bad, allGood, total, notLong, formed, illFormed, allUtf8, anyOf, firstStart, notMixed, firstOf, entry}
-use Rattle.definition.specs.Reading.{Outcome, accepts, refuses, refusalIn, readLiteral, andThen, readFrom, sortOf, uMark, lastEnd, answered, read}
+use Rattle.definition.specs.Reading.{Outcome, accepts, refuses, openedAt, refusalIn, readLiteral, andThen, readFrom, sortOf, uMark, lastEnd, answered, read}
 
 abbrev literal : (kind offset size start end : ℕ) → Literal
 literal kind offset size start end = record { kind = kind; triple = 0; offset = offset; size = size; start = start; end = end }
@@ -30,9 +30,9 @@ abbrev accepted : Sort → ℕ → List Record → List ℕ → Outcome Answer
 accepted sort end records text = accepts (record { sort = sort; uMark = 0; start = 0; end = end; records = records; text = text })
 
 -- a refusal in the first line
-abbrev refusedAs : (number place a b column : ℕ) → Outcome Answer
-refusedAs number place a b column =
-    refuses (record { number = number; literal = 0; place = place; a = a; b = b; line = 0; column = column })
+abbrev refusedAs : (number place a b opened column : ℕ) → Outcome Answer
+refusedAs number place a b opened column =
+    refuses (record { number = number; literal = 0; place = place; a = a; b = b; opened = opened; line = 0; column = column })
 
 pub record Row : Type 0 where
   pub reading : Outcome Answer
@@ -46,12 +46,12 @@ pub starred : List Row
 unfolding ascii
 starred =
     (one 1 "{x!=y}" gives accepted joined 9 (rec inner 2 0 4 0 9 0 0 3 ∷ []) (ascii "x!=y"))
-    ∷ (one 1 "{x!r b}" gives refusedAs 20 6 2 0 4)
-    ∷ (one 1 "{x:{y:{z}}}" gives refusedAs 24 8 0 0 6)
+    ∷ (one 1 "{x!r b}" gives refusedAs 20 6 2 0 0 4)
+    ∷ (one 1 "{x:{y:{z}}}" gives refusedAs 24 8 0 0 0 6)
     ∷ (one 1 "{x = }" gives accepted joined 9 (rec top 1 0 4 0 9 0 0 0 ∷ rec inner 2 4 2 0 9 114 0 3 ∷ []) (ascii "x = x "))
     ∷ (one 1 "{x=()}" gives accepted joined 9 (rec top 1 0 4 0 9 0 0 0 ∷ rec inner 2 4 3 0 9 114 0 3 ∷ []) (ascii "x()=x()"))
     ∷ (one 1 "" gives accepted joined 3 [] [])
-    ∷ (one 1 "{(]}" gives refusedAs 23 5 40 93 3)
+    ∷ (one 1 "{(]}" gives refusedAs 23 5 40 93 4 3)
     ∷ (one 1 "{x:\\n>{w}\\n}"
     gives accepted joined 15
     (rec inner 2 0 1 0 15 0 1 3
@@ -72,26 +72,38 @@ starred =
 -- spaces, in its spec, in a spec's field; a `{` at depth 0 is the last character
 pub unclosed : List Row
 unclosed =
-    (one 1 "{x!" gives refusedAs 20 5 1 0 3)
-    ∷ (one 1 "{x!r b}" gives refusedAs 20 6 2 0 4)
-    ∷ (one 1 "{x!r" gives refusedAs 20 6 2 0 4)
-    ∷ (one 1 "{x=y}" gives refusedAs 20 6 3 0 4)
-    ∷ (one 1 "{x" gives refusedAs 20 4 4 0 2)
-    ∷ (one 1 "{x= " gives refusedAs 20 6 4 0 4)
-    ∷ (one 1 "{x:y" gives refusedAs 20 6 4 0 4)
-    ∷ (one 1 "{x:{" gives refusedAs 20 6 4 0 4)
-    ∷ (one 1 "{" gives refusedAs 20 3 5 0 1)
+    (one 1 "{x!" gives refusedAs 20 5 1 0 0 3)
+    ∷ (one 1 "{x!r b}" gives refusedAs 20 6 2 0 0 4)
+    ∷ (one 1 "{x!r" gives refusedAs 20 6 2 0 0 4)
+    ∷ (one 1 "{x=y}" gives refusedAs 20 6 3 0 0 4)
+    ∷ (one 1 "{x" gives refusedAs 20 4 4 0 0 2)
+    ∷ (one 1 "{x= " gives refusedAs 20 6 4 0 0 4)
+    ∷ (one 1 "{x:y" gives refusedAs 20 6 4 0 0 4)
+    ∷ (one 1 "{x:{" gives refusedAs 20 6 4 0 0 4)
+    ∷ (one 1 "{" gives refusedAs 20 3 5 0 0 1)
+    ∷ []
+
+-- where 23's bracket was opened: the innermost that is still open, in a field or a spec's field; not one that was closed, nor one in quotes
+pub openers : List Row
+openers =
+    (one 1 "{f(a[0)}" gives refusedAs 23 9 91 41 7 7)
+    ∷ (one 1 "{[a](b}" gives refusedAs 23 9 40 125 7 7)
+    ∷ (one 1 "{('['}" gives refusedAs 23 8 40 125 4 6)
+    ∷ (one 1 "{x:{(]}}" gives refusedAs 23 8 40 93 7 6)
     ∷ []
 
 abbrev pub Given : List Row → Type 0
 Given rows = map (λ r. r .reading) rows ≡ map (λ r. r .is) rows
 
-computed : Given starred × Given unclosed
-unfolding starred unclosed prefix ascii insideAny table37 following follow width decoded code next char formedFrom wellFormed utf8 whiteSpace before same more countFrom counted octalDigit octalFrom hexDigit scalar hexFrom lookup named unicodeName escapeCase escape encode meant withEscape stringCase stringMove stringN textCase textMove filled fresh add documented spaced outside fieldCase caseOf conversionMove openMove closeMove quoteMove fieldMove direct conversionOf fieldPieces selfDocumenting finished specified plainRun textN alone readBody touching covers item itemOf glue merge bothItems merged texts recordAt laid cover answerOf opening placeOf body refusal notEmpty notMany firstBad bad allGood total notLong formed illFormed allUtf8 anyOf firstStart notMixed firstOf entry refusalIn readLiteral andThen readFrom sortOf uMark lastEnd answered read
-computed = (refl, refl)
+computed : Given starred × Given unclosed × Given openers
+unfolding starred unclosed openers prefix ascii insideAny table37 following follow width decoded code next char formedFrom wellFormed utf8 whiteSpace before same more countFrom counted octalDigit octalFrom hexDigit scalar hexFrom lookup named unicodeName escapeCase escape encode meant withEscape stringCase stringMove stringN textCase textMove filled fresh add documented spaced outside fieldCase caseOf conversionMove openMove closeMove quoteMove fieldMove direct conversionOf fieldPieces selfDocumenting finished specified plainRun textN alone readBody touching covers item itemOf glue merge bothItems merged texts recordAt laid cover answerOf opening placeOf body refusal notEmpty notMany firstBad bad allGood total notLong formed illFormed allUtf8 anyOf firstStart notMixed firstOf entry openedAt refusalIn readLiteral andThen readFrom sortOf uMark lastEnd answered read
+computed = (refl, refl, refl)
 
 pub starred-read : Given starred
 starred-read = computed .0
 
 pub unclosed-read : Given unclosed
 unclosed-read = computed .1
+
+pub openers-read : Given openers
+openers-read = computed .2

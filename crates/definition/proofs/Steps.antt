@@ -5,7 +5,7 @@ use mathlib.Core.List.{List, [], _++_}
 use Prim.Native.Nat.{ℕ, suc}
 use mathlib.Core.Option.{none}
 use Rattle.definition.specs.Chars.{_is_, part, code, next}
-use Rattle.definition.specs.Escapes.{got, refused}
+use Rattle.definition.specs.Escapes.{Fault, got, refused}
 use Rattle.definition.specs.Body.{Piece, goes, stops, calls, ends, stringMove, stringN, filled, Field, fresh, textMove, fieldMove, finished, specified, firstEnd, textN, fieldN, specN}
 
 module _ (n kind : ℕ) (s : List ℕ) (i : ℕ) (text : List ℕ) where
@@ -13,9 +13,9 @@ module _ (n kind : ℕ) (s : List ℕ) (i : ℕ) (text : List ℕ) where
   unfolding stringN
   string-goes j text′ e = rw (e, stringN)
 
-  pub string-stops : (m j a b : ℕ) → stringMove kind s i text ≡ stops m j a b → stringN (suc n) kind s i text ≡ refused m j a b
+  pub string-stops : (x : Fault) → stringMove kind s i text ≡ stops x → stringN (suc n) kind s i text ≡ refused x
   unfolding stringN
-  string-stops m j a b e = rw (e, stringN)
+  string-stops x e = rw (e, stringN)
 
   pub string-ends : stringMove kind s i text ≡ ends → stringN (suc n) kind s i text ≡ got text i
   unfolding stringN
@@ -26,9 +26,9 @@ module _ (n kind : ℕ) (s : List ℕ) (depth i : ℕ) (text : List ℕ) (ps : L
   unfolding textN
   text-goes j text′ e = rw (e, textN)
 
-  pub text-stops : (m j a b : ℕ) → textMove kind s depth i text ≡ stops m j a b → textN (suc n) kind s depth i text ps ≡ refused m j a b
+  pub text-stops : (x : Fault) → textMove kind s depth i text ≡ stops x → textN (suc n) kind s depth i text ps ≡ refused x
   unfolding textN
-  text-stops m j a b e = rw (e, textN)
+  text-stops x e = rw (e, textN)
 
   pub text-ends : textMove kind s depth i text ≡ ends → textN (suc n) kind s depth i text ps ≡ got (ps ++ filled depth text) i
   unfolding textN
@@ -39,19 +39,19 @@ module _ (n kind : ℕ) (s : List ℕ) (depth i : ℕ) (text : List ℕ) (ps : L
   unfolding textN
   text-got qs j e f = rw (e, f, textN)
 
-  pub text-refused : (m j a b : ℕ) → textMove kind s depth i text ≡ calls → fieldN n kind s depth (next s i) (next s i) fresh ≡ refused m j a b
-      → textN (suc n) kind s depth i text ps ≡ refused m j a b
+  pub text-refused : (x : Fault) → textMove kind s depth i text ≡ calls → fieldN n kind s depth (next s i) (next s i) fresh ≡ refused x
+      → textN (suc n) kind s depth i text ps ≡ refused x
   unfolding textN
-  text-refused m j a b e f = rw (e, f, textN)
+  text-refused x e f = rw (e, f, textN)
 
 module _ (n kind : ℕ) (s : List ℕ) (depth from i : ℕ) (f : Field) where
   pub field-goes : (j : ℕ) (f′ : Field) → fieldMove s i f ≡ goes j f′ → fieldN (suc n) kind s depth from i f ≡ fieldN n kind s depth from j f′
   unfolding fieldN
   field-goes j f′ e = rw (e, fieldN)
 
-  pub field-stops : (m j a b : ℕ) → fieldMove s i f ≡ stops m j a b → fieldN (suc n) kind s depth from i f ≡ refused m j a b
+  pub field-stops : (x : Fault) → fieldMove s i f ≡ stops x → fieldN (suc n) kind s depth from i f ≡ refused x
   unfolding fieldN
-  field-stops m j a b e = rw (e, fieldN)
+  field-stops x e = rw (e, fieldN)
 
   pub field-ends : fieldMove s i f ≡ ends → fieldN (suc n) kind s depth from i f ≡ finished depth from (next s i) f none
   unfolding fieldN
@@ -62,9 +62,9 @@ module _ (n kind : ℕ) (s : List ℕ) (depth from i : ℕ) (f : Field) where
   unfolding fieldN
   field-got ps j e g = rw (e, g, fieldN)
 
-  pub field-refused : (m j a b : ℕ) → fieldMove s i f ≡ calls → specN n kind s depth (next s i) ≡ refused m j a b → fieldN (suc n) kind s depth from i f ≡ refused m j a b
+  pub field-refused : (x : Fault) → fieldMove s i f ≡ calls → specN n kind s depth (next s i) ≡ refused x → fieldN (suc n) kind s depth from i f ≡ refused x
   unfolding fieldN
-  field-refused m j a b e g = rw (e, g, fieldN)
+  field-refused x e g = rw (e, g, fieldN)
 
 -- a spec's first piece
 abbrev pub firstPiece : List ℕ → ℕ → ℕ → List Piece

@@ -7,7 +7,7 @@ use Prim.Native.Nat.{ℕ, suc, _+_, _≤_, _<_}
 use native.Mathlib.Omega.{arith}
 use lib.ListN.{length}
 use Rattle.definition.specs.Chars.{_is_, code, next}
-use Rattle.definition.specs.Escapes.{got, refused}
+use Rattle.definition.specs.Escapes.{Fault, got, refused}
 use Rattle.definition.specs.Body.{Piece, goes, stops, calls, ends, stringMove, stringN, filled, Field, fresh, textMove, fieldMove, finished, specified, firstEnd, textN, fieldN, specN, enough}
 use Rattle.definition.proofs.CharLaws.{next-in, next-past}
 use Rattle.definition.proofs.Steps.{string-goes, string-stops, string-ends, text-goes, text-stops, text-ends, text-got, text-refused, field-goes, field-stops, field-ends, field-got, field-refused, firstPiece, spec-calls, spec-ends}
@@ -25,8 +25,8 @@ module _ (kind : ℕ) (s : List ℕ) (i : ℕ) (text : List ℕ) where
   string-on j text′ l e =
       ap (λ n. stringN n kind s i text) (one-less s) ∙ string-goes (less s) kind s i text j text′ e ∙ string-fuel (less s) (enough s) kind s j text′ l (omega arith) (omega arith)
 
-  pub string-stop : (m j a b : ℕ) → stringMove kind s i text ≡ stops m j a b → stringN (enough s) kind s i text ≡ refused m j a b
-  string-stop m j a b e = ap (λ n. stringN n kind s i text) (one-less s) ∙ string-stops (less s) kind s i text m j a b e
+  pub string-stop : (x : Fault) → stringMove kind s i text ≡ stops x → stringN (enough s) kind s i text ≡ refused x
+  string-stop x e = ap (λ n. stringN n kind s i text) (one-less s) ∙ string-stops (less s) kind s i text x e
 
   pub string-end : stringMove kind s i text ≡ ends → stringN (enough s) kind s i text ≡ got text i
   string-end e = ap (λ n. stringN n kind s i text) (one-less s) ∙ string-ends (less s) kind s i text e
@@ -38,8 +38,8 @@ module _ (kind : ℕ) (s : List ℕ) (depth i : ℕ) (text : List ℕ) (ps : Lis
       ∙ text-goes (less s) kind s depth i text ps j text′ e
       ∙ text-fuel (less s) (enough s) kind s depth j text′ ps l (omega arith) (omega arith)
 
-  pub text-stop : (m j a b : ℕ) → textMove kind s depth i text ≡ stops m j a b → textN (enough s) kind s depth i text ps ≡ refused m j a b
-  text-stop m j a b e = ap (λ n. textN n kind s depth i text ps) (one-less s) ∙ text-stops (less s) kind s depth i text ps m j a b e
+  pub text-stop : (x : Fault) → textMove kind s depth i text ≡ stops x → textN (enough s) kind s depth i text ps ≡ refused x
+  text-stop x e = ap (λ n. textN n kind s depth i text ps) (one-less s) ∙ text-stops (less s) kind s depth i text ps x e
 
   pub text-end : textMove kind s depth i text ≡ ends → textN (enough s) kind s depth i text ps ≡ got (ps ++ filled depth text) i
   text-end e = ap (λ n. textN n kind s depth i text ps) (one-less s) ∙ text-ends (less s) kind s depth i text ps e
@@ -56,9 +56,9 @@ module _ (kind : ℕ) (s : List ℕ) (depth i : ℕ) (text : List ℕ) (ps : Lis
         ∙ text-got (less s) kind s depth i text ps qs j e (same-field ∙ f)
         ∙ text-fuel (less s) (enough s) kind s depth j [] (ps ++ filled depth text ++ qs) k (omega arith) (omega arith)
 
-    pub text-field-stop : (m j a b : ℕ) → fieldN (enough s) kind s depth (next s i) (next s i) fresh ≡ refused m j a b → textN (enough s) kind s depth i text ps ≡ refused m j a b
-    text-field-stop m j a b f =
-        ap (λ n. textN n kind s depth i text ps) (one-less s) ∙ text-refused (less s) kind s depth i text ps m j a b e (same-field ∙ f)
+    pub text-field-stop : (x : Fault) → fieldN (enough s) kind s depth (next s i) (next s i) fresh ≡ refused x → textN (enough s) kind s depth i text ps ≡ refused x
+    text-field-stop x f =
+        ap (λ n. textN n kind s depth i text ps) (one-less s) ∙ text-refused (less s) kind s depth i text ps x e (same-field ∙ f)
 
 module _ (kind : ℕ) (s : List ℕ) (depth from i : ℕ) (f : Field) where
   pub field-on : (j : ℕ) (f′ : Field) → j ≤ length s → fieldMove s i f ≡ goes j f′ → fieldN (enough s) kind s depth from i f ≡ fieldN (enough s) kind s depth from j f′
@@ -67,8 +67,8 @@ module _ (kind : ℕ) (s : List ℕ) (depth from i : ℕ) (f : Field) where
       ∙ field-goes (less s) kind s depth from i f j f′ e
       ∙ field-fuel (less s) (enough s) kind s depth from j f′ l (omega arith) (omega arith)
 
-  pub field-stop : (m j a b : ℕ) → fieldMove s i f ≡ stops m j a b → fieldN (enough s) kind s depth from i f ≡ refused m j a b
-  field-stop m j a b e = ap (λ n. fieldN n kind s depth from i f) (one-less s) ∙ field-stops (less s) kind s depth from i f m j a b e
+  pub field-stop : (x : Fault) → fieldMove s i f ≡ stops x → fieldN (enough s) kind s depth from i f ≡ refused x
+  field-stop x e = ap (λ n. fieldN n kind s depth from i f) (one-less s) ∙ field-stops (less s) kind s depth from i f x e
 
   pub field-end : fieldMove s i f ≡ ends → fieldN (enough s) kind s depth from i f ≡ finished depth from (next s i) f none
   field-end e = ap (λ n. fieldN n kind s depth from i f) (one-less s) ∙ field-ends (less s) kind s depth from i f e
@@ -83,9 +83,9 @@ module _ (kind : ℕ) (s : List ℕ) (depth from i : ℕ) (f : Field) where
     pub field-spec : (ps : List Piece) (j : ℕ) → specN (enough s) kind s depth (next s i) ≡ got ps j → fieldN (enough s) kind s depth from i f ≡ specified s depth from j f ps
     field-spec ps j g = ap (λ n. fieldN n kind s depth from i f) (one-less s) ∙ field-got (less s) kind s depth from i f ps j e (same-spec ∙ g)
 
-    pub field-spec-stop : (m j a b : ℕ) → specN (enough s) kind s depth (next s i) ≡ refused m j a b → fieldN (enough s) kind s depth from i f ≡ refused m j a b
-    field-spec-stop m j a b g =
-        ap (λ n. fieldN n kind s depth from i f) (one-less s) ∙ field-refused (less s) kind s depth from i f m j a b e (same-spec ∙ g)
+    pub field-spec-stop : (x : Fault) → specN (enough s) kind s depth (next s i) ≡ refused x → fieldN (enough s) kind s depth from i f ≡ refused x
+    field-spec-stop x g =
+        ap (λ n. fieldN n kind s depth from i f) (one-less s) ∙ field-refused (less s) kind s depth from i f x e (same-spec ∙ g)
 
 module _ (kind : ℕ) (s : List ℕ) (depth i : ℕ) where
   pub spec-text : i ≤ length s → (code s (firstEnd s i) is "{") ≡ true

@@ -7,7 +7,7 @@ use lib.Dec.{ltb, leb, eqb}
 use lib.ListN.{length, drop, replicate}
 use Rattle.definition.specs.Numbers.{isFString, isBytes, isRaw, nonAsciiInBytes, unclosedLbrace, invalidConversionFlag, emptyExpression, mismatchedDelimiter, expressionNestedTooDeeply, singleRbrace, unmatched, unterminatedString, tooManyBrackets, afterBang, afterConversion, afterEquals, inField, lastBrace}
 use Rattle.definition.specs.Chars.{if_then_else_, _is_, part, atEnd, insideAny, code, next, char, whiteSpace, before}
-use Rattle.definition.specs.Escapes.{Read, got, refused, Meaning, escape, meant}
+use Rattle.definition.specs.Escapes.{Fault, fault, detail, Read, got, refused, Meaning, escape, meant}
 
 -- A piece, in record order: a field, its spec, the spec's parts. `depth` is that of the text that it stands in
 pub data Piece : Type 0 where
@@ -18,14 +18,14 @@ pub data Piece : Type 0 where
 -- What a reader does at a character: goes on with a new state, refuses, calls for the next reader, or ends
 pub data Move (A : Type 0) : Type 0 where
   goes : (taken : ℕ) (state : A) → Move A
-  stops : (number taken a b : ℕ) → Move A
+  stops : (why : Fault) → Move A
   calls : Move A
   ends : Move A
 
 -- a text with what the escape of the backslash at i stands for
 unfoldable pub withEscape : ℕ → List ℕ → ℕ → List ℕ → Read Meaning → Move (List ℕ)
 withEscape kind s i text (got m j) = goes j (text ++ meant kind s i j m)
-withEscape kind s i text (refused n j a b) = stops n j a b
+withEscape kind s i text (refused x) = stops x
 
 -- STRING AND BYTES BODIES
 pub data StringCase : Type 0 where
@@ -42,18 +42,18 @@ stringMove kind s i text =
     elim (stringCase kind s i) [
       | over ↦ ends
       | escapes ↦ withEscape kind s i text (escape kind s (next s i))
-      | foreign ↦ stops nonAsciiInBytes (next s i) 0 0
+      | foreign ↦ stops (fault nonAsciiInBytes (next s i))
       | plain ↦ goes (next s i) (text ++ char s i)
     ]
 
 -- n bounds the moves
 unfoldable pub stringN : ℕ → ℕ → List ℕ → ℕ → List ℕ → Read (List ℕ)
-stringN zero kind s i text = refused 0 i 0 0
+stringN zero kind s i text = refused (fault 0 i)
 stringN (suc n) kind s i text =
     elim (stringMove kind s i text) [
       | goes j text′ ↦ stringN n kind s j text′
-      | stops m j a b ↦ refused m j a b
-      | calls ↦ refused 0 i 0 0
+      | stops x ↦ refused x
+      | calls ↦ refused (fault 0 i)
       | ends ↦ got text i
     ]
 
@@ -84,12 +84,12 @@ textCase kind s depth i =
 unfoldable pub textMove : ℕ → List ℕ → ℕ → ℕ → List ℕ → Move (List ℕ)
 textMove kind s depth i text =
     elim (textCase kind s depth i) [
-      | deep ↦ stops expressionNestedTooDeeply i 0 0
+      | deep ↦ stops (fault expressionNestedTooDeeply i)
       | over ↦ ends
       | opens ↦ calls
-      | last ↦ stops unclosedLbrace (next s i) lastBrace 0
+      | last ↦ stops (detail unclosedLbrace (next s i) lastBrace)
       | doubled ↦ goes (next s (next s i)) (text ++ char s i)
-      | lone ↦ stops singleRbrace (next s i) 0 0
+      | lone ↦ stops (fault singleRbrace (next s i))
       | escapes ↦ withEscape kind s i text (escape kind s (next s i))
       | plain ↦ goes (next s i) (text ++ char s i)
     ]
@@ -99,10 +99,15 @@ unfoldable pub filled : ℕ → List ℕ → List Piece
 filled depth [] = []
 filled depth (b ∷ text) = literal depth (b ∷ text) ∷ []
 
+-- An open bracket: its code, and the bytes taken just after it
+pub record Bracket : Type 0 where
+  pub bracket : ℕ
+  pub taken : ℕ
+
 -- A FIELD. Its state: the expression, whether that is blank so far, the open brackets (innermost first), the conversion,
 -- whether a self-documenting `=` was met, and the spaces kept apart after it
 pub data Field : Type 0 where
-  state : (expression : List ℕ) (blank : Bool) (brackets : List ℕ) (conversion : ℕ) (documented : Bool) (spaces : ℕ) → Field
+  state : (expression : List ℕ) (blank : Bool) (brackets : List Bracket) (conversion : ℕ) (documented : Bool) (spaces : ℕ) → Field
 
 unfoldable pub fresh : Field
 fresh = state [] true [] 0 false 0
@@ -124,7 +129,7 @@ spaced (state e b o c d w) = state e b o c d (suc w)
 pub data FieldCase : Type 0 where
   over pair converts documents formats opener closes closer quote space backslash stray plain : FieldCase
 
-unfoldable pub outside : List ℕ → Bool
+unfoldable pub outside : List Bracket → Bool
 outside [] = true
 outside (b ∷ brackets) = false
 
@@ -153,36 +158,40 @@ unfoldable pub conversionMove : List ℕ → ℕ → Field → Move Field
 conversionMove s i (state e b o c d w) =
     let flag = next s i in
     let after = next s flag in
-    if b then stops emptyExpression flag 0 0 else
-    if atEnd s flag then stops unclosedLbrace flag afterBang 0 else
-    if not (code s flag is "sar") then stops invalidConversionFlag after 0 0 else
-    if code s after is "}:" then goes after (state e b o (code s flag) d w) else stops unclosedLbrace after afterConversion 0
+    if b then stops (fault emptyExpression flag) else
+    if atEnd s flag then stops (detail unclosedLbrace flag afterBang) else
+    if not (code s flag is "sar") then stops (fault invalidConversionFlag after) else
+    if code s after is "}:" then goes after (state e b o (code s flag) d w) else stops (detail unclosedLbrace after afterConversion)
 
 -- the opening bracket at i: 64 may be open at once
 unfoldable pub openMove : List ℕ → ℕ → Field → Move Field
 openMove s i (state e b o c d w) =
-    if ltb (length o) 64 then goes (next s i) (state (e ++ char s i) false (code s i ∷ o) c d w) else stops tooManyBrackets (next s i) 0 0
+    if ltb (length o) 64 then goes (next s i) (state (e ++ char s i) false (record { bracket = code s i; taken = next s i } ∷ o) c d w) else stops (fault tooManyBrackets (next s i))
 
 abbrev pub matching : ℕ → ℕ → Bool
 matching a b = a is "(" && b is ")" || a is "[" && b is "]" || a is "{" && b is "}"
 
+-- 23, with the open bracket and the closing one
+abbrev pub wrong : ℕ → Bracket → ℕ → Fault
+wrong taken a b = record { number = mismatchedDelimiter; taken = taken; a = a .bracket; b = b; opened = a .taken }
+
 -- the closing bracket at i must match the innermost open one by kind
 unfoldable pub closeMove : List ℕ → ℕ → Field → Move Field
-closeMove s i (state e b [] c d w) = stops unmatched (next s i) (code s i) 0
+closeMove s i (state e b [] c d w) = stops (detail unmatched (next s i) (code s i))
 closeMove s i (state e b (a ∷ o) c d w) =
-    if matching a (code s i) then goes (next s i) (state (e ++ char s i) false o c d w) else stops mismatchedDelimiter (next s i) a (code s i)
+    if matching (a .bracket) (code s i) then goes (next s i) (state (e ++ char s i) false o c d w) else stops (wrong (next s i) a (code s i))
 
 -- the quote at i opens a run that ends at the same quote
 unfoldable pub quoteMove : List ℕ → ℕ → Field → Move Field
 quoteMove s i f =
     let close = next s i + before (λ b. eqb b (code s i)) (drop (next s i) s) in
-    if atEnd s close then stops unterminatedString (length s) 0 0 else goes (close + 1) (add (part s i (close + 1)) false f)
+    if atEnd s close then stops (fault unterminatedString (length s)) else goes (close + 1) (add (part s i (close + 1)) false f)
 
 unfoldable pub fieldMove : List ℕ → ℕ → Field → Move Field
 fieldMove s i f =
     let after = next s i in
     elim (caseOf s i f) [
-      | over ↦ stops unclosedLbrace i inField 0
+      | over ↦ stops (detail unclosedLbrace i inField)
       | pair ↦ goes (next s after) (add (part s i (next s after)) false f)
       | converts ↦ conversionMove s i f
       | documents ↦ goes after (documented f)
@@ -192,8 +201,8 @@ fieldMove s i f =
       | closer ↦ closeMove s i f
       | quote ↦ quoteMove s i f
       | space ↦ goes after (spaced f)
-      | backslash ↦ stops unterminatedString after 0 0
-      | stray ↦ stops unclosedLbrace after afterEquals 0
+      | backslash ↦ stops (fault unterminatedString after)
+      | stray ↦ stops (detail unclosedLbrace after afterEquals)
       | plain ↦ goes after (add (char s i) (isBlank (code s i)) f)
     ]
 
@@ -223,11 +232,11 @@ selfDocumenting depth true e w = literal depth (e ++ (61 ∷ [])) ∷ literal de
 -- the `}` before j that ends the field which began at i, with its spec's pieces if it has a spec
 unfoldable pub finished : ℕ → ℕ → ℕ → Field → Option (List Piece) → Read (List Piece)
 finished depth i j (state e b o c d w) p =
-    if b then refused emptyExpression j 0 0 else got (selfDocumenting depth d e w ++ fieldPieces depth e (conversionOf d c p) i p) j
+    if b then refused (fault emptyExpression j) else got (selfDocumenting depth d e w ++ fieldPieces depth e (conversionOf d c p) i p) j
 
 -- a field whose spec has ended at j, at its `}` or at the body's end
 unfoldable pub specified : List ℕ → ℕ → ℕ → ℕ → Field → List Piece → Read (List Piece)
-specified s depth i j f ps = if atEnd s j then refused unclosedLbrace j inField 0 else finished depth i (next s j) f (some ps)
+specified s depth i j f ps = if atEnd s j then refused (detail unclosedLbrace j inField) else finished depth i (next s j) f (some ps)
 
 -- a spec's first piece: the bytes before the first brace; where it ends, if it begins at i
 unfoldable pub plainRun : List ℕ → ℕ
@@ -239,33 +248,33 @@ firstEnd s i = i + plainRun (drop i s)
 -- TEXT, FIELD AND SPEC call for one another; n bounds the moves. `ps` is the text's pieces so far; a field began at `from`
 unfoldable mutual
   pub textN : ℕ → ℕ → List ℕ → ℕ → ℕ → List ℕ → List Piece → Read (List Piece)
-  textN zero kind s depth i text ps = refused 0 i 0 0
+  textN zero kind s depth i text ps = refused (fault 0 i)
   textN (suc n) kind s depth i text ps =
       elim (textMove kind s depth i text) [
         | goes j text′ ↦ textN n kind s depth j text′ ps
-        | stops m j a b ↦ refused m j a b
+        | stops x ↦ refused x
         | calls ↦ elim (fieldN n kind s depth (next s i) (next s i) fresh) [
           | got qs j ↦ textN n kind s depth j [] (ps ++ filled depth text ++ qs)
-          | refused m j a b ↦ refused m j a b
+          | refused x ↦ refused x
         ]
         | ends ↦ got (ps ++ filled depth text) i
       ]
 
   pub fieldN : ℕ → ℕ → List ℕ → ℕ → ℕ → ℕ → Field → Read (List Piece)
-  fieldN zero kind s depth from i f = refused 0 i 0 0
+  fieldN zero kind s depth from i f = refused (fault 0 i)
   fieldN (suc n) kind s depth from i f =
       elim (fieldMove s i f) [
         | goes j f′ ↦ fieldN n kind s depth from j f′
-        | stops m j a b ↦ refused m j a b
+        | stops x ↦ refused x
         | calls ↦ elim (specN n kind s depth (next s i)) [
           | got ps j ↦ specified s depth from j f ps
-          | refused m j a b ↦ refused m j a b
+          | refused x ↦ refused x
         ]
         | ends ↦ finished depth from (next s i) f none
       ]
 
   pub specN : ℕ → ℕ → List ℕ → ℕ → ℕ → Read (List Piece)
-  specN zero kind s depth i = refused 0 i 0 0
+  specN zero kind s depth i = refused (fault 0 i)
   specN (suc n) kind s depth i =
       let j = firstEnd s i in
       let first = filled (suc depth) (part s i j) in
@@ -278,7 +287,7 @@ enough s = length s + length s + 2
 -- a string's or bytes' one piece, empty or not
 unfoldable pub alone : Read (List ℕ) → Read (List Piece)
 alone (got t j) = got (literal 0 t ∷ []) j
-alone (refused m j a b) = refused m j a b
+alone (refused x) = refused x
 
 -- ONE LITERAL: the body s of a kind
 unfoldable pub readBody : ℕ → List ℕ → Read (List Piece)

@@ -42,20 +42,22 @@ placeOf l taken = l .start + opening l + taken
 unfoldable pub body : List ℕ → Literal → List ℕ
 body script l = part script (l .offset) (l .offset + l .size)
 
--- A refusal; `literal` is an index from 0, line and column are its place's, in the literal's body
+-- A refusal; `literal` is an index from 0, `opened` the place just after the bracket that 23 names; line and column are its place's, in the
+-- literal's body
 pub record Refusal : Type 0 where
   pub number : ℕ
   pub literal : ℕ
   pub place : ℕ
   pub a : ℕ
   pub b : ℕ
+  pub opened : ℕ
   pub line : ℕ
   pub column : ℕ
 
--- one that names no line and column
+-- one that names no bracket, line or column
 unfoldable pub refusal : ℕ → ℕ → ℕ → ℕ → ℕ → Refusal
 refusal number literal place a b =
-    record { number = number; literal = literal; place = place; a = a; b = b; line = 0; column = 0 }
+    record { number = number; literal = literal; place = place; a = a; b = b; opened = 0; line = 0; column = 0 }
 
 -- THE ENTRY CHECKS: each gives its refusal, or none. 1
 unfoldable pub notEmpty : List Literal → Option Refusal

@@ -8,10 +8,25 @@ use lib.ListN.{length, drop}
 use Rattle.definition.specs.Numbers.{isBytes, stringError, unicodeError, nonAsciiInBytes, nameNotHeld}
 use Rattle.definition.specs.Chars.{if_then_else_, ascii, _is_, part, noCode, atEnd, _to_, inside, code, next, before, same, utf8}
 
--- A reading: a value, and the bytes taken once it is read; or a refusal's number, the bytes taken at its place, and two details
+-- A fault: a refusal's number, the bytes taken at its place, two details, and the bytes taken just after the bracket that it names
+pub record Fault : Type 0 where
+  pub number : ℕ
+  pub taken : ℕ
+  pub a : ℕ
+  pub b : ℕ
+  pub opened : ℕ
+
+-- one without details, and one with the first alone
+abbrev pub fault : ℕ → ℕ → Fault
+fault number taken = record { number = number; taken = taken; a = 0; b = 0; opened = 0 }
+
+abbrev pub detail : ℕ → ℕ → ℕ → Fault
+detail number taken a = record { number = number; taken = taken; a = a; b = 0; opened = 0 }
+
+-- A reading: a value, and the bytes taken once it is read; or a fault
 pub data Read (A : Type 0) : Type 0 where
   got : (value : A) (taken : ℕ) → Read A
-  refused : (number taken a b : ℕ) → Read A
+  refused : (why : Fault) → Read A
 
 -- What an escape stands for: a code; the backslash and the character as they are; nothing
 pub data Meaning : Type 0 where
@@ -43,7 +58,7 @@ hexDigit c =
 unfoldable pub scalar : ℕ → ℕ → ℕ → Read Meaning
 scalar v i letter =
     if inside (0xD800 to 0xDFFF) v then got (stands 0xFFFD) i else
-    if leb v 0x10FFFF then got (stands v) i else refused unicodeError letter 0 0
+    if leb v 0x10FFFF then got (stands v) i else refused (fault unicodeError letter)
 
 -- n more hex digits, from i on, after digits of the value v; a missing one is refused after the letter
 unfoldable pub hexFrom : ℕ → ℕ → List ℕ → ℕ → ℕ → Read Meaning
@@ -51,7 +66,7 @@ hexFrom zero v s i letter = scalar v i letter
 hexFrom (suc n) v s i letter =
     elim (ltb (hexDigit (code s i)) 16) [
       | true ↦ hexFrom n (v * 16 + hexDigit (code s i)) s (next s i) letter
-      | false ↦ refused unicodeError letter 0 0
+      | false ↦ refused (fault unicodeError letter)
     ]
 
 -- the held names and their codes
@@ -82,16 +97,16 @@ lookup (h ∷ hs) t = elim (same (ascii (h .0)) t) [ true ↦ h .1 | false ↦ l
 unfoldable pub named : List ℕ → ℕ → ℕ → Read Meaning
 named s i m =
     let c = lookup held (part s i (i + m)) in
-    if ltb 88 m then refused unicodeError (i + m + 1) 0 0 else
-    if eqb c noCode then refused nameNotHeld i 0 0 else got (stands c) (i + m + 1)
+    if ltb 88 m then refused (fault unicodeError (i + m + 1)) else
+    if eqb c noCode then refused (fault nameNotHeld i) else got (stands c) (i + m + 1)
 
 -- after \N, at i: a name in braces
 unfoldable pub unicodeName : List ℕ → ℕ → Read Meaning
 unicodeName s i =
     let inner = next s i in
     let m = before (λ b. b is "}") (drop inner s) in
-    if not (code s i is "{") then refused stringError i 0 0 else
-    if atEnd s (inner + m) then refused stringError (length s) 0 0 else named s inner m
+    if not (code s i is "{") then refused (fault stringError i) else
+    if atEnd s (inner + m) then refused (fault stringError (length s)) else named s inner m
 
 -- What the character after a backslash asks for
 pub data EscapeCase : Type 0 where
@@ -131,13 +146,13 @@ unfoldable pub escape : ℕ → List ℕ → ℕ → Read Meaning
 escape kind s i =
     let after = next s i in
     elim (escapeCase kind s i) [
-      | ended ↦ refused stringError i 0 0
+      | ended ↦ refused (fault stringError i)
       | simple c ↦ got (stands c) after
       | octal ↦ octalFrom 2 (octalDigit (code s i)) s after
       | hex n ↦ hexFrom n 0 s after after
       | name ↦ unicodeName s after
       | newline ↦ got vanishes after
-      | foreign ↦ refused nonAsciiInBytes after 0 0
+      | foreign ↦ refused (fault nonAsciiInBytes after)
       | other ↦ got stays after
     ]
 

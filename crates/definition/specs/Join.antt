@@ -52,7 +52,7 @@ join x y =
 -- a refusal of the second of two runs, whose first has n literals
 unfoldable pub shifted : ℕ → Refusal → Refusal
 shifted n r =
-    record { number = r .number; literal = n + r .literal; place = r .place; a = r .a; b = r .b; line = r .line; column = r .column }
+    record { number = r .number; literal = n + r .literal; place = r .place; a = r .a; b = r .b; opened = r .opened; line = r .line; column = r .column }
 
 -- the first's refusal, else the second's with its literal number raised by n, else the join
 unfoldable pub joinOutcomes : ℕ → Outcome Answer → Outcome Answer → Outcome Answer

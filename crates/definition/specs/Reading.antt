@@ -2,12 +2,12 @@
 use Prim.Native.Nat.{ℕ, suc, _+_, _/_}
 use mathlib.Core.List.{List, [], _∷_, _++_, map}
 use mathlib.Core.Option.{Option, none, some}
-use lib.Dec.{ltb}
+use lib.Dec.{ltb, eqb}
 use lib.ListN.{length, drop, replicate}
-use Rattle.definition.specs.Numbers.{isFString, isBytes, isUnicode, notSixes, tooFewRecordPlaces, tooLittleTextRoom}
+use Rattle.definition.specs.Numbers.{isFString, isBytes, isUnicode, mismatchedDelimiter, notSixes, tooFewRecordPlaces, tooLittleTextRoom}
 use Rattle.definition.specs.Chars.{if_then_else_}
 use Rattle.definition.specs.Counts.{counted}
-use Rattle.definition.specs.Escapes.{got, refused}
+use Rattle.definition.specs.Escapes.{Fault, got, refused}
 use Rattle.definition.specs.Body.{readBody}
 use Rattle.definition.specs.Records.{Item, itemOf, Record, wordsOf, Sort, plain, joined, bytesOnly, Answer, answerOf}
 use Rattle.definition.specs.Entry.{Literal, sixes, placeOf, body, Refusal, refusal, anyOf, firstStart, entry}
@@ -17,18 +17,22 @@ pub data Outcome (A : Type 0) : Type 0 where
   accepts : (answer : A) → Outcome A
   refuses : (why : Refusal) → Outcome A
 
--- a refusal in a literal, number i of the list, after so many bytes of its body
-unfoldable pub refusalIn : List ℕ → ℕ → Literal → (number taken a b : ℕ) → Refusal
-refusalIn script i l number taken a b =
-    let k = counted (body script l) taken in
-    record { number = number; literal = i; place = placeOf l taken; a = a; b = b; line = k .line; column = k .column }
+-- a fault's place just after a bracket: 23 has one
+unfoldable pub openedAt : Literal → Fault → ℕ
+openedAt l x = if eqb (x .number) mismatchedDelimiter then placeOf l (x .opened) else 0
+
+-- a fault in a literal, number i of the list
+unfoldable pub refusalIn : List ℕ → ℕ → Literal → Fault → Refusal
+refusalIn script i l x =
+    let k = counted (body script l) (x .taken) in
+    record { number = x .number; literal = i; place = placeOf l (x .taken); a = x .a; b = x .b; opened = openedAt l x; line = k .line; column = k .column }
 
 -- one literal, number i of the list
 unfoldable pub readLiteral : List ℕ → ℕ → Literal → Outcome (List Item)
 readLiteral script i l =
     elim (readBody (l .kind) (body script l)) [
       | got ps j ↦ accepts (map (itemOf (l .kind) (l .start) (l .end) (placeOf l 0)) ps)
-      | refused m j a b ↦ refuses (refusalIn script i l m j a b)
+      | refused x ↦ refuses (refusalIn script i l x)
     ]
 
 -- the first's refusal, else the second's, else the items of both
@@ -125,5 +129,5 @@ sortNumber joined = 1
 sortNumber bytesOnly = 2
 
 unfoldable pub numbers : Outcome Answer → List ℕ
-numbers (refuses r) = r .number ∷ r .literal ∷ r .place ∷ r .a ∷ r .b ∷ 0 ∷ r .line ∷ r .column ∷ []
+numbers (refuses r) = r .number ∷ r .literal ∷ r .place ∷ r .a ∷ r .b ∷ r .opened ∷ r .line ∷ r .column ∷ []
 numbers (accepts x) = 0 ∷ sortNumber (x .sort) ∷ x .uMark ∷ x .start ∷ x .end ∷ length (x .records) ∷ length (x .text) ∷ []
