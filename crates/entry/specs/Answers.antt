@@ -22,7 +22,7 @@ described l = record { kind = l .kind; triple = l .triple; offset = l .offset; s
 -- the definition's refusal
 abbrev pub refusalOf : Refusal → d.Refusal
 refusalOf r =
-    record { number = r .number; literal = r .literal; place = r .place; a = r .a; b = r .b; line = r .line; column = r .column }
+    record { number = r .number; literal = r .literal; place = r .place; a = r .a; b = r .b; opened = r .opened; line = r .line; column = r .column }
 
 -- how many literals passed, or the refusal
 abbrev pub says : Checked → Outcome ℕ

@@ -20,13 +20,15 @@ pub struct Descriptor {
     pub end: u32,
 }
 
-// A refusal: its number, the literal's index from 0, the place, two details, and the place's line and column in the literal's body.
+// A refusal: its number, the literal's index from 0, the place, two details, the place just after the bracket that it names, and its own
+// place's line and column in the literal's body.
 pub struct Refusal {
     pub number: u32,
     pub literal: u32,
     pub place: u32,
     pub a: u32,
     pub b: u32,
+    pub opened: u32,
     pub line: u32,
     pub column: u32,
 }
@@ -123,6 +125,7 @@ fn refuse(number: u32, literal: u32, place: u32) -> Checked
         place,
         a: 0,
         b: 0,
+        opened: 0,
         line: 0,
         column: 0,
     })
@@ -307,6 +310,7 @@ fn short(number: u32, records: u32, used: u32) -> Checked
         place: 0,
         a: records,
         b: used,
+        opened: 0,
         line: 0,
         column: 0,
     })

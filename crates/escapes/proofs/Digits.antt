@@ -14,7 +14,7 @@ use Rattle.definition.proofs.CharLaws.{code-end}
 use Rattle.utf8.proofs.Steps.{Stepped}
 use Rattle.definition.specs.Numbers.{unicodeError}
 use Rattle.definition.specs.Chars.{code}
-use Rattle.definition.specs.Escapes.{got, refused, stands, octalDigit, octalFrom, hexDigit, scalar, hexFrom}
+use Rattle.definition.specs.Escapes.{fault, got, refused, stands, octalDigit, octalFrom, hexDigit, scalar, hexFrom}
 
 -- the shared fact of the digits, over their count: k digits in the base b are below b ^ k
 pub digits-below : (b k p d : ℕ) → p < b ^ k → d < b → p * b + d < b ^ suc k
@@ -40,7 +40,7 @@ unfolding hexFrom
 hex-done zero v s i letter h = refl
 hex-done (suc n) v s i letter h = absurd (omega arith)
 
-pub hex-none : (n v : ℕ) (s : List ℕ) (i letter : ℕ) → 0 < n → 16 ≤ hexDigit (code s i) → hexFrom n v s i letter ≡ refused unicodeError letter 0 0
+pub hex-none : (n v : ℕ) (s : List ℕ) (i letter : ℕ) → 0 < n → 16 ≤ hexDigit (code s i) → hexFrom n v s i letter ≡ refused (fault unicodeError letter)
 unfolding hexFrom
 hex-none zero v s i letter h b = absurd (omega arith)
 hex-none (suc n) v s i letter h b = rw (le-ltb _ _ b, hexFrom)

@@ -3,7 +3,7 @@ use Prim.Native.Nat.{ℕ}
 use mathlib.Core.List.{List}
 use lib.ListN.{getD}
 use Rattle.definition.specs.Chars.{ascii}
-use Rattle.definition.specs.Escapes.{Read, got, refused, Meaning, stands, stays, vanishes, held}
+use Rattle.definition.specs.Escapes.{fault, Read, got, refused, Meaning, stands, stays, vanishes, held}
 use Rattle.escapes.specs.declared.Escaped.{Escaped}
 use Rattle.escapes.specs.declared.Escaped.the-variants.{Code, Kept, Gone, Refused}
 
@@ -12,7 +12,7 @@ abbrev pub says : Escaped → Read Meaning
 says (Code c k) = got (stands c) (k .at)
 says (Kept k) = got stays (k .at)
 says (Gone k) = got vanishes (k .at)
-says (Refused r) = refused (r .number) (r .at) 0 0
+says (Refused r) = refused (fault (r .number) (r .at))
 
 -- the bytes of the k-th held name
 abbrev pub heldName : ℕ → List ℕ

@@ -5,7 +5,7 @@ ghost use mathlib.Core.Path.{_≡_};
 ghost use Prim.Native.Nat.{_<_, _≤_};
 ghost use Rattle.definition.specs.Chars.{same};
 ghost use Rattle.definition.specs.Numbers.{isBytes};
-ghost use Rattle.definition.specs.Escapes.{refused, octalDigit, octalFrom, hexDigit, scalar, hexFrom, held, lookup, unicodeName, escape};
+ghost use Rattle.definition.specs.Escapes.{fault, refused, octalDigit, octalFrom, hexDigit, scalar, hexFrom, held, lookup, unicodeName, escape};
 ghost use Rattle.escapes.specs.Answers.{says, heldName};
 
 // A refusal's number, and the bytes taken at its place.
@@ -77,7 +77,7 @@ const CODES: [u32; 14] = [
 
 // A refusal with a number, at a place.
 fn refuse(number: u32, at: usize) -> Escaped
-    ensures { λ r. ⌜ says r ≡ refused number at 0 0 ⌝ }
+    ensures { λ r. ⌜ says r ≡ refused (fault number at) ⌝ }
 {
     Escaped::Refused(Refusal { number, at })
 }

@@ -11,9 +11,10 @@ use borrow.Author.Tests.{ltb-true, ltb-false, lt-ltb, le-ltb, le-leb, lt-leb, eq
 use lib.Dec.{ltb, eqb}
 use lib.ListN.{length, getD, set, drop, drop-of-length-le, length-take, length-drop}
 use lib.Seq.{take-add, drop-drop, drop-cons, getD-set-same, getD-set-other}
-use Rattle.definition.specs.Numbers.{unclosedLbrace, invalidConversionFlag, emptyExpression, unmatched, mismatchedDelimiter, unterminatedString, tooManyBrackets, afterBang, afterConversion, afterEquals, inField}
+use Rattle.definition.specs.Numbers.{unclosedLbrace, invalidConversionFlag, emptyExpression, unmatched, unterminatedString, tooManyBrackets, afterBang, afterConversion, afterEquals, inField}
 use Rattle.definition.specs.Chars.{if_then_else_, _is_, byte, part, code, next, char, before}
-use Rattle.definition.specs.Body.{Move, goes, stops, calls, ends, Field, isBlank, add, documented, spaced, FieldCase, pair, converts, documents, formats, opener, closes, closer, quote, space, backslash, stray, plain, outside, fieldCase, caseOf, conversionMove, openMove, matching, closeMove, quoteMove, fieldMove}
+use Rattle.definition.specs.Escapes.{fault, detail}
+use Rattle.definition.specs.Body.{Bracket, wrong, Move, goes, stops, calls, ends, Field, isBlank, add, documented, spaced, FieldCase, pair, converts, documents, formats, opener, closes, closer, quote, space, backslash, stray, plain, outside, fieldCase, caseOf, conversionMove, openMove, matching, closeMove, quoteMove, fieldMove}
 use Rattle.definition.proofs.CharLaws.{cases, no, byte-in, code-is, next-ascii, next-past, next-in}
 use Rattle.definition.proofs.Cases.{Tells, told}
 use Rattle.utf8.specs.declared.Cursor.{Cursor}
@@ -24,7 +25,7 @@ use Rattle.strings.specs.declared.field.State.{State}
 use Rattle.strings.specs.declared.field.Head.{Head}
 use Rattle.strings.specs.declared.field.Turn.{Turn}
 use Rattle.strings.specs.declared.field.Turn.the-variants as turn
-use Rattle.strings.specs.FieldTurns.{pending, Room, Fits, keptTo, skippedTo, headAt, brackets, stateOf, Mover, Went, Stopped, TurnIs}
+use Rattle.strings.specs.FieldTurns.{unpacked, pending, Room, Fits, keptTo, skippedTo, headAt, brackets, stateOf, Mover, Went, Stopped, TurnIs}
 
 pub and-false : (b : Bool) → (b && false) ≡ false
 and-false true = refl
@@ -84,11 +85,11 @@ brackets-set (suc n) m c places h =
     rw (getD-set-other places m n c 0 (λ (e : n ≡ m). omega arith), brackets-set n m c places (omega arith))
 
 -- one more, and one less
-brackets-more : (n c : ℕ) (places : List ℕ) → n < length places → brackets (n + 1) (set places n c) ≡ c ∷ brackets n places
+brackets-more : (n c : ℕ) (places : List ℕ) → n < length places → brackets (n + 1) (set places n c) ≡ unpacked c ∷ brackets n places
 unfolding brackets
 brackets-more n c places h = rw (add-one n, getD-set-same places n c 0 h, brackets-set n n c places (omega arith))
 
-brackets-less : (n : ℕ) (places : List ℕ) → 0 < n → brackets n places ≡ getD places (n - 1) 0 ∷ brackets (n - 1) places
+brackets-less : (n : ℕ) (places : List ℕ) → 0 < n → brackets n places ≡ unpacked (getD places (n - 1) 0) ∷ brackets (n - 1) places
 unfolding brackets
 brackets-less zero places h = absurd (omega arith)
 brackets-less (suc n) places h = rw sub-one
@@ -140,30 +141,30 @@ module _ {m : Mover} {s : List ℕ} {f : State} {places text : List ℕ} (r : Ro
 
 -- by the character at the state's place
 module _ {s : List ℕ} {f : State} {c : ℕ} {k : Cursor} (p : Fits s f c k) (places e : List ℕ) where
-  pub open-full : 64 ≤ f .depth → openMove s (f .at) (stateOf e f places) ≡ stops tooManyBrackets (k .at) 0 0
+  pub open-full : 64 ≤ f .depth → openMove s (f .at) (stateOf e f places) ≡ stops (fault tooManyBrackets (k .at))
   unfolding openMove
   open-full d = rw (length-brackets (f .depth) places, le-ltb _ _ d, p .here .next-is)
 
-  pub open-goes : f .depth < 64 → length places ≡ 64 → openMove s (f .at) (stateOf e f places) ≡ goes (k .at) (stateOf (e ++ part s (f .at) (k .at)) (keptTo f (k .at) (f .depth + 1) false) (set places (f .depth) c))
+  pub open-goes : (x : ℕ) → unpacked x ≡ record { bracket = c; taken = k .at } → f .depth < 64 → length places ≡ 64 → openMove s (f .at) (stateOf e f places) ≡ goes (k .at) (stateOf (e ++ part s (f .at) (k .at)) (keptTo f (k .at) (f .depth + 1) false) (set places (f .depth) x))
   unfolding openMove char
-  open-goes d l =
-      rw (length-brackets (f .depth) places, lt-ltb _ _ d, p .here .next-is, p .here .code-is, brackets-more (f .depth) c places (omega arith))
+  open-goes x q d l =
+      rw (length-brackets (f .depth) places, lt-ltb _ _ d, p .here .next-is, p .here .code-is, brackets-more (f .depth) x places (omega arith), ap (λ (b : Bracket). b .bracket) q, ap (λ (b : Bracket). b .taken) q)
 
-  pub close-none : f .depth ≡ 0 → closeMove s (f .at) (stateOf e f places) ≡ stops unmatched (k .at) c 0
+  pub close-none : f .depth ≡ 0 → closeMove s (f .at) (stateOf e f places) ≡ stops (detail unmatched (k .at) c)
   unfolding closeMove brackets
   close-none d = rw (d, p .here .next-is, p .here .code-is)
 
-  module _ {a : ℕ} (d : 0 < f .depth) (q : a ≡ getD places (f .depth - 1) 0) where
+  module _ {a : ℕ} (d : 0 < f .depth) (q : a ≡ unpacked (getD places (f .depth - 1) 0) .bracket) where
     pub close-goes : matching a c ≡ true → closeMove s (f .at) (stateOf e f places) ≡ goes (k .at) (stateOf (e ++ part s (f .at) (k .at)) (keptTo f (k .at) (f .depth - 1) false) places)
     unfolding closeMove char
     close-goes t = rw (brackets-less (f .depth) places d, ← q, p .here .next-is, p .here .code-is, t)
 
-    pub close-other : matching a c ≡ false → closeMove s (f .at) (stateOf e f places) ≡ stops mismatchedDelimiter (k .at) a c
+    pub close-other : {j : ℕ} → j ≡ unpacked (getD places (f .depth - 1) 0) .taken → matching a c ≡ false → closeMove s (f .at) (stateOf e f places) ≡ stops (wrong (k .at) (record { bracket = a; taken = j }) c)
     unfolding closeMove
-    close-other t = rw (brackets-less (f .depth) places d, ← q, p .here .next-is, p .here .code-is, t)
+    close-other r t = rw (brackets-less (f .depth) places d, ← q, ← r, p .here .next-is, p .here .code-is, t)
 
   module _ (close : ℕ) (q : close ≡ k .at + before (λ b. eqb b c) (drop (k .at) s)) where
-    pub quote-open : length s ≤ close → quoteMove s (f .at) (stateOf e f places) ≡ stops unterminatedString (length s) 0 0
+    pub quote-open : length s ≤ close → quoteMove s (f .at) (stateOf e f places) ≡ stops (fault unterminatedString (length s))
     unfolding quoteMove
     quote-open l = rw (p .here .next-is, p .here .code-is, ← q, le-leb _ _ l)
 
@@ -172,16 +173,16 @@ module _ {s : List ℕ} {f : State} {c : ℕ} {k : Cursor} (p : Fits s f c k) (p
     quote-goes l = rw (p .here .next-is, p .here .code-is, ← q, lt-leb _ _ l, and-false (f .blank))
 
   -- the conversion after the `!`
-  pub convert-blank : f .blank ≡ true → conversionMove s (f .at) (stateOf e f places) ≡ stops emptyExpression (k .at) 0 0
+  pub convert-blank : f .blank ≡ true → conversionMove s (f .at) (stateOf e f places) ≡ stops (fault emptyExpression (k .at))
   unfolding conversionMove
   convert-blank b = rw (b, p .here .next-is)
 
-  pub convert-end : f .blank ≡ false → length s ≤ k .at → conversionMove s (f .at) (stateOf e f places) ≡ stops unclosedLbrace (k .at) afterBang 0
+  pub convert-end : f .blank ≡ false → length s ≤ k .at → conversionMove s (f .at) (stateOf e f places) ≡ stops (detail unclosedLbrace (k .at) afterBang)
   unfolding conversionMove
   convert-end b l = rw (b, p .here .next-is, le-leb _ _ l)
 
   module _ {x : ℕ} {k′ : Cursor} (b : f .blank ≡ false) (g : Stepped s (k .at) x k′) where
-    pub convert-other : (x is "sar") ≡ false → conversionMove s (f .at) (stateOf e f places) ≡ stops invalidConversionFlag (k′ .at) 0 0
+    pub convert-other : (x is "sar") ≡ false → conversionMove s (f .at) (stateOf e f places) ≡ stops (fault invalidConversionFlag (k′ .at))
     unfolding conversionMove
     convert-other t = rw (b, p .here .next-is, lt-leb _ _ (g .there), g .code-is, g .next-is, t)
 
@@ -189,12 +190,12 @@ module _ {s : List ℕ} {f : State} {c : ℕ} {k : Cursor} (p : Fits s f c k) (p
     unfolding conversionMove
     convert-goes t u = rw (b, p .here .next-is, lt-leb _ _ (g .there), g .code-is, g .next-is, t, u)
 
-    pub convert-open : (x is "sar") ≡ true → (code s (k′ .at) is "}:") ≡ false → conversionMove s (f .at) (stateOf e f places) ≡ stops unclosedLbrace (k′ .at) afterConversion 0
+    pub convert-open : (x is "sar") ≡ true → (code s (k′ .at) is "}:") ≡ false → conversionMove s (f .at) (stateOf e f places) ≡ stops (detail unclosedLbrace (k′ .at) afterConversion)
     unfolding conversionMove
     convert-open t u = rw (b, p .here .next-is, lt-leb _ _ (g .there), g .code-is, g .next-is, t, u)
 
 -- BY THE CASE of the character
-pub move-end : {s : List ℕ} {f : State} → Room s f → length s ≤ f .at → (places e : List ℕ) → fieldMove s (f .at) (stateOf e f places) ≡ stops unclosedLbrace (f .at) inField 0
+pub move-end : {s : List ℕ} {f : State} → Room s f → length s ≤ f .at → (places e : List ℕ) → fieldMove s (f .at) (stateOf e f places) ≡ stops (detail unclosedLbrace (f .at) inField)
 unfolding fieldMove caseOf fieldCase
 move-end r h places e = rw (le-leb _ _ h, fieldMove)
 
@@ -249,11 +250,11 @@ module _ {s : List ℕ} {f : State} {c : ℕ} {k : Cursor} (p : Fits s f c k) wh
     unfolding fieldMove spaced
     space-goes t = rw (case-is t, fieldMove, p .here .next-is, add-one (f .spaces))
 
-    pub backslash-stops : Is backslash → fieldMove s (f .at) (stateOf e f places) ≡ stops unterminatedString (k .at) 0 0
+    pub backslash-stops : Is backslash → fieldMove s (f .at) (stateOf e f places) ≡ stops (fault unterminatedString (k .at))
     unfolding fieldMove
     backslash-stops t = rw (case-is t, fieldMove, p .here .next-is)
 
-    pub stray-stops : Is stray → fieldMove s (f .at) (stateOf e f places) ≡ stops unclosedLbrace (k .at) afterEquals 0
+    pub stray-stops : Is stray → fieldMove s (f .at) (stateOf e f places) ≡ stops (detail unclosedLbrace (k .at) afterEquals)
     unfolding fieldMove
     stray-stops t = rw (case-is t, fieldMove, p .here .next-is)
 

@@ -10,7 +10,7 @@ use lib.Dec.{eqb, ltb}
 use lib.ListN.{length, length-append}
 use Rattle.definition.specs.Numbers.{emptyExpression}
 use Rattle.definition.specs.Chars.{if_then_else_, byte, _to_, inside, next, whiteSpace}
-use Rattle.definition.specs.Escapes.{refused}
+use Rattle.definition.specs.Escapes.{fault, refused}
 use mathlib.Core.Option.{none}
 use Rattle.definition.specs.Body.{Move, goes, stops, calls, ends, Field, state, fresh, isBlank, plain, fieldCase, fieldMove, finished, fieldN, enough}
 use Rattle.definition.proofs.CharLaws.{cases, inside-true, inside-none, code-ascii, next-ascii}
@@ -23,13 +23,14 @@ use Rattle.strings.specs.declared.field.State.{State}
 use Rattle.strings.specs.declared.field.Head.{Head}
 use Rattle.strings.specs.declared.field.Opened.the-variants as opened
 use Rattle.strings.proofs.FieldLaws.{part-none, and-false, and-true, keeps, plain-goes}
+use Rattle.strings.specs.Text.{refusal, faultOf}
 use Rattle.strings.specs.FieldTurns.{passing, Passed, pending, Room, Fits, keptTo, skippedTo, headAt, brackets, stateOf, headState, Went, Stopped, closedAs, HeadIs, EndedIs, OpenedIs}
 
 -- a blank expression is refused at its `}`
 abbrev blankOf : Field → Bool
 blankOf (state e b o c d w) = b
 
-blank-refused : (depth from j : ℕ) (f : Field) → blankOf f ≡ true → finished depth from j f none ≡ refused emptyExpression j 0 0
+blank-refused : (depth from j : ℕ) (f : Field) → blankOf f ≡ true → finished depth from j f none ≡ refused (fault emptyExpression j)
 unfolding finished
 blank-refused depth from j (state e b o c d w) h = rw h
 
@@ -83,6 +84,7 @@ module _ {s : List ℕ} {from used : ℕ} {lent : List ℕ} {f : State} {places 
         text = omega (arith, h .grown, h .small, h .within, length-append (h .written) (pending s f));
         spaces = omega (arith, h .small, h .within);
         deep = h .deep;
+        small = l;
       }
 
   moved : (move : Move Field) → fieldMove s (f .at) now ≡ move → FieldAhead s (f .at) now move
@@ -115,8 +117,8 @@ module _ {s : List ℕ} {from used : ℕ} {lent : List ℕ} {f : State} {places 
     pub less : (f .at < g .at) × (g .at ≤ length s)
     less = (further .0, further .1)
 
-  pub refuses : (x : Refusal) → ((e : List ℕ) → fieldMove s (f .at) (stateOf e f places) ≡ stops (x .number) (x .taken) (x .a) (x .b)) → (kind depth : ℕ) → fieldN (enough s) kind s depth from from fresh ≡ refused (x .number) (x .taken) (x .a) (x .b)
-  refuses x m kind depth = h .same kind depth ∙ field-stop kind s depth from (f .at) now (x .number) (x .taken) (x .a) (x .b) (m expression)
+  pub refuses : (x : Refusal) → ((e : List ℕ) → fieldMove s (f .at) (stateOf e f places) ≡ stops (faultOf x)) → (kind depth : ℕ) → fieldN (enough s) kind s depth from from fresh ≡ refused (faultOf x)
+  refuses x m kind depth = h .same kind depth ∙ field-stop kind s depth from (f .at) now (faultOf x) (m expression)
 
   module _ {move : Move Field} {b : Head} {text′ : List ℕ} (t : Stopped fieldMove move s f b places text text′) (there : f .at < length s) where
     -- outside brackets there are none
@@ -147,10 +149,10 @@ module _ {s : List ℕ} {from used : ℕ} {lent : List ℕ} {f : State} {places 
     last : HeadIs ends s from used b lent text′
     last = head t (moved ends (t .moves expression))
 
-    by-blank : (blank : Bool) → b .blank ≡ blank → OpenedIs s from used (if blank then opened.Refused (record { number = emptyExpression; taken = b .at .at; a = 0; b = 0 }) else opened.Ended b 0) lent text′
+    by-blank : (blank : Bool) → b .blank ≡ blank → OpenedIs s from used (if blank then opened.Refused (refusal (fault emptyExpression (b .at .at))) else opened.Ended b 0) lent text′
     by-blank false e = record { head = last; few = omega arith; full = λ z. e }
     by-blank true e =
-        λ kind depth. last .same kind depth ∙ field-end kind s depth from (last .place) (headState (last .expression) b) (last .moves) ∙ blank-refused depth from (next s (last .place)) (headState (last .expression) b) e ∙ ap (λ (n : ℕ). refused emptyExpression n 0 0) (sym (last .after))
+        λ kind depth. last .same kind depth ∙ field-end kind s depth from (last .place) (headState (last .expression) b) (last .moves) ∙ blank-refused depth from (next s (last .place)) (headState (last .expression) b) e ∙ ap (λ (n : ℕ). refused (fault emptyExpression n)) (sym (last .after))
 
     pub closes : OpenedIs s from used (closedAs b) lent text′
     closes = by-blank (b .blank) refl

@@ -10,7 +10,7 @@ use lib.ListN.{length, drop, length-append, length-replicate, length-take, lengt
 use Rattle.definition.specs.Chars.{_is_, part, atEnd, code, next}
 use Rattle.definition.specs.Numbers.{unclosedLbrace, emptyExpression, expressionNestedTooDeeply, inField}
 use Rattle.definition.specs.Escapes as d
-use Rattle.definition.specs.Escapes.{got, refused}
+use Rattle.definition.specs.Escapes.{Fault, fault, detail, got, refused}
 use Rattle.definition.specs.Body.{Piece, field, spec, filled, direct, Field, fresh, Move, calls, ends, textCase, textMove, textN, fieldN, specN, enough, conversionOf, fieldPieces, selfDocumenting, finished, specified, firstEnd}
 use Rattle.definition.specs.Records.{Item, item, itemOf, covers, wordsOf, recordAt}
 use Rattle.utf8.specs.declared.Cursor.{Cursor}
@@ -29,7 +29,7 @@ use Rattle.strings.specs.Fstring.{Room, Written, ReadIs, SpecIs, fieldEn
 use Rattle.strings.proofs.Emitted.{spec-last, emits-append, put-free}
 use Rattle.definition.proofs.Moves.{weight, fieldSize, filled-light, part-short}
 use Rattle.definition.proofs.CharLaws.{next-past, next-in, next-from}
-use Rattle.strings.specs.Text.{StopsBy}
+use Rattle.strings.specs.Text.{refusal, faultOf, StopsBy}
 use Rattle.strings.proofs.SinkLaws.{emits-both, grown}
 use Rattle.definition.proofs.Steps.{firstPiece}
 use Rattle.definition.proofs.Whole.{text-stop, text-end, text-field, text-field-stop, field-end, field-spec, field-spec-stop, spec-text, spec-end}
@@ -50,16 +50,16 @@ pub record Gave (more : List Piece → List Piece) (read : d.Read (List Piece)) 
 module _ (more : List Piece → List Piece) (fr : Frame) (depth : ℕ) (words text words′ text′ : List ℕ) (k : Sink) where
   pub gave : (read : d.Read (List Piece)) (at : Cursor) (r : Sink) → Written more read fr depth words text words′ text′ k (Done at r) → Gave more read fr depth words text words′ text′ k (at .at) r
   gave (got ps j) at r h = record { pieces = ps; reads = ap (λ n. got ps n) (sym (h .0)); emits = h .1 }
-  gave (refused n j a b) at r h = absurd h
+  gave (refused y) at r h = absurd h
 
-  pub refuses : (read : d.Read (List Piece)) (x : Refusal) → Written more read fr depth words text words′ text′ k (Refused x) → read ≡ refused (x .number) (x .taken) (x .a) (x .b)
+  pub refuses : (read : d.Read (List Piece)) (x : Refusal) → Written more read fr depth words text words′ text′ k (Refused x) → read ≡ refused (faultOf x)
   refuses (got ps j) x h = absurd h
-  refuses (refused n j a b) x h = sym (ap (λ y. refused (y .number) (y .taken) (y .a) (y .b)) h)
+  refuses (refused y) x h = sym (ap (λ z. refused (faultOf z)) h)
 
   pub to-give : (read : d.Read (List Piece)) (ps : List Piece) (at : Cursor) (r : Sink) → read ≡ got ps (at .at) → Emits fr depth (more ps) words text words′ text′ k r → Written more read fr depth words text words′ text′ k (Done at r)
   to-give read ps at r e h = rw e (refl, h)
 
-  pub to-refuse : (read : d.Read (List Piece)) (x : Refusal) → read ≡ refused (x .number) (x .taken) (x .a) (x .b) → Written more read fr depth words text words′ text′ k (Refused x)
+  pub to-refuse : (read : d.Read (List Piece)) (x : Refusal) → read ≡ refused (faultOf x) → Written more read fr depth words text words′ text′ k (Refused x)
   to-refuse read x e = rw e refl
 
 -- a spec's item and words
@@ -115,9 +115,9 @@ module _ (kind : ℕ) (s : List ℕ) (depth i : ℕ) where
   spec-reads l c qs j e =
       spec-text kind s depth i l c ∙ text-prefix (enough s) kind s (suc depth) (firstEnd s i) [] (firstPiece s depth i) ∙ ap (following (firstPiece s depth i)) e
 
-  pub spec-stops : i ≤ length s → (code s (firstEnd s i) is "{") ≡ true → (n j a b : ℕ) → textN (enough s) kind s (suc depth) (firstEnd s i) [] [] ≡ refused n j a b
-      → specN (enough s) kind s depth i ≡ refused n j a b
-  spec-stops l c n j a b e =
+  pub spec-stops : i ≤ length s → (code s (firstEnd s i) is "{") ≡ true → (y : Fault) → textN (enough s) kind s (suc depth) (firstEnd s i) [] [] ≡ refused y
+      → specN (enough s) kind s depth i ≡ refused y
+  spec-stops l c y e =
       spec-text kind s depth i l c ∙ text-prefix (enough s) kind s (suc depth) (firstEnd s i) [] (firstPiece s depth i) ∙ ap (following (firstPiece s depth i)) e
 
 -- A FIELD
@@ -146,12 +146,12 @@ module _ (s : List ℕ) (depth from : ℕ) (ex : List ℕ) (h : Head) where
       rw (b, converted-some (h .documented) (h .conversion) ps)
       (ap (λ l. got l j) (sym (append-assoc (selfDocumenting depth (h .documented) ex (h .spaces)) (field depth ex (conversionOf (h .documented) (h .conversion) (some ps)) 1 from ∷ []) (spec (direct (suc depth) ps) ∷ ps))))
 
-  finished-blank : (j : ℕ) (p : Option (List Piece)) → h .blank ≡ true → finished depth from j (headState ex h) p ≡ refused emptyExpression j 0 0
+  finished-blank : (j : ℕ) (p : Option (List Piece)) → h .blank ≡ true → finished depth from j (headState ex h) p ≡ refused (fault emptyExpression j)
   unfolding finished
   finished-blank j p b = rw b
 
   -- the end of a field after its spec
-  specified-end : (j : ℕ) (ps : List Piece) → atEnd s j ≡ true → specified s depth from j (headState ex h) ps ≡ refused unclosedLbrace j inField 0
+  specified-end : (j : ℕ) (ps : List Piece) → atEnd s j ≡ true → specified s depth from j (headState ex h) ps ≡ refused (detail unclosedLbrace j inField)
   unfolding specified
   specified-end j ps e = rw e
 
@@ -169,10 +169,10 @@ module _ (s : List ℕ) (depth from : ℕ) (ex : List ℕ) (h : Head) where
       j = at .at
 
       go : (x y : Bool) → atEnd s j ≡ x → h .blank ≡ y → ReadIs read fr depth words text words′ text′ k (fieldEnd s j (h .blank) b)
-      go true y p q = rw p (to-refuse (λ l. l) fr depth words text words′ text′ k read (record { number = unclosedLbrace; taken = j; a = inField; b = 0 }) (e ∙ specified-end j ps p))
+      go true y p q = rw p (to-refuse (λ l. l) fr depth words text words′ text′ k read (refusal (detail unclosedLbrace j inField)) (e ∙ specified-end j ps p))
       go false true p q =
           rw (p, q)
-          (to-refuse (λ l. l) fr depth words text words′ text′ k read (record { number = emptyExpression; taken = next s j; a = 0; b = 0 }) (e ∙ specified-on j ps p ∙ finished-blank (next s j) (some ps) q))
+          (to-refuse (λ l. l) fr depth words text words′ text′ k read (refusal (fault emptyExpression (next s j))) (e ∙ specified-on j ps p ∙ finished-blank (next s j) (some ps) q))
       go false false p q =
           rw (p, q)
           (to-give (λ l. l) fr depth words text words′ text′ k read (before-spec depth ex h 1 from ++ (spec (direct (suc depth) ps) ∷ ps)) (record { at = next s j }) b (e ∙ specified-on j ps p ∙ finished-formatted (next s j) ps q) m)
@@ -211,10 +211,10 @@ closed-field s depth from used fr words text words′ text₁ text′ k r h c m 
 
 -- what a field's reading is, once its head was read up to a `:` and its spec gave something
 module _ (s : List ℕ) (depth from used : ℕ) (kind : ℕ) (text text₁ : List ℕ) (h : Head) (c : HeadIs calls s from used h text text₁) where
-  pub unformatted-field : (n j a b : ℕ) → specN (enough s) kind s depth (h .at .at) ≡ refused n j a b → fieldN (enough s) kind s depth from from fresh ≡ refused n j a b
-  unformatted-field n j a b e =
+  pub unformatted-field : (y : Fault) → specN (enough s) kind s depth (h .at .at) ≡ refused y → fieldN (enough s) kind s depth from from fresh ≡ refused y
+  unformatted-field y e =
       c .same kind depth
-      ∙ field-spec-stop kind s depth from (c .place) (headState (c .expression) h) (c .there) (c .moves) n j a b (ap (specN (enough s) kind s depth) (sym (c .after)) ∙ e)
+      ∙ field-spec-stop kind s depth from (c .place) (headState (c .expression) h) (c .there) (c .moves) y (ap (specN (enough s) kind s depth) (sym (c .after)) ∙ e)
 
 -- TEXT: the loop's state. The definition has come to i with pieces, which are emitted
 pub record Sofar (s : List ℕ) (kind depth at : ℕ) (fr : Frame) (words text words₁ text₁ : List ℕ) (k : Sink) (i : ℕ) (r : Sink) : Type 0 where
@@ -313,11 +313,11 @@ module _ (s : List ℕ) (depth at : ℕ) (fr : Frame) (words text words₁ text�
 
     -- a field opens there, which is refused
     pub field-refused : (f : ℕ) (x : Refusal) → m ≡ calls → i′ < length s → f ≡ next s i′
-        → fieldN (enough s) (fr .kind) s depth f f fresh ≡ refused (x .number) (x .taken) (x .a) (x .b)
+        → fieldN (enough s) (fr .kind) s depth f f fresh ≡ refused (faultOf x)
         → (words′ text′ : List ℕ) → ReadIs (textN (enough s) (fr .kind) s depth at [] []) fr depth words text words′ text′ k (Refused x)
     field-refused f x h l e q words′ text′ =
         to-refuse (λ l. l) fr depth words text words′ text′ k (textN (enough s) (fr .kind) s depth at [] []) x
-        (same ∙ text-field-stop (fr .kind) s depth i′ content (S .pieces) (omega arith) (R .move ∙ h) (x .number) (x .taken) (x .a) (x .b) (ap (λ n. fieldN (enough s) (fr .kind) s depth n n fresh) (sym e) ∙ q))
+        (same ∙ text-field-stop (fr .kind) s depth i′ content (S .pieces) (omega arith) (R .move ∙ h) (faultOf x) (ap (λ n. fieldN (enough s) (fr .kind) s depth n n fresh) (sym e) ∙ q))
 
     -- or read, and the text goes on behind it
     pub field-read : (f : ℕ) → m ≡ calls → i′ < length s → f ≡ next s i′ → (words′ text′ : List ℕ) (j : ℕ) (r : Sink)
@@ -360,15 +360,15 @@ module _ (s : List ℕ) (depth at : ℕ) (fr : Frame) (words text words₁ text�
         both = subst (λ x. Reading weight (fieldSize fresh) s f x) (G .reads) (field-reading (enough s) (fr .kind) s depth f f (rw e (next-in s i′ (omega arith))) (omega arith))
 
 -- text at depth 2
-pub too-deep : (kind : ℕ) (s : List ℕ) (depth i : ℕ) → 2 ≤ depth → textN (enough s) kind s depth i [] [] ≡ refused expressionNestedTooDeeply i 0 0
+pub too-deep : (kind : ℕ) (s : List ℕ) (depth i : ℕ) → 2 ≤ depth → textN (enough s) kind s depth i [] [] ≡ refused (fault expressionNestedTooDeeply i)
 unfolding textMove textCase
-too-deep kind s depth i h = text-stop kind s depth i [] [] expressionNestedTooDeeply i 0 0 (rw (le-leb 2 depth h, textMove))
+too-deep kind s depth i h = text-stop kind s depth i [] [] (fault expressionNestedTooDeeply i) (rw (le-leb 2 depth h, textMove))
 
-pub deep-result : (s : List ℕ) (depth i : ℕ) (fr : Frame) (words text words′ text′ : List ℕ) (k : Sink) (r : Read) → 2 ≤ depth → r ≡ Refused (record { number = expressionNestedTooDeeply; taken = i; a = 0; b = 0 })
+pub deep-result : (s : List ℕ) (depth i : ℕ) (fr : Frame) (words text words′ text′ : List ℕ) (k : Sink) (r : Read) → 2 ≤ depth → r ≡ Refused (refusal (fault expressionNestedTooDeeply i))
     → ReadIs (textN (enough s) (fr .kind) s depth i [] []) fr depth words text words′ text′ k r
 deep-result s depth i fr words text words′ text′ k r h e =
     subst (λ x. ReadIs (textN (enough s) (fr .kind) s depth i [] []) fr depth words text words′ text′ k x) (sym e)
-    (to-refuse (λ l. l) fr depth words text words′ text′ k (textN (enough s) (fr .kind) s depth i [] []) (record { number = expressionNestedTooDeeply; taken = i; a = 0; b = 0 }) (too-deep (fr .kind) s depth i h))
+    (to-refuse (λ l. l) fr depth words text words′ text′ k (textN (enough s) (fr .kind) s depth i [] []) (refusal (fault expressionNestedTooDeeply i)) (too-deep (fr .kind) s depth i h))
 
 -- a text's run leaves numbers small
 pub record Ended (used end n : ℕ) : Type 0 where
@@ -486,8 +486,8 @@ module _ (s : List ℕ) (depth i : ℕ) (fr : Frame) (words text words₁ text�
           (spec-reads (fr .kind) s depth i (R .low) brace (G .pieces) (to .at) (ap (λ n. textN (enough s) (fr .kind) s (suc depth) n [] []) (sym at) ∙ G .reads))
           (emits-both fr (suc depth) (firstPiece s depth i) (G .pieces) words text words₁ text₁ words₂ text₂ a b b′ first-emits (G .emits)) f p to refl
 
-      pub spec-refused : (words₂ text₂ : List ℕ) (x : Refusal) → textN (enough s) (fr .kind) s (suc depth) j [] [] ≡ refused (x .number) (x .taken) (x .a) (x .b)
+      pub spec-refused : (words₂ text₂ : List ℕ) (x : Refusal) → textN (enough s) (fr .kind) s (suc depth) j [] [] ≡ refused (faultOf x)
           → SpecIs (specN (enough s) (fr .kind) s depth i) fr depth words text words₂ text₂ k (Refused x)
       spec-refused words₂ text₂ x e =
           to-refuse (λ ps. spec (direct (suc depth) ps) ∷ ps) fr depth words text words₂ text₂ k (specN (enough s) (fr .kind) s depth i) x
-          (spec-stops (fr .kind) s depth i (R .low) brace (x .number) (x .taken) (x .a) (x .b) (ap (λ n. textN (enough s) (fr .kind) s (suc depth) n [] []) (sym at) ∙ e))
+          (spec-stops (fr .kind) s depth i (R .low) brace (faultOf x) (ap (λ n. textN (enough s) (fr .kind) s (suc depth) n [] []) (sym at) ∙ e))

@@ -1,14 +1,15 @@
 -- A list of literals is read one body after the other. Assumes nothing.
 use mathlib.Core.Path.{_≡_, refl, sym, _∙_, ap}
-use mathlib.Core.Bool.{true, false}
+use mathlib.Core.Bool.{Bool, true, false}
 use mathlib.Core.List.{List, [], _∷_, _++_, map, append-nil, append-assoc}
 use Prim.Native.Nat.{ℕ, _+_, _-_, _*_, _≤_, _<_}
 use native.Mathlib.Nat.{add-zero, sub-zero}
 use native.Mathlib.Omega.{arith}
+use lib.Dec.{eqb}
 use lib.ListN.{length, drop, length-take}
-use Rattle.definition.specs.Numbers.{isFString}
+use Rattle.definition.specs.Numbers.{isFString, mismatchedDelimiter}
 use Rattle.definition.specs.Counts.{counted}
-use Rattle.definition.specs.Escapes.{got, refused}
+use Rattle.definition.specs.Escapes.{Fault, got, refused}
 use Rattle.definition.specs.Escapes as d
 use Rattle.definition.specs.Body.{literal, textN, stringN, enough, alone, readBody}
 use Rattle.definition.specs.Records.{Item, itemOf}
@@ -16,7 +17,7 @@ use Rattle.definition.specs.Entry.{opening, placeOf, body, total}
 use Rattle.definition.specs.Reading.{accepts, refuses, andThen, refusalIn, readLiteral, readFrom}
 use Rattle.definition.specs.Reading as o
 use Rattle.definition.proofs.Counted.{counted-small}
-use Rattle.definition.proofs.Moves.{weight}
+use Rattle.definition.proofs.Moves.{weight, Names}
 use Rattle.definition.proofs.Fuel.{Reading, string-reading, string-last, body-reading}
 use Rattle.utf8.specs.declared.Count.{Count}
 use Rattle.utf8.specs.Steps.{countOf}
@@ -38,7 +39,7 @@ use Rattle.strings.specs.declared.text.Text.the-variants as string
 use Rattle.strings.specs.Emit as e
 use Rattle.strings.specs.Emit.{emits}
 use Rattle.strings.specs.Sinks.{loadOf, outOf, wholeOf, Emits}
-use Rattle.strings.specs.Text.{StringIs}
+use Rattle.strings.specs.Text.{refusal, faultOf, StringIs}
 use Rattle.strings.specs.Fstring.{ReadIs}
 use Rattle.strings.specs.Strings.{Room, Stands, frameOf, empty, All}
 use Rattle.strings.proofs.Emitted.{emits-append}
@@ -68,14 +69,14 @@ content-of kind s used text text′ to h =
     go (got t j) h l p =
         let e : j ≡ length s = omega (arith, l t j refl, p .0 .1) in
         record { content = t; reads = ap (got t) e; up = (let y = h .0 in cc); wrote = h .1; short = omega (arith, p .0 .1, p .1) }
-    go (refused n j a b) h l p = clash cc
+    go (refused x) h l p = clash cc
 
-pub not-read : (r : d.Read (List ℕ)) (used : ℕ) (text text′ : List ℕ) (x : Refusal) → StringIs r used text text′ (string.Refused x) → r ≡ refused (x .number) (x .taken) (x .a) (x .b)
+pub not-read : (r : d.Read (List ℕ)) (used : ℕ) (text text′ : List ℕ) (x : Refusal) → StringIs r used text text′ (string.Refused x) → r ≡ refused (faultOf x)
 not-read (got t j) used text text′ x h = clash (let y = h .0 in cc)
-not-read (refused n j a b) used text text′ x h = let y : x ≡ record { number = n; taken = j; a = a; b = b } = cc in rw y refl
+not-read (refused y) used text text′ x h = let e : x ≡ refusal y = cc in rw e refl
 
 pub string-refuses : (fr : Frame) (s words text words′ text′ : List ℕ) (k : Sink) (x : Refusal) → isFString (fr .kind) ≡ false
-    → stringN (enough s) (fr .kind) s 0 [] ≡ refused (x .number) (x .taken) (x .a) (x .b) → ReadIs (readBody (fr .kind) s) fr 0 words text words′ text′ k (Refused x)
+    → stringN (enough s) (fr .kind) s 0 [] ≡ refused (faultOf x) → ReadIs (readBody (fr .kind) s) fr 0 words text words′ text′ k (Refused x)
 unfolding readBody alone
 string-refuses fr s words text words′ text′ k x e h = rw (e, readBody, h) refl
 
@@ -86,9 +87,15 @@ pub string-body : (fr : Frame) (s words text words′ text′ : List ℕ) (k r :
 unfolding readBody alone
 string-body fr s words text words′ text′ k r to e c h = rw (e, readBody, c .reads) (refl, rw (c .wrote) h)
 
--- a body's refusal stands in the body
-pub taken-in : (kind : ℕ) (s : List ℕ) (n j a b : ℕ) → readBody kind s ≡ refused n j a b → j ≤ length s
-taken-in kind s n j a b h = let p = rw h at (body-reading kind s) in p .0 .1
+-- a body's refusal stands in the body, and so does its bracket
+pub taken-in : (kind : ℕ) (s : List ℕ) (x : Fault) → readBody kind s ≡ refused x → (x .taken ≤ length s) × (x .opened ≤ length s)
+taken-in kind s x h =
+    let p = rw h at (body-reading kind s) in
+    (p .0 .1, named (eqb (x .number) mismatchedDelimiter) (p .0 .0 tt .1) (p .0 .1))
+  where
+    named : (t : Bool) → Names s x t → x .taken ≤ length s → x .opened ≤ length s
+    named true w l = omega (arith, w .before)
+    named false e l = omega arith
 
 -- line and column in a literal's body are no more than its bytes
 pub count-fits : (script : List ℕ) (l : Descriptor) (taken : ℕ) (k : Count) → countOf k ≡ counted (body script (described l)) taken → (k .line ≤ l .size) × (k .column ≤ l .size)
@@ -168,20 +175,20 @@ module _ (script ns : List ℕ) (n : ℕ) (w : Whole) (words text : List ℕ) (P
 
       -- the refusal of this literal
       module _ (words″ text″ : List ℕ) (x : Refusal) (H : ReadIs (readBody (l .kind) (body script (described l))) (frameOf l w) 0 words′ text′ words″ text″ k (Refused x)) where
-        R : readBody (l .kind) (body script (described l)) ≡ refused (x .number) (x .taken) (x .a) (x .b)
+        R : readBody (l .kind) (body script (described l)) ≡ refused (faultOf x)
         R = written-refuses (λ ps. ps) (frameOf l w) 0 words′ text′ words″ text″ k (readBody (l .kind) (body script (described l))) x H
 
-        pub stands : Stands script l (x .taken)
+        pub stands : Stands script l (x .taken) (x .opened)
         unfolding described placeOf
         stands =
-            let t = taken-in (l .kind) (body script (described l)) (x .number) (x .taken) (x .a) (x .b) R in
-            record { inside = good .inside; within = omega (arith, size); place = omega (arith, size, good .fits) }
+            let t = taken-in (l .kind) (body script (described l)) (faultOf x) R in
+            record { inside = good .inside; within = omega (arith, size); place = omega (arith, size, good .fits); bracket = omega (arith, size, good .fits) }
 
-        refuses-here : readLiteral script i (described l) ≡ refuses (refusalIn script i (described l) (x .number) (x .taken) (x .a) (x .b))
+        refuses-here : readLiteral script i (described l) ≡ refuses (refusalIn script i (described l) (faultOf x))
         unfolding readLiteral described
         refuses-here = rw (R, readLiteral)
 
-        pub refuses-all : readFrom script 0 (literals ns 0 n) ≡ refuses (refusalIn script i (described l) (x .number) (x .taken) (x .a) (x .b))
+        pub refuses-all : readFrom script 0 (literals ns 0 n) ≡ refuses (refusalIn script i (described l) (faultOf x))
         unfolding andThen
         refuses-all = L .same ∙ rw (read-turn script ns n i h, ← q, refuses-here)
 

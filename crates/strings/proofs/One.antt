@@ -16,7 +16,7 @@ answer-one x y e =
 
 refusal-one : (r r′ : Refusal) → says (Refused r) ≡ says (Refused r′) → r ≡ r′
 refusal-one r r′ e =
-    λ i. record { number = getD (e i) 0 0; literal = getD (e i) 1 0; place = getD (e i) 2 0; a = getD (e i) 3 0; b = getD (e i) 4 0; line = getD (e i) 6 0; column = getD (e i) 7 0 }
+    λ i. record { number = getD (e i) 0 0; literal = getD (e i) 1 0; place = getD (e i) 2 0; a = getD (e i) 3 0; b = getD (e i) 4 0; opened = getD (e i) 5 0; line = getD (e i) 6 0; column = getD (e i) 7 0 }
 
 pub says-one : (o p : Outcome) → says o ≡ says p → o ≡ p
 says-one (Accepted x) (Accepted y) e = ap Accepted (answer-one x y e)

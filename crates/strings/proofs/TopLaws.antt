@@ -92,7 +92,7 @@ module _ (w : e.Whole) (b : Bool) (k : w .kind ≡ (if b then 4 else 1)) where
           let y : accepts (map (itemOf (l .kind) (l .start) (l .end) (placeOf l 0)) ps) ≡ accepts xs = rw (q, readLiteral) at e in
           let z : map (itemOf (l .kind) (l .start) (l .end) (placeOf l 0)) ps ≡ xs = cc in
           rw (← z) (tops-pieces (l .kind) (l .start) (l .end) (placeOf l 0) h ps)
-      go (refused m j x z) q = clash (let y = rw (q, readLiteral) at e in cc)
+      go (refused x) q = clash (let y = rw (q, readLiteral) at e in cc)
 
   tops-all : (script : List ℕ) (i : ℕ) (ls : List Literal) → Alike b ls → Given (readFrom script i ls)
   unfolding readFrom

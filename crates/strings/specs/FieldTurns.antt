@@ -1,5 +1,5 @@
 -- A field's head as the code reads it, in the definition's terms.
-use Prim.Native.Nat.{ℕ, zero, suc, _+_, _*_, _^_, _≤_, _<_}
+use Prim.Native.Nat.{ℕ, zero, suc, _+_, _*_, _/_, _%_, _^_, _≤_, _<_}
 use mathlib.Core.Path.{_≡_}
 use mathlib.Core.Bool.{Bool, true, false, _&&_, _||_}
 use mathlib.Core.List.{List, [], _∷_, _++_}
@@ -7,12 +7,13 @@ use lib.Dec.{eqb}
 use lib.ListN.{length, getD}
 use Rattle.definition.specs.Numbers.{emptyExpression}
 use Rattle.definition.specs.Chars.{if_then_else_, byte, _to_, inside, part, next}
-use Rattle.definition.specs.Escapes.{refused}
-use Rattle.definition.specs.Body.{Move, goes, stops, calls, ends, Field, state, fresh, FieldCase, pair, converts, documents, formats, opener, closes, closer, quote, space, backslash, stray, plain, fieldMove, fieldN, enough}
+use Rattle.definition.specs.Escapes.{fault, refused}
+use Rattle.definition.specs.Body.{Bracket, Move, goes, stops, calls, ends, Field, state, fresh, FieldCase, pair, converts, documents, formats, opener, closes, closer, quote, space, backslash, stray, plain, fieldMove, fieldN, enough}
 use Rattle.definition.proofs.Moves.{fieldSize}
 use Rattle.buffers.specs.Over.{over}
 use Rattle.utf8.specs.declared.Cursor.{Cursor}
 use Rattle.utf8.proofs.Steps.{Stepped}
+use Rattle.strings.specs.Text.{refusal, faultOf}
 use Rattle.strings.specs.declared.field.Head.{Head}
 use Rattle.strings.specs.declared.field.State.{State}
 use Rattle.strings.specs.declared.field.Class.{Class}
@@ -52,6 +53,7 @@ pub record Room (s : List ℕ) (f : State) : Type 0 where
   pub text : f .used + length s < 2 ^ 40
   pub spaces : f .spaces + length s < 2 ^ 40
   pub deep : f .depth ≤ 64
+  pub small : length s ≤ 1048576
 
 -- and stands at a character
 pub record Fits (s : List ℕ) (f : State) (c : ℕ) (k : Cursor) : Type 0 where
@@ -86,10 +88,14 @@ abbrev pub headAt : State → Cursor → Head
 headAt f k =
     record { at = k; used = f .used; spaces = f .spaces; conversion = f .conversion; blank = f .blank; documented = f .documented }
 
+-- a bracket and the bytes taken just after it, as one number
+abbrev pub unpacked : ℕ → Bracket
+unpacked n = record { bracket = n % 256; taken = n / 256 }
+
 -- the open brackets, innermost first: the first n of the places
-unfoldable pub brackets : ℕ → List ℕ → List ℕ
+unfoldable pub brackets : ℕ → List ℕ → List Bracket
 brackets zero places = []
-brackets (suc n) places = getD places n 0 ∷ brackets n places
+brackets (suc n) places = unpacked (getD places n 0) ∷ brackets n places
 
 -- the definition's state, whose expression is e
 abbrev pub stateOf : List ℕ → State → List ℕ → Field
@@ -125,12 +131,12 @@ abbrev pub TurnIs : Mover → List ℕ → State → Turn → List ℕ → List 
 TurnIs m s f (turn.On g) places places′ text text′ = Went m s f g places places′ text text′
 TurnIs m s f (turn.Formats h) places places′ text text′ = Stopped m calls s f h places text text′
 TurnIs m s f (turn.Closes h) places places′ text text′ = Stopped m ends s f h places text text′
-TurnIs m s f (turn.Refused x) places places′ text text′ = (e : List ℕ) → m s (f .at) (stateOf e f places) ≡ stops (x .number) (x .taken) (x .a) (x .b)
+TurnIs m s f (turn.Refused x) places places′ text text′ = (e : List ℕ) → m s (f .at) (stateOf e f places) ≡ stops (faultOf x)
 
 -- a head that a `}` ends: a blank expression is refused after it
 abbrev pub closedAs : Head → Opened
 closedAs h =
-    if h .blank then opened.Refused (record { number = emptyExpression; taken = h .at .at; a = 0; b = 0 }) else opened.Ended h 0
+    if h .blank then opened.Refused (refusal (fault emptyExpression (h .at .at))) else opened.Ended h 0
 
 -- the head h of the field that began at `from`: the definition comes to its end, and makes the move there
 pub record HeadIs (move : Move Field) (s : List ℕ) (from used : ℕ) (h : Head) (text text′ : List ℕ) : Type 0 where
@@ -159,4 +165,4 @@ pub record EndedIs (s : List ℕ) (from used : ℕ) (h : Head) (parts : ℕ) (te
 abbrev pub OpenedIs : List ℕ → ℕ → ℕ → Opened → List ℕ → List ℕ → Type 0
 OpenedIs s from used (opened.Ended h parts) text text′ = EndedIs s from used h parts text text′
 OpenedIs s from used (opened.Refused x) text text′ =
-    (kind depth : ℕ) → fieldN (enough s) kind s depth from from fresh ≡ refused (x .number) (x .taken) (x .a) (x .b)
+    (kind depth : ℕ) → fieldN (enough s) kind s depth from from fresh ≡ refused (faultOf x)

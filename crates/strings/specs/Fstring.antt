@@ -6,13 +6,14 @@ use mathlib.Core.Bool.{Bool}
 use lib.ListN.{length}
 use Rattle.definition.specs.Chars.{if_then_else_, atEnd, next}
 use Rattle.definition.specs.Numbers.{unclosedLbrace, emptyExpression, inField}
-use Rattle.definition.specs.Escapes.{got, refused}
+use Rattle.definition.specs.Escapes.{fault, detail, got, refused}
 use Rattle.definition.specs.Escapes as d
 use Rattle.definition.specs.Body.{Piece, spec, direct}
 use Rattle.strings.specs.declared.emit.Frame.{Frame}
 use Rattle.strings.specs.declared.emit.Sink.{Sink}
 use Rattle.strings.specs.declared.fstring.Read.{Read}
 use Rattle.strings.specs.declared.fstring.Read.the-variants.{Done, Refused}
+use Rattle.strings.specs.Text.{refusal}
 use Rattle.strings.specs.Sinks.{loadOf, Emits}
 
 -- the body fits, its places too, and all that is still to come
@@ -27,8 +28,8 @@ pub record Room (s : List ℕ) (at : ℕ) (fr : Frame) (k : Sink) : Type 0 where
 abbrev pub Written : (List Piece → List Piece) → d.Read (List Piece) → Frame → ℕ → List ℕ → List ℕ → List ℕ → List ℕ → Sink → Read → Type 0
 Written more (got ps j) fr depth words text words′ text′ k (Done at r) = (at .at ≡ j) × Emits fr depth (more ps) words text words′ text′ k r
 Written more (got ps j) fr depth words text words′ text′ k (Refused x) = ⊥
-Written more (refused n j a b) fr depth words text words′ text′ k (Done at r) = ⊥
-Written more (refused n j a b) fr depth words text words′ text′ k (Refused x) = x ≡ record { number = n; taken = j; a = a; b = b }
+Written more (refused y) fr depth words text words′ text′ k (Done at r) = ⊥
+Written more (refused y) fr depth words text words′ text′ k (Refused x) = x ≡ refusal y
 
 abbrev pub ReadIs : d.Read (List Piece) → Frame → ℕ → List ℕ → List ℕ → List ℕ → List ℕ → Sink → Read → Type 0
 ReadIs = Written (λ ps. ps)
@@ -40,5 +41,5 @@ SpecIs read fr depth = Written (λ ps. spec (direct (suc depth) ps) ∷ ps) read
 -- the end of a field after its spec
 abbrev pub fieldEnd : List ℕ → ℕ → Bool → Sink → Read
 fieldEnd s j blank k =
-    if atEnd s j then Refused (record { number = unclosedLbrace; taken = j; a = inField; b = 0 }) else
-    if blank then Refused (record { number = emptyExpression; taken = next s j; a = 0; b = 0 }) else Done (record { at = next s j }) k
+    if atEnd s j then Refused (refusal (detail unclosedLbrace j inField)) else
+    if blank then Refused (refusal (fault emptyExpression (next s j))) else Done (record { at = next s j }) k

@@ -26,7 +26,7 @@ use Rattle.strings.specs.Sinks.{loadOf, outOf, Fits}
 -- the paper's numbers of an answer
 abbrev pub says : Outcome → List ℕ
 says (Accepted x) = 0 ∷ x .sort ∷ x .mark ∷ x .start ∷ x .end ∷ x .records ∷ x .text ∷ []
-says (Refused r) = r .number ∷ r .literal ∷ r .place ∷ r .a ∷ r .b ∷ 0 ∷ r .line ∷ r .column ∷ []
+says (Refused r) = r .number ∷ r .literal ∷ r .place ∷ r .a ∷ r .b ∷ r .opened ∷ r .line ∷ r .column ∷ []
 
 -- a call of the definition: what is answered, and both buffers afterwards
 pub record CallIs (call : Call) (words′ text′ : List ℕ) (r : Outcome) : Type 0 where
@@ -54,11 +54,12 @@ pub record Room (script : List ℕ) (l : Descriptor) (k : Sink) : Type 0 where
   pub load : loadOf k + 8 * l .size ≤ 16777216
   pub ordered : k .from ≤ k .used
 
--- the body of a good literal lies in the script, so many of its bytes are taken, and their place is a number
-pub record Stands (script : List ℕ) (l : Descriptor) (taken : ℕ) : Type 0 where
+-- the body of a good literal lies in the script, so many of its bytes are taken, and their place and that of a bracket are numbers
+pub record Stands (script : List ℕ) (l : Descriptor) (taken opened : ℕ) : Type 0 where
   pub inside : l .offset + l .size ≤ length script
   pub within : taken ≤ l .size
   pub place : placeOf (described l) taken < 4294967296
+  pub bracket : placeOf (described l) opened < 4294967296
 
 -- where a literal stands
 abbrev pub frameOf : Descriptor → Whole → Frame

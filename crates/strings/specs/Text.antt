@@ -5,7 +5,7 @@ use mathlib.Core.Bool.{false}
 use mathlib.Core.List.{List, []}
 use lib.ListN.{length, drop}
 use Rattle.definition.specs.Chars.{byte, part, next, before}
-use Rattle.definition.specs.Escapes.{Read, got, refused}
+use Rattle.definition.specs.Escapes.{Fault, Read, got, refused}
 use Rattle.definition.specs.Body.{Piece as Record, Move, goes, stops, calls, ends, textN, textMove, enough}
 use Rattle.marks.specs.Marks.{special}
 use Rattle.buffers.specs.Over.{over}
@@ -26,14 +26,17 @@ Room s used = (length s ≤ 1048576) × (used ≤ 2 ^ 33)
 abbrev pub Taken : List ℕ → ℕ → ℕ → Type 0
 Taken s i j = (i < length s) × (j ≡ next s i)
 
--- a refusal by its number, the bytes taken and its details
-abbrev pub refusal : ℕ → ℕ → ℕ → ℕ → Refusal
-refusal n j a b = record { number = n; taken = j; a = a; b = b }
+-- the code's refusal of a fault, and back
+abbrev pub refusal : Fault → Refusal
+refusal x = record { number = x .number; opened = x .opened; taken = x .taken; a = x .a; b = x .b }
+
+abbrev pub faultOf : Refusal → Fault
+faultOf x = record { number = x .number; taken = x .taken; a = x .a; b = x .b; opened = x .opened }
 
 -- the move of a character at i, from an empty text: the buffer before and after it, and the answer
 abbrev pub Does : Move (List ℕ) → List ℕ → ℕ → ℕ → List ℕ → List ℕ → Piece → Type 0
 Does (goes j t) s i used text text′ r = (r ≡ On (record { at = j }) (used + length t)) × (text′ ≡ over text used t)
-Does (stops n j a b) s i used text text′ r = r ≡ Refused (refusal n j a b)
+Does (stops x) s i used text text′ r = r ≡ Refused (refusal x)
 Does calls s i used text text′ r = (r ≡ Field (record { at = next s i })) × (text′ ≡ text)
 Does ends s i used text text′ r = (r ≡ Over) × (text′ ≡ text)
 
@@ -62,7 +65,7 @@ PlainIs kind s i used text text′ r =
 -- a string's or bytes' reading: the buffer before and after it, and the answer
 abbrev pub StringIs : Read (List ℕ) → ℕ → List ℕ → List ℕ → Text → Type 0
 StringIs (got t j) used text text′ r = (r ≡ Done (used + length t)) × (text′ ≡ over text used t)
-StringIs (refused n j a b) used text text′ r = r ≡ Not (refusal n j a b)
+StringIs (refused x) used text text′ r = r ≡ Not (refusal x)
 
 -- a text was read and written up to i; Same says that the definition goes on from there with it
 pub record Upto (Same : ℕ → List ℕ → Type 0) (s : List ℕ) (from used : ℕ) (text text′ : List ℕ) (i end : ℕ) : Type 0 where
@@ -96,4 +99,4 @@ abbrev pub RunIs : ℕ → List ℕ → ℕ → ℕ → ℕ → List ℕ → Lis
 RunIs kind s depth from used text text′ (AtField k end) = OpensBefore kind s depth from used text text′ (k .at) end
 RunIs kind s depth from used text text′ (AtEnd k end) = StopsBy ends kind s depth from used text text′ (k .at) end
 RunIs kind s depth from used text text′ (None x) =
-    (ps : List Record) → textN (enough s) kind s depth from [] ps ≡ refused (x .number) (x .taken) (x .a) (x .b)
+    (ps : List Record) → textN (enough s) kind s depth from [] ps ≡ refused (faultOf x)

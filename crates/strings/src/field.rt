@@ -1,5 +1,6 @@
 // A replacement field's head: from after its `{` up to and including the `}` or `:` that ends it.
 use crate::EMPTY_EXPRESSION;
+use crate::MISMATCHED_DELIMITER;
 use crate::Refusal;
 use crate::unclosed;
 use buffers::add_run;
@@ -17,14 +18,14 @@ ghost use Prim.Native.Nat.{ℕ, _+_, _^_, _≤_, _<_};
 ghost use lib.Dec.{eqb};
 ghost use lib.ListN.{length, drop};
 ghost use Rattle.definition.specs.Chars.{if_then_else_, _is_, byte, code, before};
+ghost use Rattle.definition.specs.Escapes.{fault};
 ghost use Rattle.definition.specs.Body.{pair, isBlank, fieldCase, conversionMove, openMove, closeMove, quoteMove, fieldMove};
 ghost use Rattle.utf8.proofs.Steps.{Stepped};
 ghost use Rattle.buffers.specs.Over.{over};
-ghost use Rattle.strings.specs.FieldTurns.{caseIs, plainCase, passing, Passed, pending, keptTo, skippedTo, headAt, Room, Fits, TurnIs, closedAs, OpenedIs};
+ghost use Rattle.strings.specs.Text.{refusal};
+ghost use Rattle.strings.specs.FieldTurns.{unpacked, caseIs, plainCase, passing, Passed, pending, keptTo, skippedTo, headAt, Room, Fits, TurnIs, closedAs, OpenedIs};
 
 const INVALID_CONVERSION_FLAG: u32 = 21;
-
-const MISMATCHED_DELIMITER: u32 = 23;
 
 const UNMATCHED: u32 = 26;
 
@@ -85,10 +86,11 @@ enum Class {
 }
 
 fn refuse(number: u32, taken: usize) -> Turn
-    ensures { λ r. ⌜ r ≡ Turn.Refused (record { number = number; taken = taken; a = 0; b = 0 }) ⌝ }
+    ensures { λ r. ⌜ r ≡ Turn.Refused (refusal (fault number taken)) ⌝ }
 {
     Turn::Refused(Refusal {
         number,
+        opened: 0,
         taken,
         a: 0,
         b: 0,
@@ -213,9 +215,31 @@ pub(crate) fn wide(b: u8) -> u32
     b as u32
 }
 
+// A bracket and the bytes taken just after it, as one number.
+fn packed(c: u32, taken: usize) -> u32
+    requires { ⌜ (c < 0x80) × (taken ≤ 1048576) ⌝ }
+    ensures { λ r. ⌜ unpacked r ≡ record { bracket = c; taken = taken } ⌝ }
+{
+    taken as u32 * 256 + c
+}
+
+// The bracket.
+fn bracket_of(opener: u32) -> u32
+    ensures { λ r. ⌜ r ≡ unpacked opener .bracket ⌝ }
+{
+    opener % 256
+}
+
+// The bytes taken just after it.
+fn taken_of(opener: u32) -> u32
+    ensures { λ r. ⌜ r ≡ unpacked opener .taken ⌝ }
+{
+    opener / 256
+}
+
 // The opening bracket at the state's place.
-fn open_bracket(f: State, c: u32, after: Cursor, places: &mut [u8; 64]) -> Turn
-    requires { ⌜ (length (now places) ≡ 64) × (c < 0x80) ⌝ }
+fn open_bracket(f: State, c: u32, after: Cursor, places: &mut [u32; 64]) -> Turn
+    requires { ⌜ (length (now places) ≡ 64) × (c < 0x80) × (after .at ≤ 1048576) ⌝ }
     ensures { λ r. ⌜ ((s text : List ℕ) → Fits s f c after → TurnIs openMove s f r (now (places .entry)) (now (places .exit)) text text) ⌝ }
 {
     let depth = f.depth;
@@ -223,12 +247,12 @@ fn open_bracket(f: State, c: u32, after: Cursor, places: &mut [u8; 64]) -> Turn
     if 64 <= depth {
         return refuse(TOO_MANY_BRACKETS, to);
     }
-    places[depth] = c as u8;
+    places[depth] = packed(c, to);
     Turn::On(kept(f, to, depth + 1, false))
 }
 
 // The closing bracket at the state's place.
-fn close_bracket(f: State, c: u32, after: Cursor, places: &[u8; 64]) -> Turn
+fn close_bracket(f: State, c: u32, after: Cursor, places: &[u32; 64]) -> Turn
     requires { ⌜ f .depth ≤ 64 ⌝ }
     ensures { λ r. ⌜ ((s text : List ℕ) → Fits s f c after → TurnIs closeMove s f r (now (places .entry)) (now (places .entry)) text text) ⌝ }
 {
@@ -237,20 +261,23 @@ fn close_bracket(f: State, c: u32, after: Cursor, places: &[u8; 64]) -> Turn
     if depth == 0 {
         return Turn::Refused(Refusal {
             number: UNMATCHED,
+            opened: 0,
             taken: to,
             a: c,
             b: 0,
         });
     }
     let top = depth - 1;
-    let opener = wide(places[top]);
-    if matches(opener, c) {
+    let opener = places[top];
+    let bracket = bracket_of(opener);
+    if matches(bracket, c) {
         return Turn::On(kept(f, to, top, false));
     }
     Turn::Refused(Refusal {
         number: MISMATCHED_DELIMITER,
+        opened: taken_of(opener),
         taken: to,
-        a: opener,
+        a: bracket,
         b: c,
     })
 }
@@ -310,7 +337,7 @@ fn convert(s: &[u8], f: State, flag: Cursor, text: &mut [u8]) -> Turn
 }
 
 // The character at the state's place.
-fn read_turn(s: &[u8], f: State, text: &mut [u8], places: &mut [u8; 64]) -> Turn
+fn read_turn(s: &[u8], f: State, text: &mut [u8], places: &mut [u32; 64]) -> Turn
     requires { ⌜ Room (now s) f × (length (now places) ≡ 64) ⌝ }
     ensures { λ r. ⌜ TurnIs fieldMove (now (s .entry)) f r (now (places .entry)) (now (places .exit)) (now (text .entry)) (now (text .exit)) ⌝ }
 {
@@ -406,6 +433,7 @@ fn closed(h: Head) -> Opened
         let at = h.at;
         return Opened::Refused(Refusal {
             number: EMPTY_EXPRESSION,
+            opened: 0,
             taken: at.at,
             a: 0,
             b: 0,
@@ -419,7 +447,7 @@ pub(crate) fn read_head(s: &[u8], from: Cursor, text: &mut [u8], used: usize) ->
     requires { ⌜ (from .at ≤ length (now s)) × (length (now s) ≤ 1048576) × (used ≤ 2 ^ 32) ⌝ }
     ensures { λ r. ⌜ OpenedIs (now (s .entry)) (from .at) used r (now (text .entry)) (now (text .exit)) ⌝ }
 {
-    let mut places = [0u8; 64];
+    let mut places = [0u32; 64];
     let mut f = State {
         at: from.at,
         run: from.at,

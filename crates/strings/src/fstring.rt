@@ -23,9 +23,11 @@ ghost use mathlib.Core.List.{[]};
 ghost use Prim.Native.Nat.{_+_, _-_, _*_, _<_, _≤_};
 ghost use lib.ListN.{length};
 ghost use Rattle.definition.specs.Chars.{part};
+ghost use Rattle.definition.specs.Escapes.{fault};
 ghost use Rattle.definition.specs.Body.{firstEnd, textN, fieldN, fresh, specN, enough};
 ghost use Rattle.buffers.specs.Over.{over};
 ghost use Rattle.strings.specs.Sinks.{isHeld, loadOf};
+ghost use Rattle.strings.specs.Text.{refusal};
 ghost use Rattle.strings.specs.Fstring.{Room, ReadIs, SpecIs, fieldEnd};
 
 const EXPRESSION_NESTED_TOO_DEEPLY: u32 = 24;
@@ -70,10 +72,11 @@ fn end_field(s: &[u8], at: Cursor, blank: bool, k: Sink) -> Read
 }
 
 fn refuse(number: u32, taken: usize) -> Read
-    ensures { λ r. ⌜ r ≡ Read.Refused (record { number = number; taken = taken; a = 0; b = 0 }) ⌝ }
+    ensures { λ r. ⌜ r ≡ Read.Refused (refusal (fault number taken)) ⌝ }
 {
     Read::Refused(Refusal {
         number,
+        opened: 0,
         taken,
         a: 0,
         b: 0,

@@ -26,10 +26,11 @@ ghost use Prim.Native.Nat.{ℕ, _<_};
 ghost use lib.ListN.{length};
 ghost use Rattle.definition.specs.Numbers.{isBytes, isUnicode, unclosedLbrace};
 ghost use Rattle.definition.specs.Chars.{if_then_else_};
+ghost use Rattle.definition.specs.Escapes.{detail};
 ghost use Rattle.definition.specs.Records.{Role, covers, Item};
-ghost use Rattle.definition.specs.Entry.{body, anyOf};
+ghost use Rattle.definition.specs.Entry.{placeOf, body, anyOf};
 ghost use Rattle.definition.specs.Body.{readBody};
-ghost use Rattle.definition.specs.Reading.{accepts, refusalIn, readFrom, sortOf, sortNumber, answered, roomed, called, readNumbers, zeros};
+ghost use Rattle.definition.specs.Reading.{accepts, openedAt, refusalIn, readFrom, sortOf, sortNumber, answered, roomed, called, readNumbers, zeros};
 ghost use Rattle.entry.specs.Answers.{described, refusalOf};
 ghost use Rattle.entry.specs.Literals.{literals};
 ghost use Rattle.entry.proofs.Passed.{Passed};
@@ -37,13 +38,14 @@ ghost use Rattle.strings.specs.declared.Outcome.the-variants.{Refused};
 ghost use Rattle.marks.specs.Marks.{reasonOf};
 ghost use Rattle.strings.specs.Emit.{Tops};
 ghost use Rattle.strings.specs.Sinks.{Fits, wholeOf};
-ghost use Rattle.strings.specs.Text.{refusal};
+ghost use Rattle.strings.specs.Text.{refusal, faultOf};
 ghost use Rattle.strings.specs.Fstring.{Room as BodyRoom, ReadIs};
 ghost use Rattle.strings.specs.Strings.{CallIs, wholeFor, Room, Stands, frameOf, Wrote, ListIs};
 
-// Why a body is refused: the number, the bytes taken at its place, two details.
+// Why a body is refused: the number, the bytes taken just after the bracket that it names and at its place, two details.
 pub(crate) struct Refusal {
     pub(crate) number: u32,
+    pub(crate) opened: u32,
     pub(crate) taken: usize,
     pub(crate) a: u32,
     pub(crate) b: u32,
@@ -74,12 +76,15 @@ const UNCLOSED_LBRACE: u32 = 20;
 
 pub(crate) const EMPTY_EXPRESSION: u32 = 22;
 
+pub(crate) const MISMATCHED_DELIMITER: u32 = 23;
+
 // A brace that counts as unclosed, and why.
 pub(crate) fn unclosed(why: Unclosed, taken: usize) -> Refusal
-    ensures { λ r. ⌜ r ≡ refusal unclosedLbrace taken (reasonOf why) 0 ⌝ }
+    ensures { λ r. ⌜ r ≡ refusal (detail unclosedLbrace taken (reasonOf why)) ⌝ }
 {
     Refusal {
         number: UNCLOSED_LBRACE,
+        opened: 0,
         taken,
         a: reason(why),
         b: 0,
@@ -125,10 +130,21 @@ fn read_literal(
     read_body(&script[from..to], fr, words, text, k)
 }
 
-// The refusal of a body, number i of the list: its place, line and column.
+// The place just after the bracket that a body's refusal names; 0 if it names none.
+fn opened_at(l: Descriptor, x: Refusal) -> u32
+    requires { ⌜ placeOf (described l) (x .opened) < 4294967296 ⌝ }
+    ensures { λ r. ⌜ r ≡ openedAt (described l) (faultOf x) ⌝ }
+{
+    if x.number == MISMATCHED_DELIMITER {
+        return entry::place(l, x.opened) as u32;
+    }
+    0
+}
+
+// The refusal of a body, number i of the list: its place, line and column, and the place of its bracket.
 fn refusal_in(script: &[u8], i: u32, l: Descriptor, x: Refusal) -> entry::Refusal
-    requires { ⌜ Stands (now script) l (x .taken) ⌝ }
-    ensures { λ r. ⌜ refusalOf r ≡ refusalIn (now (script .entry)) i (described l) (x .number) (x .taken) (x .a) (x .b) ⌝ }
+    requires { ⌜ Stands (now script) l (x .taken) (x .opened) ⌝ }
+    ensures { λ r. ⌜ refusalOf r ≡ refusalIn (now (script .entry)) i (described l) (faultOf x) ⌝ }
 {
     let from = l.offset as usize;
     let to = from + l.size as usize;
@@ -139,6 +155,7 @@ fn refusal_in(script: &[u8], i: u32, l: Descriptor, x: Refusal) -> entry::Refusa
         place: entry::place(l, x.taken as u32) as u32,
         a: x.a,
         b: x.b,
+        opened: opened_at(l, x),
         line: k.line as u32,
         column: k.column as u32,
     }

@@ -18,7 +18,7 @@ ghost use Prim.Native.Nat.{ℕ, _+_, _≤_, _<_, _^_};
 ghost use lib.ListN.{length};
 ghost use Rattle.definition.specs.Numbers.{isRaw};
 ghost use Rattle.definition.specs.Chars.{_is_, part, code, next};
-ghost use Rattle.definition.specs.Escapes.{encode, escape};
+ghost use Rattle.definition.specs.Escapes.{fault, encode, escape};
 ghost use Rattle.definition.specs.Body.{goes, withEscape, stringMove, stringN, textMove, enough};
 ghost use Rattle.buffers.specs.Over.{over};
 ghost use Rattle.strings.specs.Text.{Room, Taken, refusal, plainEnd, PlainTo, AllPlain, PlainIs, Does, StringIs, RunIs};
@@ -55,10 +55,11 @@ struct Reached {
 }
 
 fn refuse(number: u32, taken: usize) -> Piece
-    ensures { λ r. ⌜ r ≡ Piece.Refused (refusal number taken 0 0) ⌝ }
+    ensures { λ r. ⌜ r ≡ Piece.Refused (refusal (fault number taken)) ⌝ }
 {
     Piece::Refused(Refusal {
         number,
+        opened: 0,
         taken,
         a: 0,
         b: 0,

@@ -31,7 +31,7 @@ fn twelve(o: Outcome) -> [u32; 12]
             r.place,
             r.a,
             r.b,
-            0,
+            r.opened,
             r.line,
             r.column,
             0,

@@ -12,7 +12,7 @@ use lib.Seq.{take-all}
 use Rattle.bytes.specs.Bytes.{slice, indexAfter, indexOf}
 use Rattle.definition.specs.Chars.{if_then_else_, _is_, atEnd, before}
 use Rattle.definition.specs.Numbers.{stringError}
-use Rattle.definition.specs.Escapes.{refused, named, unicodeName}
+use Rattle.definition.specs.Escapes.{fault, refused, named, unicodeName}
 use Rattle.utf8.specs.declared.Cursor.{Cursor}
 use Rattle.definition.proofs.CharLaws.{cases, code-end, next-in}
 use Rattle.utf8.proofs.Steps.{Stepped, step-char, step-end}
@@ -33,7 +33,7 @@ unfolding slice
 slice-before s i = rw (take-all (length s) s (le-refl _)) (index-before (drop i s))
 
 -- after the opening brace
-opened : (s : List ℕ) (i c : ℕ) (k : Cursor) → Stepped s i c k → c ≡ 123 → unicodeName s i ≡ (if atEnd s (k .at + closing s (k .at)) then refused stringError (length s) 0 0 else named s (k .at) (closing s (k .at)))
+opened : (s : List ℕ) (i c : ℕ) (k : Cursor) → Stepped s i c k → c ≡ 123 → unicodeName s i ≡ (if atEnd s (k .at + closing s (k .at)) then refused (fault stringError (length s)) else named s (k .at) (closing s (k .at)))
 unfolding unicodeName
 opened s i c k t e = rw (t .code-is, e, t .next-is)
 

@@ -24,6 +24,7 @@ refusal-in-spec =
     (λ c. search needs)  -- cast-place
     (λ c κs. search needs)  -- place-requires
     (λ c. search needs)  -- cast-t14
-    (λ c. let a = c .before .before .before .before .before .before .before .before .args in let k = c .before .before .before .count-before in record { fits = omega (arith, count-fits (a .script .now) (a .l) (a .x .taken) (k .result) (k .ensures)) })  -- cast-t15
+    (λ c κs. search needs)  -- opened-at-requires
     (λ c. let a = c .before .before .before .before .before .before .before .before .before .args in let k = c .before .before .before .before .count-before in record { fits = omega (arith, count-fits (a .script .now) (a .l) (a .x .taken) (k .result) (k .ensures)) })  -- cast-t16
-    (λ c. rw (c .before .before .place .ensures, ← c .before .before .before .before .count-before .ensures) refl))  -- returns
+    (λ c. let a = c .before .before .before .before .before .before .before .before .before .before .args in let k = c .before .before .before .before .before .count-before in record { fits = omega (arith, count-fits (a .script .now) (a .l) (a .x .taken) (k .result) (k .ensures)) })  -- cast-t17
+    (λ c. rw (c .before .before .before .place .ensures, c .before .before .opened-at .ensures, ← c .before .before .before .before .before .count-before .ensures) refl))  -- returns

@@ -22,7 +22,7 @@ use Rattle.strings.specs.declared.text.Piece.{Piece}
 use Rattle.strings.specs.declared.text.Piece.the-variants.{On, Field, Over, Refused}
 use Rattle.strings.specs.declared.text.Text.the-variants.{Done, Refused as Not}
 use Rattle.strings.specs.declared.text.Run.the-variants.{Field as AtField, Refused as None}
-use Rattle.strings.specs.Text.{Taken, Does, StringIs, Upto, TextFrom, StopsBy, RunIs}
+use Rattle.strings.specs.Text.{faultOf, Taken, Does, StringIs, Upto, TextFrom, StopsBy, RunIs}
 
 -- where nothing is left there is no code
 pub code-end : (s : List ℕ) (i : ℕ) → length s ≤ i → code s i ≡ noCode
@@ -36,14 +36,14 @@ within s i j p = rw (p .1) (next-from s i, next-in s i (omega arith))
 -- A MOVE FROM AN EMPTY TEXT, put onto a text
 abbrev onto : List ℕ → Move (List ℕ) → Move (List ℕ)
 onto c (goes j t) = goes j (c ++ t)
-onto c (stops n j a b) = stops n j a b
+onto c (stops x) = stops x
 onto c calls = calls
 onto c ends = ends
 
 escape-onto : (kind : ℕ) (s : List ℕ) (i : ℕ) (c : List ℕ) (r : Read Meaning) → withEscape kind s i c r ≡ onto c (withEscape kind s i [] r)
 unfolding withEscape
 escape-onto kind s i c (got m j) = refl
-escape-onto kind s i c (refused n j a b) = refl
+escape-onto kind s i c (refused x) = refl
 
 string-onto : (kind : ℕ) (s : List ℕ) (i : ℕ) (c : List ℕ) → stringMove kind s i c ≡ onto c (stringMove kind s i [])
 unfolding stringMove
@@ -81,11 +81,11 @@ module _ (s : List ℕ) (i used : ℕ) (text text′ : List ℕ) where
   Told m (On k end) = Added m (k .at) end used text text′
   Told m (Field k) = (m ≡ calls) × (k .at ≡ next s i) × (text′ ≡ text)
   Told m Over = (m ≡ ends) × (text′ ≡ text)
-  Told m (Refused x) = m ≡ stops (x .number) (x .taken) (x .a) (x .b)
+  Told m (Refused x) = m ≡ stops (faultOf x)
 
   told : (m : Move (List ℕ)) (r q : Piece) → r ≡ q → Does m s i used text text′ r → Told m q
   told (goes j t) r q e d = rw (sym e ∙ d .0) (record { bytes = t; move = refl; ended = refl; wrote = d .1 })
-  told (stops n j a b) r q e d = rw (sym e ∙ d) refl
+  told (stops x) r q e d = rw (sym e ∙ d) refl
   told calls r q e d = rw (sym e ∙ d .0) (refl, refl, d .1)
   told ends r q e d = rw (sym e ∙ d .0) (refl, d .1)
 
@@ -144,7 +144,7 @@ module _ (kind : ℕ) (s : List ℕ) (used : ℕ) (text₀ text : List ℕ) (i e
       (λ j t l h. u .same ∙ string-on kind s i (u .content) j t l (string-onto kind s i (u .content) ∙ h))
 
   pub string-refused : (x : Refusal) → r ≡ Refused x → StringIs (stringN (enough s) kind s 0 []) used text₀ text′ (Not x)
-  string-refused x q = rw (u .same ∙ string-stop kind s i (u .content) _ _ _ _ (string-is _ (string-told (Refused x) q))) refl
+  string-refused x q = rw (u .same ∙ string-stop kind s i (u .content) _ (string-is _ (string-told (Refused x) q))) refl
 
   -- neither is the end, since no field opens in a string
   pub string-over : (tagOf the-type r ≡ 1) ⊎ (tagOf the-type r ≡ 2) → StringIs (stringN (enough s) kind s 0 []) used text₀ text′ (Done end)
@@ -202,4 +202,4 @@ module _ (kind : ℕ) (s : List ℕ) (depth from used : ℕ) (text₀ text : Lis
   text-over q = let w = text-told Over q in stopped ends (text-is ends (w .0)) (w .1)
 
   pub text-refused : (x : Refusal) → r ≡ Refused x → RunIs kind s depth from used text₀ text′ (None x)
-  text-refused x q ps = u .same ps ∙ text-stop kind s depth i (u .content) ps _ _ _ _ (text-is _ (text-told (Refused x) q))
+  text-refused x q ps = u .same ps ∙ text-stop kind s depth i (u .content) ps _ (text-is _ (text-told (Refused x) q))

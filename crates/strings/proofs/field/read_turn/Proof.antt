@@ -44,7 +44,7 @@ read-turn-spec =
     (λ c κs. c .before .before .before .before .before .before .before .before .before .before .before .pre .0)  -- skip-requires-2
     (λ c κs. search needs)  -- head-of-requires
     (λ c. search needs)  -- enum-told-6
-    (λ c κs. let b = c .before .before .before in let p = fits b in let t = rw (c .before .enum-told6 .given .1) at (b .class-of .ensures) in (c .before .before .before .before .before .before .before .before .before .before .before .pre .1, opener-in p t))  -- open-bracket-requires
+    (λ c κs. let b = c .before .before .before in let p = fits b in let t = rw (c .before .enum-told6 .given .1) at (b .class-of .ensures) in (c .before .before .before .before .before .before .before .before .before .before .before .pre .1, opener-in p t, omega (arith, ahead (p .here) .1, p .room .small)))  -- open-bracket-requires
     (λ c. search needs)  -- enum-told-7
     (λ c κs. c .before .before .before .before .before .before .before .before .before .before .before .pre .0)  -- skip-requires-3
     (λ c κs. search needs)  -- head-of-requires-2

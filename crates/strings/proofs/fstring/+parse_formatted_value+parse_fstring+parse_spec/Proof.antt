@@ -120,7 +120,7 @@ pub +parse-formatted-value+parse-fstring+parse-spec-spec : {M : Type 1} → stat
     (λ c. let a = c .before .before .before .before .before .before .before .before .before .before .args in let E = rw (c .before .r .given .1) at (c .before .before .before .before .before .read-head .ensures) in to-refuse (λ l. l) _ _ _ _ _ _ _ _ _ (E (a .fr .kind) (a .nested)))  -- returns-2
     (λ c. let l0 = (c .before .before .before .before .text3 .given) in let l1 = (c .before .before .before .before .before .before .words2 .given) in let l2 = (c .before .before .before .before .before .before .before .before .before .before .before .before .text2 .given) in let l3 = (c .before .before .before .before .before .before .before .before .before .before .before .before .before .before .words .given) in let l4 = (c .before .before .before .before .before .before .before .before .before .before .before .before .before .before .before .before .before .before .before .before .before .before .before .text .given) in search needs)  -- same-length-4
     (λ c. let l0 = (c .before .before .before .before .text3 .given) in let l1 = (c .before .before .before .before .before .before .words2 .given) in let l2 = (c .before .before .before .before .before .before .before .before .before .before .before .before .text2 .given) in let l3 = (c .before .before .before .before .before .before .before .before .before .before .before .before .before .before .words .given) in let l4 = (c .before .before .before .before .before .before .before .before .before .before .before .before .before .before .before .before .before .before .before .before .before .before .before .text .given) in search needs)  -- same-length-5
-    (λ c. let a = c .before .before .before .before .before .before .before .before .before .before .before .before .before .before .before .before .before .before .before .before .before .before .before .before .before .before .before .before .before .args in let E = rw (c .before .before .before .before .before .before .before .before .before .before .before .before .before .before .before .before .before .before .before .before .h .given .1) at (c .before .before .before .before .before .before .before .before .before .before .before .before .before .before .before .before .before .before .before .before .before .before .before .before .read-head .ensures) in let p = one-part _ _ _ _ _ _ _ E (c .before .before .before .before .before .before .before .before .before .before .if1 .left) in let C = rw p at E in let Q = rw (c .before .r2 .given .1) at (c .before .before .before .before .before .before .before .parse-spec .ensures) in let z = refuses _ _ _ _ _ _ _ _ _ _ Q in to-refuse (λ l. l) _ _ _ _ _ _ _ _ _ (unformatted-field _ _ _ _ _ _ _ _ (C .head) _ _ _ _ z))  -- returns-3
+    (λ c. let a = c .before .before .before .before .before .before .before .before .before .before .before .before .before .before .before .before .before .before .before .before .before .before .before .before .before .before .before .before .before .args in let E = rw (c .before .before .before .before .before .before .before .before .before .before .before .before .before .before .before .before .before .before .before .before .h .given .1) at (c .before .before .before .before .before .before .before .before .before .before .before .before .before .before .before .before .before .before .before .before .before .before .before .before .read-head .ensures) in let p = one-part _ _ _ _ _ _ _ E (c .before .before .before .before .before .before .before .before .before .before .if1 .left) in let C = rw p at E in let Q = rw (c .before .r2 .given .1) at (c .before .before .before .before .before .before .before .parse-spec .ensures) in let z = refuses _ _ _ _ _ _ _ _ _ _ Q in to-refuse (λ l. l) _ _ _ _ _ _ _ _ _ (unformatted-field _ _ _ _ _ _ _ _ (C .head) _ z))  -- returns-3
     (λ c. let l0 = (c .before .before .before .before .before .text3 .given) in let l1 = (c .before .before .before .before .before .before .before .words2 .given) in let l2 = (c .before .before .before .before .before .before .before .before .before .before .before .before .before .text2 .given) in let l3 = (c .before .before .before .before .before .before .before .before .before .before .before .before .before .before .before .words .given) in let l4 = (c .before .before .before .before .before .before .before .before .before .before .before .before .before .before .before .before .before .before .before .before .before .before .before .before .text .given) in search needs)  -- same-length-6
     (λ c. let l0 = (c .before .before .before .before .before .text3 .given) in let l1 = (c .before .before .before .before .before .before .before .words2 .given) in let l2 = (c .before .before .before .before .before .before .before .before .before .before .before .before .before .text2 .given) in let l3 = (c .before .before .before .before .before .before .before .before .before .before .before .before .before .before .before .words .given) in let l4 = (c .before .before .before .before .before .before .before .before .before .before .before .before .before .before .before .before .before .before .before .before .before .before .before .before .text .given) in search needs)  -- same-length-7
     (λ c. let a = c .before .before .before .before .before .before .before .before .before .before .before .before .before .before .before .before .before .before .before .before .before .before .before .before .before .before .before .before .before .before .args in let E = rw (c .before .before .before .before .before .before .before .before .before .before .before .before .before .before .before .before .before .before .before .before .before .h .given .1) at (c .before .before .before .before .before .before .before .before .before .before .before .before .before .before .before .before .before .before .before .before .before .before .before .before .before .read-head .ensures) in let p = one-part _ _ _ _ _ _ _ E (c .before .before .before .before .before .before .before .before .before .before .before .if1 .left) in let C = rw p at E in let m = rw p at (c .before .before .before .before .before .before .before .before .before .before .before .before .before .before .before .before .emit-field .ensures (C .head .expression) (a .text .now) (C .head .grown) (C .head .wrote)) in let Q = rw (c .before .before .next .given .1) at (c .before .before .before .before .before .before .before .before .parse-spec .ensures) in specified-field (a .s .now) (a .nested) (a .at .at) _ (a .fr) _ _ _ _ _ _ _ (a .k) _ _ _ _ _ (C .head) m (gave _ _ _ _ _ _ _ _ _ _ _ Q) (c .end-field .ensures)))  -- returns-4
