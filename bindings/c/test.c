@@ -137,7 +137,8 @@ static void grows(void)
     accepted(two_answer, two_records, "VDD mv / 12.5.0f\n");
 }
 
-/* A refusal in the second literal names it, the place, both brackets, and line and column. */
+/* A refusal in the second literal names it, the place, both brackets, where the first was opened,
+   and line and column. */
 static void refuses(void)
 {
     static const uint32_t literals[] = {
@@ -145,14 +146,14 @@ static void refuses(void)
         STUMPGARRET_RAW_FSTRING, 1, 9, 8, 4, 20,
     };
     static const uint32_t mismatched[] = {
-        STUMPGARRET_MISMATCHED_DELIMITER, 1, 16, '(', ']', 0, 2, 3,
+        STUMPGARRET_MISMATCHED_DELIMITER, 1, 16, '(', ']', 15, 2, 3,
     };
     read_with("u'a'rf'''\xc3\xa9\n\n{(]}'''", literals, COUNT(literals), 40, 9);
     refused(mismatched, COUNT(mismatched), 40, 9);
     const uint32_t by_name[] = {
         answer[STUMPGARRET_ANSWER_NUMBER], answer[STUMPGARRET_REFUSAL_LITERAL],
         answer[STUMPGARRET_REFUSAL_PLACE], answer[STUMPGARRET_REFUSAL_DETAIL_A],
-        answer[STUMPGARRET_REFUSAL_DETAIL_B], 0,
+        answer[STUMPGARRET_REFUSAL_DETAIL_B], answer[STUMPGARRET_REFUSAL_OPENED],
         answer[STUMPGARRET_REFUSAL_LINE],  answer[STUMPGARRET_REFUSAL_COLUMN],
     };
     numbers_are("named number", by_name, mismatched, COUNT(by_name));
@@ -183,6 +184,8 @@ static void refuses_bodies(void)
          {STUMPGARRET_UNCLOSED_LBRACE, 0, 3, STUMPGARRET_UNCLOSED_LAST_BRACE, 0, 0, 0, 1}},
         {STUMPGARRET_FSTRING, "{x!x}", {STUMPGARRET_INVALID_CONVERSION_FLAG, 0, 6, 0, 0, 0, 0, 4}},
         {STUMPGARRET_FSTRING, "{}", {STUMPGARRET_EMPTY_EXPRESSION, 0, 4, 0, 0, 0, 0, 2}},
+        {STUMPGARRET_FSTRING, "{f(a[0)}",
+         {STUMPGARRET_MISMATCHED_DELIMITER, 0, 9, '[', ')', 7, 0, 7}},
         {STUMPGARRET_FSTRING, "{x:{y:{z}}}",
          {STUMPGARRET_EXPRESSION_NESTED_TOO_DEEPLY, 0, 8, 0, 0, 0, 0, 6}},
         {STUMPGARRET_FSTRING, "a}b", {STUMPGARRET_SINGLE_RBRACE, 0, 4, 0, 0, 0, 0, 2}},

@@ -93,7 +93,8 @@ enum stumpgarret_answer {
     STUMPGARRET_REFUSAL_PLACE,
     STUMPGARRET_REFUSAL_DETAIL_A,
     STUMPGARRET_REFUSAL_DETAIL_B,
-    STUMPGARRET_REFUSAL_LINE = 6,    /* of 10 to 28: the place's line in the literal's body, from 0;
+    STUMPGARRET_REFUSAL_OPENED,      /* of 23: the place just after the bracket that is still open */
+    STUMPGARRET_REFUSAL_LINE,        /* of 10 to 28: the place's line in the literal's body, from 0;
                                         a byte 10 ends a line */
     STUMPGARRET_REFUSAL_COLUMN,      /* and its column in that line, from 0, by characters */
 
@@ -110,8 +111,8 @@ enum stumpgarret_sort {
    are met in the order of the literals and their characters; the first wins. 30 and 31 come only
    for input that is otherwise accepted, 30 before 31.
    The literal is that of the first bad one for 4 and 6, of the one being read for 10 to 28, and
-   else 0. Place and details are 0 where nothing is said of them; line and column are 0 but for 10
-   to 28. */
+   else 0. Place and details are 0 where nothing is said of them; the place of a bracket is 0 but
+   for 23, line and column are 0 but for 10 to 28. */
 enum stumpgarret_refusal {
     STUMPGARRET_ACCEPTED = 0,
     STUMPGARRET_EMPTY_LIST = 1,

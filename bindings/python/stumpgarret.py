@@ -154,19 +154,27 @@ UNCLOSED = {
 
 class Refusal(Exception):
     """The library refused a run: a number of `REFUSALS` and its name, the index of the literal from 0, the place,
-    two details, and the place's line and column in the literal's body, both from 0. What has no literal, place,
-    details, line or column has 0 there."""
+    two details, the place's line and column in the literal's body, both from 0, and the place just after the bracket
+    that is closed by another. What has no literal, place, details, line, column or bracket has 0 there."""
 
     def __init__(
-        self, number: int, literal: int, place: int, details: tuple[int, int], line: int = 0, column: int = 0
+        self,
+        number: int,
+        literal: int,
+        place: int,
+        details: tuple[int, int],
+        line: int = 0,
+        column: int = 0,
+        opened: int = 0,
     ):
-        super().__init__(number, literal, place, details, line, column)
+        super().__init__(number, literal, place, details, line, column, opened)
         self.number = number
         self.literal = literal
         self.place = place
         self.details = details
         self.line = line
         self.column = column
+        self.opened = opened
 
         self.name, self._said = REFUSALS.get(number, ("unknown to this module", ""))
 
@@ -185,7 +193,8 @@ class Refusal(Exception):
         at = f"refused in literal {self.literal} at {self.place}"
         if self.number in IN_A_BODY:
             at += ", line {} and column {} of its body".format(*self.position(1, 1))
-        return f"{at}: {self.meaning}"
+        opened = f", opened at {self.opened}" if self.opened else ""
+        return f"{at}: {self.meaning}{opened}"
 
 
 class Unavailable(Exception):
@@ -210,7 +219,7 @@ def read(script: bytes | str, literals: Iterable[Literal]) -> Answer:
     if answer[0] in NO_ROOM:
         answer, words, text = _call(script, numbers, *answer[3:5])
     if answer[0]:
-        raise Refusal(*answer[:3], tuple(answer[3:5]), *answer[6:8])
+        raise Refusal(*answer[:3], tuple(answer[3:5]), *answer[6:8], answer[5])
     _, sort, u_mark, start, end, count, _, *_ = answer
     records = (words[at : at + WORDS_OF_A_RECORD] for at in range(0, count * WORDS_OF_A_RECORD, WORDS_OF_A_RECORD))
     return Answer(Sort(sort), bool(u_mark), start, end, tuple(_record(own, records, text) for own in records))
@@ -351,13 +360,15 @@ class ScriptField:
 @dataclass(frozen=True)
 class Refused:
     """Something in a script whose fields are not known. Line and column count from 1, the column by characters.
-    `number` is the library's, and None where the script itself is no Python; `reason` is meant for people."""
+    `number` is the library's, and None where the script itself is no Python; `reason` is meant for people. `opened`
+    has line and column just after a bracket that is closed by another."""
 
     line: int
     column: int
     number: int | None
     name: str
     reason: str
+    opened: tuple[int, int] | None = None
 
 
 NO_PYTHON = "no Python"
@@ -527,13 +538,15 @@ class _Lister:
         start, end = run.literals[0].start, run.literals[-1].end
         first, last = self.position(start)[0], self.position(end)[0]
         lines = f"line {first}" if first == last else f"lines {first} to {last}"
-        reason = f"refused: {refusal.meaning}; no field of the literals in {lines} is listed"
+        opened = self.position(refusal.opened) if refusal.opened else None
+        where = ", opened at line {}, column {}".format(*opened) if opened else ""
+        reason = f"refused: {refusal.meaning}{where}; no field of the literals in {lines} is listed"
         if refusal.number in IN_A_BODY:
             body = start + run.literals[refusal.literal].offset
             position = refusal.position(*self.position(body))
         else:
             position = self.position(refusal.place or start)
-        self.refused.append(Refused(*position, refusal.number, refusal.name, reason))
+        self.refused.append(Refused(*position, refusal.number, refusal.name, reason, opened))
 
     def refuse_text(self, error: NoPython, lost: str) -> None:
         self.refused.append(Refused(*self.position(error.place), None, NO_PYTHON, str(error) + lost))

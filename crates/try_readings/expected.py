@@ -76,16 +76,16 @@ def reads(lent, sort, *records, room=ROOM):
     cases.append((numbers, pieces, answer, words + [FILL_WORD] * room[0], text + bytes([FILL_BYTE] * room[1])))
 
 
-def refuses(lent, number, place, a=0, b=0, literal=0, at=None, room=ROOM):
-    """A refusal. `at` is its line and column: by default the first line, with a column for each byte of the body before the place.
-    `room` is how many words and text bytes are lent."""
+def refuses(lent, number, place, a=0, b=0, opened=0, literal=0, at=None, room=ROOM):
+    """A refusal. `opened` is the place just after the bracket that 23 names. `at` is the line and column: by default the first line, with a column
+    for each byte of the body before the place. `room` is how many words and text bytes are lent."""
     numbers, pieces = lent
     if 10 <= number <= 28:
         kind, flag, _, _, start, _ = numbers[6 * literal:6 * literal + 6]
         line, column = at or (0, place - start - PREFIX[kind] - (3 if flag else 1))
     else:
         line, column = 0, 0
-    cases.append((numbers, pieces, [number, literal, place, a, b, 0, line, column], [0] * room[0], bytes(room[1])))
+    cases.append((numbers, pieces, [number, literal, place, a, b, opened, line, column], [0] * room[0], bytes(room[1])))
 
 
 def small_readings():
@@ -96,7 +96,7 @@ def small_readings():
     reads(fstring("{x = }"), JOINED, literal("x = "), field("x ", 3, "r"))
     reads(fstring("{x=()}"), JOINED, literal("x()="), field("x()", 3, "r"))
     reads(fstring(""), JOINED)
-    refuses(fstring("{(]}"), 23, 5, ord("("), ord("]"))
+    refuses(fstring("{(]}"), 23, 5, ord("("), ord("]"), 4)
     reads(fstring(r"{x:\n>{w}\n}"), JOINED, field("x", 3, parts=1), spec(3), part(r"\n>"), field("w", 9), part("\n"))
     reads(([0, 0, 1, 0, 0, 2, 1, 0, 5, 3, 3, 9], [(1, b'"" f"{x}"')]), JOINED, literal(""), field("x", 6, of=1))
     reads(side_by_side((2, r"\777")), BYTES, raw(b"\xff"))
@@ -186,7 +186,7 @@ def fields():
     blanks()
     refuses(fstring("{ \t\n}"), 22, 7, at=(1, 1))
     for opener, closer in (("(", "]"), ("[", ")"), ("{", ")"), ("(", "}"), ("[", "}")):
-        refuses(fstring("{x" + opener + closer), 23, 6, ord(opener), ord(closer))
+        refuses(fstring("{x" + opener + closer), 23, 6, ord(opener), ord(closer), 5)
     refuses(side_by_side((0, "{"), (4, "{x:{y:{}", 1)), 24, 3 + 5 + 6, literal=1)
     refuses(fstring("a}b"), 25, 4)
     for closer in ")]":
@@ -226,6 +226,24 @@ def blanks():
     for code in (0x08, 0x0E, 0x1C, 0x1D, 0x1E, 0x1F, 0x84, 0x86, 0x9F, 0xA1, 0x167F, 0x1681, 0x180E, 0x1FFF, 0x200B, 0x2027, 0x202A, 0x202E, 0x2030, 0x205E,
                  0x2060, 0x2FFF, 0x3001, 0xFEFF):
         reads(fstring("{" + chr(code) + "}"), JOINED, field(chr(code), 3))
+
+
+def openers():
+    """02, item 5: where the bracket that 23 names was opened."""
+    for body, taken, a, b, opened in (
+        ("{f(a[0)}", 7, "[", ")", 5),                       # the innermost
+        ("{[a](b}", 7, "(", "}", 5),                        # not one that was closed
+        ("{('['}", 6, "(", "}", 2),                         # nor one in quotes
+        ("{x= (]}", 6, "(", "]", 5),                        # behind a self-documenting =
+        ("{x:{(]}}", 6, "(", "]", 5),                       # in a spec's field
+        ("{(}{x!r:{[)", 3, "(", "}", 2),                    # the first of two
+        ("{" + "(" * 63 + "[)", 66, "[", ")", 65),          # the 64th
+        ("{" + "(" * 64 + "]", 66, "(", "]", 65),
+        ("{" + "(" * 63 + "[]" + ")" * 62 + "]", 129, "(", "]", 2),
+    ):
+        refuses(fstring(body), 23, 2 + taken, ord(a), ord(b), 2 + opened)
+    refuses(side_by_side((1, "é{é(\n 😀]}", 1)), 23, 4 + 13, ord("("), ord("]"), 4 + 6, at=(1, 3))
+    refuses(side_by_side((0, "ab"), (4, "{(}", 1)), 23, 9 + 3, ord("("), ord("}"), 9 + 2, literal=1)
 
 
 def lines():
@@ -299,7 +317,7 @@ def files():
 
 
 def fill_cases():
-    for rows in (small_readings, two_literals, entry_checks, escapes, unclosed, fields, lines, room, limits):
+    for rows in (small_readings, two_literals, entry_checks, escapes, unclosed, fields, openers, lines, room, limits):
         rows()
     met = {answer[0] for _, _, answer, _, _ in cases}
     assert met == NUMBERS | {0}, met

@@ -6,13 +6,16 @@ pub struct Refusal {
     pub literal: u32,
     pub place: u32,
     pub details: [u32; 2],
+    /// The place just after the bracket that 23 names.
+    pub opened: u32,
     pub line: u32,
     pub column: u32,
 }
 
 impl Refusal {
     pub fn new(number: u32, literal: usize, place: u32) -> Self {
-        Refusal { number, literal: literal as u32, place, details: [0, 0], line: 0, column: 0 }
+        let literal = literal as u32;
+        Refusal { number, literal, place, details: [0, 0], opened: 0, line: 0, column: 0 }
     }
 }
 
@@ -46,7 +49,7 @@ impl Refusal {
         let [a, b] = self.details;
         let mut numbers = [0; 12];
         numbers[..5].copy_from_slice(&[self.number, self.literal, self.place, a, b]);
-        numbers[6..8].copy_from_slice(&[self.line, self.column]);
+        numbers[5..8].copy_from_slice(&[self.opened, self.line, self.column]);
         numbers
     }
 }

@@ -5,6 +5,8 @@
 //!   to the place it looks for, since an earlier refusal wins over 28.
 //! * Why a brace counts as unclosed, the first detail of 20, is found by the same scan. The Rust
 //!   gives number and place, and the detail is added only if the scan comes to the same place.
+//! * Where the bracket of 23 was opened is found by the same scan, and added only if the scan comes
+//!   to the same place with the same two brackets.
 //! * Line and column of 10 to 28, which document 02 adds, are counted in the characters of the
 //!   refused body before the place.
 //! * 30 and 31 compare an acceptance with the room that is lent.
@@ -192,7 +194,7 @@ fn well_formed_bodies(
     ranges.iter().enumerate().map(body).collect()
 }
 
-/// What the scan of a literal comes to: 20 or 28, if every earlier character is read without
+/// What the scan of a literal comes to: 20, 23 or 28, if every earlier character is read without
 /// refusal.
 fn scanned(literals: &[Literal], bodies: &[String], index: usize) -> Option<Refusal> {
     let literal = &literals[index];
@@ -201,7 +203,8 @@ fn scanned(literals: &[Literal], bodies: &[String], index: usize) -> Option<Refu
     }
     let stop = Scan::new(&bodies[index], literal.kind.is_raw()).text(0).err()?;
     let place = literal.place(stop.taken);
-    Some(Refusal { details: [stop.why, 0], ..Refusal::new(stop.number, index, place) })
+    let opened = stop.opened.map_or(0, |taken| literal.place(taken));
+    Some(Refusal { details: stop.details, opened, ..Refusal::new(stop.number, index, place) })
 }
 
 /// 28 for the first literal that has it, if every earlier character is read without refusal.
@@ -211,11 +214,20 @@ fn first_65th_bracket(literals: &[Literal], bodies: &[String]) -> Option<Refusal
         .find(|refusal| refusal.number == 28)
 }
 
-/// The Rust's refusal; 20 with its reason.
+/// The Rust's refusal; 20 with its reason, 23 with the place where its bracket was opened.
 fn with_reason(literals: &[Literal], bodies: &[String], refusal: Refusal) -> Refusal {
-    match scanned(literals, bodies, refusal.literal as usize) {
-        Some(found) if found == (Refusal { details: found.details, ..refusal }) => found,
+    let Some(found) = scanned(literals, bodies, refusal.literal as usize) else {
+        return refusal;
+    };
+    let completed = match refusal.number {
+        20 => Refusal { details: found.details, ..refusal },
+        23 => Refusal { opened: found.opened, ..refusal },
         _ => refusal,
+    };
+    if completed == found {
+        found
+    } else {
+        refusal
     }
 }
 
@@ -225,15 +237,17 @@ fn comes_before(refusal: &Refusal, bracket: &Refusal) -> bool {
     refusal.number == 7 || (refusal.literal, refusal.place) < (bracket.literal, bracket.place)
 }
 
-/// Where a scan stops: the number, for 20 the reason, and the bytes taken.
+/// Where a scan stops: the number, its details, and the bytes taken; for 23 also those taken just
+/// after the bracket that is still open.
 struct Stop {
     number: u32,
-    why: u32,
+    details: [u32; 2],
+    opened: Option<usize>,
     taken: usize,
 }
 
-/// Looks for the 65th open bracket in a field, or a brace that counts as unclosed, in a body
-/// that is otherwise in order.
+/// Looks for the 65th open bracket in a field, for one that is closed by another kind, or for a
+/// brace that counts as unclosed, in a body that is otherwise in order.
 struct Scan<'a> {
     rest: Chars<'a>,
     length: usize,
@@ -249,8 +263,12 @@ impl<'a> Scan<'a> {
         self.rest.clone().next()
     }
 
+    fn taken(&self) -> usize {
+        self.length - self.rest.as_str().len()
+    }
+
     fn stop<T>(&self, number: u32, why: u32) -> Result<T, Stop> {
-        Err(Stop { number, why, taken: self.length - self.rest.as_str().len() })
+        Err(Stop { number, details: [why, 0], opened: None, taken: self.taken() })
     }
 
     fn skip_past(&mut self, last: char) {
@@ -293,26 +311,37 @@ impl<'a> Scan<'a> {
     }
 
     fn field(&mut self, depth: u32) -> Result<(), Stop> {
-        let (mut open, mut documented) = (0, false);
+        // each open bracket, and the bytes taken just after it
+        let mut open: Vec<(char, usize)> = Vec::new();
+        let mut documented = false;
         while let Some(c) = self.rest.next() {
             match c {
                 '!' | '=' | '<' | '>' if self.peek() == Some('=') => {
                     self.rest.next();
                 }
                 '\'' | '"' => self.skip_past(c),
-                '!' if open == 0 => self.conversion()?,
-                '=' if open == 0 => documented = true,
-                ':' if open == 0 => self.spec(depth)?,
-                '(' | '[' | '{' if open == MAX_OPEN_BRACKETS => return self.stop(28, 0),
-                '(' | '[' | '{' => open += 1,
-                '}' if open == 0 => return Ok(()),
-                ')' | ']' | '}' if open > 0 => open -= 1,
+                '!' if open.is_empty() => self.conversion()?,
+                '=' if open.is_empty() => documented = true,
+                ':' if open.is_empty() => self.spec(depth)?,
+                '(' | '[' | '{' if open.len() == MAX_OPEN_BRACKETS => return self.stop(28, 0),
+                '(' | '[' | '{' => open.push((c, self.taken())),
+                '}' if open.is_empty() => return Ok(()),
+                ')' | ']' | '}' if !open.is_empty() => self.close(open.pop().unwrap(), c)?,
                 ' ' => {}
                 _ if documented => return self.stop(20, AFTER_EQUALS),
                 _ => {}
             }
         }
         self.stop(20, IN_FIELD)
+    }
+
+    /// A closing bracket, where one is open.
+    fn close(&self, (opener, opened): (char, usize), closer: char) -> Result<(), Stop> {
+        if matches!((opener, closer), ('(', ')') | ('[', ']') | ('{', '}')) {
+            return Ok(());
+        }
+        let details = [opener as u32, closer as u32];
+        Err(Stop { number: 23, details, opened: Some(opened), taken: self.taken() })
     }
 
     /// What follows a `!`.

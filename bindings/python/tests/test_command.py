@@ -48,6 +48,12 @@ class Command(unittest.TestCase):
         self.assertEqual((status, out), (1, "a.py:1:4\tx\t\t\nb.py:1:4\ty\t\t\n"))
         self.assertRegex(err, r"^a.py:2:4: refused: 25 SingleRbrace: a single } .*\n$")
 
+    def test_opened(self):
+        status, out, err = self.run_on(a="f'''{f(\n[x)}'''")
+        self.assertEqual((status, out), (1, ""))
+        said = "refused: 23 MismatchedDelimiter: [ is closed by ), opened at line 2, column 2"
+        self.assertEqual(err, f"a.py:2:4: {said}; no field of the literals in lines 1 to 2 is listed\n")
+
     def test_no_python(self):
         status, out, err = self.run_on(a="f'{x}' '")
         self.assertEqual((status, out), (1, "a.py:1:4\tx\t\t\n"))

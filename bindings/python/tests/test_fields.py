@@ -187,6 +187,22 @@ class Refusals(unittest.TestCase):
                 _, ((*found, _),) = refused(source)
                 self.assertEqual(tuple(found), place)
 
+    def test_opened(self):
+        for source, opened in (
+            ("f'{(]}'", (1, 5)),
+            ("\n é = f'é{g(x[0)}'", (2, 14)),
+            ("x = f'''{\n  (é\n\n]}'''", (2, 4)),
+            ("x = 'a' f'''\né{x:{\n[)}}'''", (3, 2)),
+            ("f'{x)}'", None),
+        ):
+            with self.subTest(source=source):
+                with self.assertRaises(Incomplete) as caught:
+                    fields(source)
+                one, = caught.exception.refused
+                self.assertEqual(one.opened, opened)
+                said = ", opened at line {}, column {};".format(*opened) if opened else "closes nothing;"
+                self.assertIn(said, one.reason)
+
     def test_name_and_reason(self):
         with self.assertRaises(Incomplete) as caught:
             fields("(f'{a}'\n '\\N{SNOWMAN}')", "bench.py")

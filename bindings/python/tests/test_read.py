@@ -89,7 +89,8 @@ class Rows(unittest.TestCase):
         with self.assertRaises(Refusal) as caught:
             read(script, literals)
         refusal = caught.exception
-        numbers = [refusal.number, refusal.literal, refusal.place, *refusal.details, 0, refusal.line, refusal.column]
+        numbers = [refusal.number, refusal.literal, refusal.place, *refusal.details]
+        numbers += [refusal.opened, refusal.line, refusal.column]
         self.assertEqual(numbers, answer)
 
     def test_numbers(self):
@@ -125,8 +126,15 @@ class Answers(unittest.TestCase):
         refusal = caught.exception
         self.assertEqual(refusal.name, "MismatchedDelimiter")
         text = "refused in literal 0 at 5, line 1 and column 4 of its body: 23 MismatchedDelimiter: ( is closed by ]"
+        text += ", opened at 4"
         self.assertEqual(str(refusal), text)
         self.assertEqual(str(pickle.loads(pickle.dumps(refusal))), str(refusal))
+
+    def test_opened(self):
+        for body, place, opened in (("{f(a[0)}", 9, 7), ("{[a](b}", 9, 7), ("{('['}", 8, 4), ("{x)", 5, 0)):
+            with self.assertRaises(Refusal) as caught:
+                read(body, [Literal(1, False, 0, len(body), 0, len(body) + 3)])
+            self.assertEqual((caught.exception.place, caught.exception.opened), (place, opened))
 
     def test_unclosed(self):
         for body, why in (

@@ -28,8 +28,8 @@
 //! # Ok::<(), stumpgarret::Refusal>(())
 //! ```
 //!
-//! A refusal names its reason, the literal and the place, and the place's line and column in the
-//! literal's body:
+//! A refusal names its reason, the literal and the place, the place's line and column in the
+//! literal's body, and where a bracket that is closed by another was opened:
 //!
 //! ```
 //! use stumpgarret::{parse_strings, Literal, Reason, StringKind};
@@ -42,8 +42,9 @@
 //! let refusal = parse_strings(script, &literals).unwrap_err();
 //! assert_eq!(refusal.reason(), &Reason::MismatchedDelimiter('(', ']'));
 //! assert_eq!((refusal.number(), refusal.literal(), refusal.place()), (23, 1, 14));
-//! assert_eq!((refusal.line(), refusal.column()), (1, 3));
-//! let text = "'(' is met by ']' (refusal 23, literal 1, place 14, line 1, column 3)";
+//! assert_eq!((refusal.line(), refusal.column(), refusal.opened()), (1, 3, 13));
+//! let text = "'(' is met by ']' (refusal 23, literal 1, place 14, line 1, column 3, \
+//!             opened at place 13)";
 //! assert_eq!(refusal.to_string(), text);
 //! ```
 

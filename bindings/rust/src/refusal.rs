@@ -147,6 +147,7 @@ pub struct Refusal {
     reason: Reason,
     literal: usize,
     place: usize,
+    opened: usize,
     line: usize,
     column: usize,
 }
@@ -173,6 +174,12 @@ impl Refusal {
         self.place
     }
 
+    /// The place just after the opening bracket of a [`Reason::MismatchedDelimiter`], the innermost
+    /// that is still open; 0 for any other refusal.
+    pub fn opened(&self) -> usize {
+        self.opened
+    }
+
     /// The place's line in the literal's body, from 0: how many line ends (byte 10) stand before it
     /// there; 0 for a refusal that is not met in a body.
     pub fn line(&self) -> usize {
@@ -186,15 +193,16 @@ impl Refusal {
     }
 
     pub(crate) fn new(answer: [u32; call::ANSWER]) -> Refusal {
-        let [number, literal, place, _, _, _, line, column, ..] = answer;
+        let [number, literal, place, _, _, opened, line, column, ..] = answer;
         let reason = reason(answer).unwrap_or(Reason::UnknownAnswer);
-        let [literal, place, line, column] = [literal, place, line, column].map(|n| n as usize);
-        Refusal { number, reason, literal, place, line, column }
+        let [literal, place, opened, line, column] =
+            [literal, place, opened, line, column].map(|n| n as usize);
+        Refusal { number, reason, literal, place, opened, line, column }
     }
 
     pub(crate) fn unknown() -> Refusal {
         let reason = Reason::UnknownAnswer;
-        Refusal { number: 0, reason, literal: 0, place: 0, line: 0, column: 0 }
+        Refusal { number: 0, reason, literal: 0, place: 0, opened: 0, line: 0, column: 0 }
     }
 }
 
@@ -229,9 +237,10 @@ fn reason([number, _, _, a, b, ..]: [u32; call::ANSWER]) -> Option<Reason> {
 
 impl fmt::Display for Refusal {
     fn fmt(&self, f: &mut fmt::Formatter<'_>) -> fmt::Result {
-        let Refusal { number, reason, literal, place, line, column } = self;
+        let Refusal { number, reason, literal, place, opened, line, column } = self;
         write!(f, "{} (refusal {}, literal {}, place {}", reason, number, literal, place)?;
         match number {
+            23 => write!(f, ", line {}, column {}, opened at place {})", line, column, opened),
             10..=28 => write!(f, ", line {}, column {})", line, column),
             _ => f.write_str(")"),
         }
@@ -258,7 +267,7 @@ mod tests {
             let refusal = Refusal::new([number, 1, 2, 3, 4, 5, 6, 7, 0, 0, 0, 0]);
             assert_eq!((refusal.number(), refusal.reason()), (number, &Reason::UnknownAnswer));
             assert_eq!((refusal.literal(), refusal.place()), (1, 2));
-            assert_eq!((refusal.line(), refusal.column()), (6, 7));
+            assert_eq!((refusal.opened(), refusal.line(), refusal.column()), (5, 6, 7));
         }
     }
 

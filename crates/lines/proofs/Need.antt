@@ -66,7 +66,7 @@ module _ (s : List ℕ) where
       (answer-needs _ _ _ _ _ most
       (rw (append-nil (map (itemOf 1 0 (length s + 3) (placeOf one 0)) ps))
       (omega (arith, pieces-need 0 (length s + 3) (placeOf one 0) ps, p .0 .1, p .1, part-short s 0 (0 + length s)))))
-  body-needs (refused m j a b) e p = rw (e, readLiteral) tt
+  body-needs (refused x) e p = rw (e, readLiteral) tt
 
   pub read-needs : Needs most (read s (one ∷ []))
   unfolding read

@@ -1,4 +1,5 @@
-//! Every refusal that a list of literals can get, by number, literal, place, line, column and text.
+//! Every refusal that a list of literals can get, by number, literal, place, line, column, bracket
+//! and text.
 //! Number 2, which it cannot, is tested beside the code.
 use crate::common::side_by_side;
 use stumpgarret::StringKind::{Bytes, FString, RawFString, String as Plain};
@@ -90,7 +91,11 @@ fn all() -> Vec<(Refusal, &'static str)> {
             "a field's expression is empty or blank \
              (refusal 22, literal 0, place 5, line 0, column 3)",
         ),
-        (of("{(]}"), "'(' is met by ']' (refusal 23, literal 0, place 5, line 0, column 3)"),
+        (
+            of("{(]}"),
+            "'(' is met by ']' \
+             (refusal 23, literal 0, place 5, line 0, column 3, opened at place 4)",
+        ),
         (
             of_run(&[(Plain, "{"), (RawFString, "{x:{y:{z}}}")]),
             "fields are nested too deeply (refusal 24, literal 1, place 12, line 0, column 6)",
@@ -159,6 +164,24 @@ fn details() {
     assert_eq!(of("{x[}").reason(), &Reason::MismatchedDelimiter('[', '}'));
     assert_eq!(of("{x]").reason(), &Reason::Unmatched(']'));
     assert_eq!(of("{x:{y:{z}}}").reason(), &Reason::ExpressionNestedTooDeeply);
+}
+
+#[test]
+fn the_innermost_bracket_still_open_is_named() {
+    for (body, place, opened) in [
+        ("{f(a[0)}", 9, 7),
+        ("{[a](b}", 9, 7),
+        ("{('['}", 8, 4),
+        ("{é(x:{[)", 11, 10),
+        ("{x:{é(]}}", 10, 9),
+    ] {
+        let refusal = of(body);
+        assert_eq!((refusal.number(), refusal.place()), (23, place), "{}", body);
+        assert_eq!(refusal.opened(), opened, "{}", body);
+    }
+    let refusal = of_run(&[(Plain, "a"), (FString, "{(]}")]);
+    assert_eq!((refusal.literal(), refusal.place(), refusal.opened()), (1, 8, 7));
+    assert_eq!(of("{x)").opened(), 0);
 }
 
 #[test]
