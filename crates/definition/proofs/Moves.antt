@@ -8,9 +8,9 @@ use native.Mathlib.Omega.{arith}
 use lib.Dec.{T, ltb, leb, eqb}
 use lib.ListN.{length, drop, length-append, length-take, length-replicate}
 use borrow.Author.Tests.{leb-true, leb-false}
-use Rattle.definition.specs.Numbers.{isBytes, isRaw, ofBody, unicodeError, nameNotHeld, stringError, emptyExpression, unclosedLbrace, invalidConversionFlag, tooManyBrackets, mismatchedDelimiter, unmatched, unterminatedString, tooFewRecordPlaces, afterBang, afterConversion, lastBrace}
+use Rattle.definition.specs.Numbers.{isBytes, isRaw, ofBody, unicodeError, nameNotHeld, stringError, emptyExpression, unclosedLbrace, tooManyBrackets, mismatchedDelimiter, unmatched, unterminatedString, tooFewRecordPlaces, afterBang, lastBrace}
 use Rattle.definition.specs.Chars.{if_then_else_, _is_, part, noCode, atEnd, inside, _to_, code, next, char, utf8, before}
-use Rattle.definition.specs.Escapes.{Fault, fault, detail, Read, got, refused, Meaning, stands, stays, vanishes, octalDigit, octalFrom, hexDigit, scalar, hexFrom, held, lookup, named, unicodeName, EscapeCase, ended, simple, octal, hex, name, newline, foreign, other, escapeCase, escape, encode, meant}
+use Rattle.definition.specs.Escapes.{Fault, fault, Read, got, refused, Meaning, stands, stays, vanishes, octalDigit, octalFrom, hexDigit, scalar, hexFrom, held, lookup, named, unicodeName, EscapeCase, ended, simple, octal, hex, name, newline, foreign, other, escapeCase, escape, encode, meant}
 use Rattle.definition.specs.Body.{Piece, literal, field, spec, Bracket, wrong, Move, goes, stops, calls, ends, withEscape, StringCase, stringCase, stringMove, TextCase, deep, opens, last, doubled, lone, textCase, textMove, Field, state, isBlank, add, documented, spaced, FieldCase, pair, converts, documents, formats, opener, closes, closer, quote, space, backslash, stray, outside, fieldCase, caseOf, conversionMove, openMove, matching, closeMove, quoteMove, fieldMove, filled, finished, specified, selfDocumenting, fieldPieces, conversionOf}
 use Rattle.definition.proofs.CharLaws.{next-past, next-in, next-from}
 use Rattle.definition.proofs.Adds.{sees-char, adds-pair, closing, adds-quoted}
@@ -336,17 +336,17 @@ module _ (s : List ℕ) (i : ℕ) (h : i < length s) where
 
     conversion-ahead : outside o ≡ true → Goes (conversionMove s i (state e b o c d w))
     unfolding conversionMove
-    conversion-ahead out = go b (atEnd s a) (not (code s a is "sar")) (code s (next s a) is "}:")
+    conversion-ahead out = go b refl (atEnd s a) refl (not (code s a is "sar")) refl (code s (next s a) is "}:") refl
       where
         a : ℕ
         a = next s i
 
-        go : (x y z t : Bool) → Goes (if x then stops (fault emptyExpression a) else if y then stops (detail unclosedLbrace a afterBang) else if z then stops (fault invalidConversionFlag (next s a)) else if t then goes (next s a) (state e b o (code s a) d w) else stops (detail unclosedLbrace (next s a) afterConversion))
-        go true y z t = (λ q. (tt, refl), on-by-one s i h .1)
-        go false true z t = (λ q. (tt, refl), on-by-one s i h .1)
-        go false false true t = (λ q. (tt, refl), on-by-two s i h .1)
-        go false false false true = let k = on-by-two s i h in (k .0, k .1, omega arith, λ q. rw (none-open o out) tt)
-        go false false false false = (λ q. (tt, refl), on-by-two s i h .1)
+        go : (x : Bool) → b ≡ x → (y : Bool) → atEnd s a ≡ y → (z : Bool) → not (code s a is "sar") ≡ z → (t : Bool) → (code s (next s a) is "}:") ≡ t → Goes (conversionMove s i (state e b o c d w))
+        go true p y q z r t u = rw p (λ q. (tt, refl), on-by-one s i h .1)
+        go false p true q z r t u = rw (p, q) (λ q. (tt, refl), on-by-one s i h .1)
+        go false p false q true r t u = rw (p, q, r) (λ q. (tt, refl), on-by-two s i h .1)
+        go false p false q false r true u = let k = on-by-two s i h in rw (p, q, r, u) (k .0, k .1, omega arith, λ v. rw (none-open o out) tt)
+        go false p false q false r false u = rw (p, q, r, u) (λ q. (tt, refl), on-by-two s i h .1)
 
     -- a bracket goes into the expression
     with-bracket : (o′ : List Bracket) → (Open s i o → Open s (next s i) o′) → Goes (goes (next s i) (state (e ++ char s i) false o′ c d w))

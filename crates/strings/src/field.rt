@@ -14,9 +14,9 @@ use utf8::Step;
 ghost use mathlib.Core.Path.{_≡_};
 ghost use mathlib.Core.Bool.{_&&_, true};
 ghost use mathlib.Core.List.{List};
-ghost use Prim.Native.Nat.{ℕ, _+_, _^_, _≤_, _<_};
+ghost use Prim.Native.Nat.{ℕ, _+_, _-_, _^_, _≤_, _<_};
 ghost use lib.Dec.{eqb};
-ghost use lib.ListN.{length, drop};
+ghost use lib.ListN.{length, getD, drop};
 ghost use Rattle.definition.specs.Chars.{if_then_else_, _is_, byte, code, before};
 ghost use Rattle.definition.specs.Escapes.{fault};
 ghost use Rattle.definition.specs.Body.{pair, isBlank, fieldCase, conversionMove, openMove, closeMove, quoteMove, fieldMove};
@@ -251,6 +251,14 @@ fn open_bracket(f: State, c: u32, after: Cursor, places: &mut [u32; 64]) -> Turn
     Turn::On(kept(f, to, depth + 1, false))
 }
 
+// The innermost of so many open brackets.
+fn innermost(places: &[u32; 64], depth: usize) -> u32
+    requires { ⌜ (0 < depth) × (depth ≤ 64) ⌝ }
+    ensures { λ r. ⌜ r ≡ getD (now (places .entry)) (depth - 1) 0 ⌝ }
+{
+    places[depth - 1]
+}
+
 // The closing bracket at the state's place.
 fn close_bracket(f: State, c: u32, after: Cursor, places: &[u32; 64]) -> Turn
     requires { ⌜ f .depth ≤ 64 ⌝ }
@@ -267,11 +275,10 @@ fn close_bracket(f: State, c: u32, after: Cursor, places: &[u32; 64]) -> Turn
             b: 0,
         });
     }
-    let top = depth - 1;
-    let opener = places[top];
+    let opener = innermost(places, depth);
     let bracket = bracket_of(opener);
     if matches(bracket, c) {
-        return Turn::On(kept(f, to, top, false));
+        return Turn::On(kept(f, to, depth - 1, false));
     }
     Turn::Refused(Refusal {
         number: MISMATCHED_DELIMITER,
