@@ -7,7 +7,7 @@
 
 #define COUNT(array) (sizeof(array) / sizeof *(array))
 
-enum { WORDS = 64, TEXT = 64, FILL = 0xA5 };
+enum { WORDS = 192, TEXT = 64, FILL = 0xA5 };
 
 static uint32_t words[WORDS];
 static uint8_t text[TEXT];
@@ -83,9 +83,9 @@ static const uint32_t two[] = {
     STUMPGARRET_STRING, 0, 1, 4, 0, 6,
     STUMPGARRET_FSTRING, 0, 9, 17, 7, 27,
 };
-enum { TWO_RECORDS = 5, TWO_TEXT = 17 };
+enum { TWO_RECORDS = 5, TWO_TEXT = 17, TWO_BYTES = 21 };
 static const uint32_t two_answer[STUMPGARRET_ANSWER_NUMBERS] = {
-    STUMPGARRET_ACCEPTED, STUMPGARRET_JOINED, 0, 0, 27, TWO_RECORDS, TWO_TEXT,
+    STUMPGARRET_ACCEPTED, STUMPGARRET_JOINED, 0, 0, 27, TWO_RECORDS, TWO_TEXT, 0, TWO_BYTES,
 };
 static const uint32_t two_records[] = {
     STUMPGARRET_LITERAL_RECORD, 0, 4, 0, 27, 0, 0, 0,
@@ -112,7 +112,7 @@ static void reads_two(void)
         answer[STUMPGARRET_ANSWER_NUMBER], answer[STUMPGARRET_ANSWER_SORT],
         answer[STUMPGARRET_ANSWER_MARK],   answer[STUMPGARRET_ANSWER_START],
         answer[STUMPGARRET_ANSWER_END],    answer[STUMPGARRET_ANSWER_RECORDS],
-        answer[STUMPGARRET_ANSWER_TEXT_LENGTH],
+        answer[STUMPGARRET_ANSWER_TEXT_LENGTH], 0, answer[STUMPGARRET_ANSWER_CHARS],
     };
     numbers_are("named number", answer_by_name, two_answer, COUNT(answer_by_name));
 }
@@ -120,9 +120,11 @@ static void reads_two(void)
 /* Too little room gives the counts; with them the same call is accepted. */
 static void grows(void)
 {
-    static const uint32_t none[] = {STUMPGARRET_TOO_FEW_RECORD_PLACES, 0, 0, TWO_RECORDS, TWO_TEXT};
+    static const uint32_t none[] = {
+        STUMPGARRET_TOO_FEW_RECORD_PLACES, 0, 0, TWO_RECORDS, TWO_TEXT, 0, 0, 0, TWO_BYTES,
+    };
     static const uint32_t no_text[] = {
-        STUMPGARRET_TOO_LITTLE_TEXT_ROOM, 0, 0, TWO_RECORDS, TWO_TEXT,
+        STUMPGARRET_TOO_LITTLE_TEXT_ROOM, 0, 0, TWO_RECORDS, TWO_TEXT, 0, 0, 0, TWO_BYTES,
     };
     read_with(two_script, two, COUNT(two), 0, 0);
     refused(none, COUNT(none), 0, 0);
@@ -137,8 +139,23 @@ static void grows(void)
     accepted(two_answer, two_records, "VDD mv / 12.5.0f\n");
 }
 
+/* The room that the header names is enough. */
+static void fits(void)
+{
+    static const uint32_t empty[] = {STUMPGARRET_STRING, 0, 1, 0, 0, 2};
+    static const uint32_t empty_answer[STUMPGARRET_ANSWER_NUMBERS] = {
+        STUMPGARRET_ACCEPTED, STUMPGARRET_PLAIN, 0, 0, 2, 1,
+    };
+    static const uint32_t empty_record[] = {STUMPGARRET_LITERAL_RECORD, 0, 0, 0, 2, 0, 0, 0};
+    size_t records = TWO_BYTES + COUNT(two) / STUMPGARRET_LITERAL_NUMBERS;
+    read_with(two_script, two, COUNT(two), STUMPGARRET_RECORD_WORDS * records, 2 * TWO_BYTES);
+    accepted(two_answer, two_records, "VDD mv / 12.5.0f\n");
+    read_with("''", empty, COUNT(empty), STUMPGARRET_RECORD_WORDS, 0);
+    accepted(empty_answer, empty_record, "");
+}
+
 /* A refusal in the second literal names it, the place, both brackets, where the first was opened,
-   and line and column. */
+   line and column, and the characters before. */
 static void refuses(void)
 {
     static const uint32_t literals[] = {
@@ -146,7 +163,7 @@ static void refuses(void)
         STUMPGARRET_RAW_FSTRING, 1, 9, 8, 4, 20,
     };
     static const uint32_t mismatched[] = {
-        STUMPGARRET_MISMATCHED_DELIMITER, 1, 16, '(', ']', 15, 2, 3,
+        STUMPGARRET_MISMATCHED_DELIMITER, 1, 16, '(', ']', 15, 2, 3, 7,
     };
     read_with("u'a'rf'''\xc3\xa9\n\n{(]}'''", literals, COUNT(literals), 40, 9);
     refused(mismatched, COUNT(mismatched), 40, 9);
@@ -155,6 +172,7 @@ static void refuses(void)
         answer[STUMPGARRET_REFUSAL_PLACE], answer[STUMPGARRET_REFUSAL_DETAIL_A],
         answer[STUMPGARRET_REFUSAL_DETAIL_B], answer[STUMPGARRET_REFUSAL_OPENED],
         answer[STUMPGARRET_REFUSAL_LINE],  answer[STUMPGARRET_REFUSAL_COLUMN],
+        answer[STUMPGARRET_ANSWER_CHARS],
     };
     numbers_are("named number", by_name, mismatched, COUNT(by_name));
 }
@@ -165,35 +183,35 @@ static void refuses_bodies(void)
     static const struct {
         uint32_t kind;
         const char *body;
-        uint32_t expected[STUMPGARRET_REFUSAL_COLUMN + 1];
+        uint32_t expected[STUMPGARRET_ANSWER_CHARS + 1];
     } rows[] = {
-        {STUMPGARRET_STRING, "a\xff", {STUMPGARRET_NOT_UTF8, 0, 2, 0, 0, 0, 0, 0}},
-        {STUMPGARRET_STRING, "a\\", {STUMPGARRET_STRING_ERROR, 0, 3, 0, 0, 0, 0, 2}},
-        {STUMPGARRET_STRING, "\\x4", {STUMPGARRET_UNICODE_ERROR, 0, 3, 0, 0, 0, 0, 2}},
-        {STUMPGARRET_BYTES, "a\xc3\xa9", {STUMPGARRET_NON_ASCII_IN_BYTES, 0, 5, 0, 0, 0, 0, 2}},
-        {STUMPGARRET_STRING, "\\N{SNOWMAN}", {STUMPGARRET_NAME_NOT_HELD, 0, 4, 0, 0, 0, 0, 3}},
+        {STUMPGARRET_STRING, "a\xff", {STUMPGARRET_NOT_UTF8, 0, 2, 0, 0, 0, 0, 0, 0}},
+        {STUMPGARRET_STRING, "a\\", {STUMPGARRET_STRING_ERROR, 0, 3, 0, 0, 0, 0, 2, 2}},
+        {STUMPGARRET_STRING, "\\x4", {STUMPGARRET_UNICODE_ERROR, 0, 3, 0, 0, 0, 0, 2, 2}},
+        {STUMPGARRET_BYTES, "a\xc3\xa9", {STUMPGARRET_NON_ASCII_IN_BYTES, 0, 5, 0, 0, 0, 0, 2, 2}},
+        {STUMPGARRET_STRING, "\\N{SNOWMAN}", {STUMPGARRET_NAME_NOT_HELD, 0, 4, 0, 0, 0, 0, 3, 3}},
         {STUMPGARRET_FSTRING, "{x!",
-         {STUMPGARRET_UNCLOSED_LBRACE, 0, 5, STUMPGARRET_UNCLOSED_AFTER_BANG, 0, 0, 0, 3}},
+         {STUMPGARRET_UNCLOSED_LBRACE, 0, 5, STUMPGARRET_UNCLOSED_AFTER_BANG, 0, 0, 0, 3, 3}},
         {STUMPGARRET_FSTRING, "{x!r b}",
-         {STUMPGARRET_UNCLOSED_LBRACE, 0, 6, STUMPGARRET_UNCLOSED_AFTER_CONVERSION, 0, 0, 0, 4}},
+         {STUMPGARRET_UNCLOSED_LBRACE, 0, 6, STUMPGARRET_UNCLOSED_AFTER_CONVERSION, 0, 0, 0, 4, 4}},
         {STUMPGARRET_FSTRING, "{x=y}",
-         {STUMPGARRET_UNCLOSED_LBRACE, 0, 6, STUMPGARRET_UNCLOSED_AFTER_EQUALS, 0, 0, 0, 4}},
+         {STUMPGARRET_UNCLOSED_LBRACE, 0, 6, STUMPGARRET_UNCLOSED_AFTER_EQUALS, 0, 0, 0, 4, 4}},
         {STUMPGARRET_FSTRING, "{x",
-         {STUMPGARRET_UNCLOSED_LBRACE, 0, 4, STUMPGARRET_UNCLOSED_IN_FIELD, 0, 0, 0, 2}},
+         {STUMPGARRET_UNCLOSED_LBRACE, 0, 4, STUMPGARRET_UNCLOSED_IN_FIELD, 0, 0, 0, 2, 2}},
         {STUMPGARRET_FSTRING, "{",
-         {STUMPGARRET_UNCLOSED_LBRACE, 0, 3, STUMPGARRET_UNCLOSED_LAST_BRACE, 0, 0, 0, 1}},
-        {STUMPGARRET_FSTRING, "{x!x}", {STUMPGARRET_INVALID_CONVERSION_FLAG, 0, 6, 0, 0, 0, 0, 4}},
-        {STUMPGARRET_FSTRING, "{}", {STUMPGARRET_EMPTY_EXPRESSION, 0, 4, 0, 0, 0, 0, 2}},
+         {STUMPGARRET_UNCLOSED_LBRACE, 0, 3, STUMPGARRET_UNCLOSED_LAST_BRACE, 0, 0, 0, 1, 1}},
+        {STUMPGARRET_FSTRING, "{x!x}", {STUMPGARRET_INVALID_CONVERSION_FLAG, 0, 6, 0, 0, 0, 0, 4, 4}},
+        {STUMPGARRET_FSTRING, "{}", {STUMPGARRET_EMPTY_EXPRESSION, 0, 4, 0, 0, 0, 0, 2, 2}},
         {STUMPGARRET_FSTRING, "{f(a[0)}",
-         {STUMPGARRET_MISMATCHED_DELIMITER, 0, 9, '[', ')', 7, 0, 7}},
+         {STUMPGARRET_MISMATCHED_DELIMITER, 0, 9, '[', ')', 7, 0, 7, 7}},
         {STUMPGARRET_FSTRING, "{x:{y:{z}}}",
-         {STUMPGARRET_EXPRESSION_NESTED_TOO_DEEPLY, 0, 8, 0, 0, 0, 0, 6}},
-        {STUMPGARRET_FSTRING, "a}b", {STUMPGARRET_SINGLE_RBRACE, 0, 4, 0, 0, 0, 0, 2}},
-        {STUMPGARRET_FSTRING, "{x)", {STUMPGARRET_UNMATCHED, 0, 5, ')', 0, 0, 0, 3}},
-        {STUMPGARRET_FSTRING, "{'", {STUMPGARRET_UNTERMINATED_STRING, 0, 4, 0, 0, 0, 0, 2}},
+         {STUMPGARRET_EXPRESSION_NESTED_TOO_DEEPLY, 0, 8, 0, 0, 0, 0, 6, 6}},
+        {STUMPGARRET_FSTRING, "a}b", {STUMPGARRET_SINGLE_RBRACE, 0, 4, 0, 0, 0, 0, 2, 2}},
+        {STUMPGARRET_FSTRING, "{x)", {STUMPGARRET_UNMATCHED, 0, 5, ')', 0, 0, 0, 3, 3}},
+        {STUMPGARRET_FSTRING, "{'", {STUMPGARRET_UNTERMINATED_STRING, 0, 4, 0, 0, 0, 0, 2, 2}},
         {STUMPGARRET_FSTRING,
          "{((((((((((((((((((((((((((((((((((((((((((((((((((((((((((((((((((",
-         {STUMPGARRET_TOO_MANY_BRACKETS, 0, 68, 0, 0, 0, 0, 66}},
+         {STUMPGARRET_TOO_MANY_BRACKETS, 0, 68, 0, 0, 0, 0, 66, 66}},
     };
     for (size_t i = 0; i < COUNT(rows); i++) {
         uint32_t length = (uint32_t)strlen(rows[i].body);
@@ -224,7 +242,8 @@ static void refuses_lists(void)
                           too_long = STUMPGARRET_BODIES_TOO_LONG;
     static const uint32_t bad[] = {STUMPGARRET_BAD_DESCRIPTOR, 0, 0, 0, 0};
     static const uint32_t no_room[] = {
-        STUMPGARRET_TOO_FEW_RECORD_PLACES, 0, 0, 1, STUMPGARRET_MOST_BODY_BYTES,
+        STUMPGARRET_TOO_FEW_RECORD_PLACES, 0, 0, 1, STUMPGARRET_MOST_BODY_BYTES, 0, 0, 0,
+        STUMPGARRET_MOST_BODY_BYTES,
     };
     static const uint32_t mixture[] = {STUMPGARRET_MIXED_BYTES, 0, 7, 0, 0};
 
@@ -254,12 +273,12 @@ static void reads_marks_and_bytes(void)
         STUMPGARRET_RAW_STRING, 0, 6, 2, 9, 14,
     };
     static const uint32_t marked_answer[STUMPGARRET_ANSWER_NUMBERS] = {
-        STUMPGARRET_ACCEPTED, STUMPGARRET_PLAIN, 1, 5, 14, 1, 3,
+        STUMPGARRET_ACCEPTED, STUMPGARRET_PLAIN, 1, 5, 14, 1, 3, 0, 3,
     };
     static const uint32_t marked_record[] = {STUMPGARRET_LITERAL_RECORD, 0, 3, 5, 14, 1, 0, 0};
     static const uint32_t bytes[] = {STUMPGARRET_BYTES, 0, 2, 4, 0, 7};
     static const uint32_t bytes_answer[STUMPGARRET_ANSWER_NUMBERS] = {
-        STUMPGARRET_ACCEPTED, STUMPGARRET_BYTES_VALUE, 0, 0, 7, 1, 1,
+        STUMPGARRET_ACCEPTED, STUMPGARRET_BYTES_VALUE, 0, 0, 7, 1, 1, 0, 4,
     };
     static const uint32_t bytes_record[] = {STUMPGARRET_BYTES_RECORD, 0, 1, 0, 7, 0, 0, 0};
     read_with("u'a'r'\\n'", marked, COUNT(marked), WORDS, TEXT);
@@ -275,6 +294,7 @@ int main(void)
 {
     reads_two();
     grows();
+    fits();
     refuses();
     refuses_bodies();
     refuses_lists();

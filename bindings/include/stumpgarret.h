@@ -98,6 +98,10 @@ enum stumpgarret_answer {
                                         a byte 10 ends a line */
     STUMPGARRET_REFUSAL_COLUMN,      /* and its column in that line, from 0, by characters */
 
+    STUMPGARRET_ANSWER_CHARS = 8,   /* how many characters were read: of all bodies, also for 30 and
+                                       31; for 10 to 28 of the literals before and of the refused
+                                       one up to the place; for 1 to 7 none */
+
     STUMPGARRET_ANSWER_NUMBERS = 12 /* how many */
 };
 
@@ -160,7 +164,8 @@ enum stumpgarret_unclosed {
 
 /* Reads the literals, six numbers for each, from the script. Lengths count elements: bytes of
    `script` and `text`, 32-bit numbers of `literals` and `words`. Eight words make one record place;
-   up to seven left over are not used.
+   up to seven left over are not used. For n literals with b body bytes together, room for b + n
+   records and 2 * b text bytes is always enough: 30 and 31 never come then.
 
    Afterwards: on acceptance the records stand in front in `words` and their texts in front in
    `text`, and what follows them is unchanged. On refusal, every word and every text byte is 0.

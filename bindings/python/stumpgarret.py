@@ -104,13 +104,15 @@ class Bytes:
 
 @dataclass(frozen=True)
 class Answer:
-    """What a run of literals reads as. `records` has one `Text` or one `Bytes`, or the parts of a joined string."""
+    """What a run of literals reads as. `records` has one `Text` or one `Bytes`, or the parts of a joined string; `chars`
+    is how many characters the bodies have."""
 
     sort: Sort
     u_mark: bool
     start: int
     end: int
     records: tuple[Text | Field | Bytes, ...]
+    chars: int
 
 
 # Each refusal's number, its name, and what it means where the name does not say so; {0} and {1} are the details, and
@@ -139,7 +141,6 @@ REFUSALS = {
     30: ("too few record places", "{0} records and {1} text bytes are needed"),
     31: ("too little text room", "{0} records and {1} text bytes are needed"),
 }
-NO_ROOM = (30, 31)
 IN_A_BODY = range(10, 29)
 
 # Why a brace counts as unclosed, by the first detail of 20.
@@ -154,8 +155,9 @@ UNCLOSED = {
 
 class Refusal(Exception):
     """The library refused a run: a number of `REFUSALS` and its name, the index of the literal from 0, the place,
-    two details, the place's line and column in the literal's body, both from 0, and the place just after the bracket
-    that is closed by another. What has no literal, place, details, line, column or bracket has 0 there."""
+    two details, the place's line and column in the literal's body, both from 0, the place just after the bracket
+    that is closed by another, and how many characters were read. What has no literal, place, details, line, column,
+    bracket or characters has 0 there."""
 
     def __init__(
         self,
@@ -166,8 +168,9 @@ class Refusal(Exception):
         line: int = 0,
         column: int = 0,
         opened: int = 0,
+        chars: int = 0,
     ):
-        super().__init__(number, literal, place, details, line, column, opened)
+        super().__init__(number, literal, place, details, line, column, opened, chars)
         self.number = number
         self.literal = literal
         self.place = place
@@ -175,6 +178,7 @@ class Refusal(Exception):
         self.line = line
         self.column = column
         self.opened = opened
+        self.chars = chars
 
         self.name, self._said = REFUSALS.get(number, ("unknown to this module", ""))
 
@@ -206,7 +210,7 @@ class Unavailable(Exception):
 SHARED_LIBRARY = "libstumpgarret.so"
 ELF_MACHINES = {62: "x86_64", 183: "aarch64"}
 WORDS_OF_A_RECORD = 8
-FIRST_RECORDS, FIRST_TEXT = 32, 1024
+MOST_BODY_BYTES = 1_048_576
 
 
 def read(script: bytes | str, literals: Iterable[Literal]) -> Answer:
@@ -215,14 +219,13 @@ def read(script: bytes | str, literals: Iterable[Literal]) -> Answer:
     Raises `Refusal` if the library refuses them, and ValueError for a number that does not fit into 32 bits."""
     script = _encoded(script) if isinstance(script, str) else bytes(script)
     numbers = _numbers(literals)
-    answer, words, text = _call(script, numbers, FIRST_RECORDS, FIRST_TEXT)
-    if answer[0] in NO_ROOM:
-        answer, words, text = _call(script, numbers, *answer[3:5])
+    answer, words, text = _call(script, numbers)
     if answer[0]:
-        raise Refusal(*answer[:3], tuple(answer[3:5]), *answer[6:8], answer[5])
-    _, sort, u_mark, start, end, count, _, *_ = answer
-    records = (words[at : at + WORDS_OF_A_RECORD] for at in range(0, count * WORDS_OF_A_RECORD, WORDS_OF_A_RECORD))
-    return Answer(Sort(sort), bool(u_mark), start, end, tuple(_record(own, records, text) for own in records))
+        number, literal, place, a, b, opened, line, column, chars, *_ = answer
+        raise Refusal(number, literal, place, (a, b), line, column, opened, chars)
+    _, sort, u_mark, start, end, _, _, _, chars, *_ = answer
+    records = (words[at : at + WORDS_OF_A_RECORD] for at in range(0, len(words), WORDS_OF_A_RECORD))
+    return Answer(Sort(sort), bool(u_mark), start, end, tuple(_record(own, records, text) for own in records), chars)
 
 
 def _encoded(text: str) -> bytes:
@@ -240,14 +243,24 @@ def _numbers(literals: Iterable[Literal]) -> list[int]:
     return numbers
 
 
-def _call(script: bytes, numbers: list[int], records: int, text_bytes: int) -> tuple[list[int], list[int], bytes]:
-    """One call with room for so many records and text bytes: answer, words and text."""
+def _room(numbers: list[int]) -> tuple[int, int]:
+    """Records and text bytes that are enough for any literals of such bodies. More bytes than one call takes are refused,
+    whatever the room."""
+    body_bytes = sum(numbers[3::6])
+    return (body_bytes + len(numbers) // 6, 2 * body_bytes) if body_bytes <= MOST_BODY_BYTES else (0, 0)
+
+
+def _call(script: bytes, numbers: list[int]) -> tuple[list[int], list[int], bytes]:
+    """The answer, and of an acceptance the words and the text."""
+    records, text_bytes = _room(numbers)
     listed = (ctypes.c_uint32 * len(numbers))(*numbers)
     words = (ctypes.c_uint32 * (records * WORDS_OF_A_RECORD))()
     text = (ctypes.c_char * text_bytes)()
     answer = (ctypes.c_uint32 * 12)()
     _function()(script, len(script), listed, len(listed), words, len(words), text, len(text), answer)
-    return list(answer), words[:], text.raw
+    if answer[0]:
+        return list(answer), [], b""
+    return list(answer), words[: answer[5] * WORDS_OF_A_RECORD], text[: answer[6]]
 
 
 def _record(own: list[int], following: Iterator[list[int]], text: bytes) -> Text | Field | Bytes:

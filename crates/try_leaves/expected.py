@@ -43,6 +43,11 @@ def formed(s):
         return e.start
 
 
+def heads(s):
+    """How many bytes may begin a character."""
+    return sum(not 0x80 <= b <= 0xBF for b in s)
+
+
 def after(b):
     """What may follow a first byte: how many bytes, and the second's range."""
     if decoded(bytes([b])) is not None:
@@ -202,6 +207,8 @@ def blocks():
     for at in range(58, 72):
         for other in (0x41, 0x80, 0xC1, 0xE0, 0xF4):
             yield text[:at] + bytes([other]) + text[at + 1:]
+    for n in range(8):
+        yield b"a" * n + (text * 3)[:250 - 2 * n]
 
 
 def main():
@@ -215,7 +222,7 @@ def main():
     for b, k in enumerate(classes()):
         add("b", 0, 0, bytes([b]), ("class", k))
     for s in itertools.chain(sequences(), blocks()):
-        add("c", 0, 0, s, ("formed", formed(s), *chars(s)))
+        add("c", 0, 0, s, ("formed", formed(s), len(s[:formed(s)].decode()), heads(s), *chars(s)))
     for kind, s in escapes():
         answer = escape(kind, s, 0)
         python_agrees(kind, s, answer)

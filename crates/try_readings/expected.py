@@ -38,6 +38,16 @@ def fstring(body):
     return side_by_side((1, body))
 
 
+def bodies(lent):
+    numbers, pieces = lent
+    script = b"".join(times * piece for times, piece in pieces)
+    return [script[offset:offset + length] for offset, length in zip(numbers[2::6], numbers[3::6])]
+
+
+def characters(bodies):
+    return sum(len(body.decode()) for body in bodies)
+
+
 # Records: each is made from the list's numbers. `of` is the literal that a record belongs to.
 
 def literal(text, u=0):
@@ -65,27 +75,41 @@ def part(text, of=0):
 # Rows
 
 def reads(lent, sort, *records, room=ROOM):
-    """An acceptance. `room` is how many words and text bytes are lent beyond those needed."""
+    """An acceptance. `room` is how many words and text bytes are lent beyond those needed; None is as much as any list of so many bytes and
+    literals needs (02, item 11)."""
     numbers, pieces = lent
     words, text = [], b""
     for kind, own, *rest in (record(numbers) for record in records):
         own = own if isinstance(own, bytes) else own.encode()
         words += [kind, len(text), len(own), *rest]
         text += own
-    answer = [0, sort, int(numbers[0] == 6), numbers[4], numbers[-1], len(records), len(text)]
+    lent_bytes = sum(numbers[3::6])
+    if room is None:
+        room = 8 * (lent_bytes + len(numbers) // 6) - len(words), 2 * lent_bytes - len(text)
+    answer = [0, sort, int(numbers[0] == 6), numbers[4], numbers[-1], len(records), len(text), 0, characters(bodies(lent))]
     cases.append((numbers, pieces, answer, words + [FILL_WORD] * room[0], text + bytes([FILL_BYTE] * room[1])))
 
 
 def refuses(lent, number, place, a=0, b=0, opened=0, literal=0, at=None, room=ROOM):
     """A refusal. `opened` is the place just after the bracket that 23 names. `at` is the line and column: by default the first line, with a column
-    for each byte of the body before the place. `room` is how many words and text bytes are lent."""
+    for each byte of the body before the place. The characters that were read are those of the literals before and of the refused one up to the
+    place; for want of room, all. `room` is how many words and text bytes are lent."""
     numbers, pieces = lent
+    line, column, chars = 0, 0, 0
     if 10 <= number <= 28:
         kind, flag, _, _, start, _ = numbers[6 * literal:6 * literal + 6]
-        line, column = at or (0, place - start - PREFIX[kind] - (3 if flag else 1))
-    else:
-        line, column = 0, 0
-    cases.append((numbers, pieces, [number, literal, place, a, b, opened, line, column], [0] * room[0], bytes(room[1])))
+        taken = place - start - PREFIX[kind] - (3 if flag else 1)
+        line, column = at or (0, taken)
+        *before, own = bodies(lent)[:literal + 1]
+        chars = characters([*before, own[:taken]])
+    elif number in (30, 31):
+        chars = characters(bodies(lent))
+    cases.append((numbers, pieces, [number, literal, place, a, b, opened, line, column, chars], [0] * room[0], bytes(room[1])))
+
+
+def counts(chars):
+    """Of the last row: the characters that it counts."""
+    assert cases[-1][2][8] == chars, cases[-1]
 
 
 def small_readings():
@@ -262,6 +286,30 @@ def lines():
     refuses(side_by_side((0, "\n\n"), (1, "a}")), 25, 4 + 2 + 2, literal=1, at=(0, 2))
 
 
+def read_characters():
+    """02, item 11: how many characters were read, of any width; and with the room that is known beforehand there is an acceptance."""
+    reads(side_by_side((0, "é\n"), (0, ""), (1, "€{x}\U0001f600", 1)), JOINED, literal("é\n€"), field("x", 7 + 4 + 4, of=2), literal("\U0001f600"))
+    counts(2 + 0 + 5)
+    reads(side_by_side((0, r"\U0001f600\u00e9")), PLAIN, literal("\U0001f600é"))     # an escape's characters, not what it stands for
+    counts(16)
+    refuses(side_by_side((0, "é\n"), (0, "€"), (1, "\U0001f600é}}{", 1), (0, "a")), 20, 5 + 5 + 4 + 9, LAST_BRACE, literal=2, at=(0, 5))
+    counts(2 + 1 + 5)
+    refuses(side_by_side((2, "ab"), (5, "é")), 12, 5 + 3 + 2, literal=1, at=(0, 1))
+    counts(3)
+    refuses(side_by_side((1, "é{x:{y:{z}}}")), 24, 2 + 8, at=(0, 7))                # before the {
+    counts(7)
+    refuses(side_by_side((0, "é"), (1, "\u20ac{x}")), 30, 0, 2, 6, room=(15, 6))
+    counts(5)
+    refuses(side_by_side((0, "é"), (1, "\u20ac{x}")), 31, 0, 2, 6, room=(16, 5))
+    counts(5)
+    refuses(side_by_side((0, "é"), (2, "é")), 7, 0)
+    counts(0)
+    reads(side_by_side((0, ""), (0, "")), PLAIN, literal(""), room=None)
+    nested = [record for at in (6, 12) for record in (part("y="), part(""), field("y", at, parts=1), spec(1), part("a"))]
+    reads(fstring("{x:{y=:a}{y=:a}}"), JOINED, field("x", 3, parts=1), spec(6), *nested, room=None)
+    reads(fstring("{xxxxxxxx=}"), JOINED, literal("xxxxxxxx="), field("xxxxxxxx", 3, "r"), room=None)
+
+
 def room():
     """Exactly enough and one too little; 30 before 31."""
     lent, needed = fstring("a{x:>5}"), (4, 4)
@@ -317,7 +365,7 @@ def files():
 
 
 def fill_cases():
-    for rows in (small_readings, two_literals, entry_checks, escapes, unclosed, fields, openers, lines, room, limits):
+    for rows in (small_readings, two_literals, entry_checks, escapes, unclosed, fields, openers, lines, read_characters, room, limits):
         rows()
     met = {answer[0] for _, _, answer, _, _ in cases}
     assert met == NUMBERS | {0}, met

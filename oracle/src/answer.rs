@@ -10,12 +10,15 @@ pub struct Refusal {
     pub opened: u32,
     pub line: u32,
     pub column: u32,
+    /// The characters that were read.
+    pub chars: u32,
 }
 
 impl Refusal {
     pub fn new(number: u32, literal: usize, place: u32) -> Self {
         let literal = literal as u32;
-        Refusal { number, literal, place, details: [0, 0], opened: 0, line: 0, column: 0 }
+        let details = [0, 0];
+        Refusal { number, literal, place, details, opened: 0, line: 0, column: 0, chars: 0 }
     }
 }
 
@@ -37,6 +40,8 @@ pub struct Acceptance {
     pub last_end: u32,
     pub records: Vec<Record>,
     pub text: Vec<u8>,
+    /// The characters of all bodies.
+    pub chars: u32,
 }
 
 pub type Outcome = Result<Acceptance, Refusal>;
@@ -49,7 +54,7 @@ impl Refusal {
         let [a, b] = self.details;
         let mut numbers = [0; 12];
         numbers[..5].copy_from_slice(&[self.number, self.literal, self.place, a, b]);
-        numbers[5..8].copy_from_slice(&[self.opened, self.line, self.column]);
+        numbers[5..9].copy_from_slice(&[self.opened, self.line, self.column, self.chars]);
         numbers
     }
 }
@@ -65,6 +70,7 @@ impl Acceptance {
             self.records.len() as u32,
             self.text.len() as u32,
         ]);
+        numbers[8] = self.chars;
         numbers
     }
 }

@@ -9,6 +9,8 @@
 //!   to the same place with the same two brackets.
 //! * Line and column of 10 to 28, which document 02 adds, are counted in the characters of the
 //!   refused body before the place.
+//! * The characters that were read, which document 02 adds too, are counted in all bodies, or in
+//!   those before a refused one and in that one before the place.
 //! * 30 and 31 compare an acceptance with the room that is lent.
 
 use std::ops::Range;
@@ -47,7 +49,15 @@ pub fn reading(script: &[u8], list: &[u32]) -> Outcome {
     let (literals, ranges) = descriptors(script, list)?;
     check_size(&ranges)?;
     let bodies = well_formed_bodies(script, &literals, &ranges)?;
-    reading_of_bodies(&literals, &bodies).map_err(|refusal| with_line(refusal, &literals, &bodies))
+    match reading_of_bodies(&literals, &bodies) {
+        Ok(accepted) => Ok(Acceptance { chars: characters(&bodies), ..accepted }),
+        Err(refusal) => Err(with_counts(refusal, &literals, &bodies)),
+    }
+}
+
+/// How many characters the bodies have.
+fn characters(bodies: &[String]) -> u32 {
+    bodies.iter().map(|body| body.chars().count() as u32).sum()
 }
 
 fn reading_of_bodies(literals: &[Literal], bodies: &[String]) -> Outcome {
@@ -63,16 +73,19 @@ fn reading_of_bodies(literals: &[Literal], bodies: &[String]) -> Outcome {
 }
 
 /// Line and column of a refusal in a body, from 0: how often its text up to the place has a line
-/// end, and how many characters follow the last one.
-fn with_line(refusal: Refusal, literals: &[Literal], bodies: &[String]) -> Refusal {
+/// end, and how many characters follow the last one; and the characters of that text and of all
+/// bodies before.
+fn with_counts(refusal: Refusal, literals: &[Literal], bodies: &[String]) -> Refusal {
     if !(10..=28).contains(&refusal.number) {
         return refusal;
     }
     let literal = refusal.literal as usize;
     let taken = refusal.place - literals[literal].place(0);
-    let lines: Vec<&str> = bodies[literal][..taken as usize].split('\n').collect();
+    let read = &bodies[literal][..taken as usize];
+    let chars = characters(&bodies[..literal]) + read.chars().count() as u32;
+    let lines: Vec<&str> = read.split('\n').collect();
     let column = lines[lines.len() - 1].chars().count();
-    Refusal { line: lines.len() as u32 - 1, column: column as u32, ..refusal }
+    Refusal { line: lines.len() as u32 - 1, column: column as u32, chars, ..refusal }
 }
 
 /// What the Rust itself gives, on its domain or off it, for a list of sound literals.
@@ -109,10 +122,11 @@ pub fn lay_out(outcome: &Outcome, words: &mut [u32], text: &mut [u8]) -> Numbers
 fn fitting(outcome: &Outcome, words: usize, text: usize) -> Result<&Acceptance, Refusal> {
     let accepted = outcome.as_ref().map_err(|refusal| *refusal)?;
     let needed = [accepted.records.len() as u32, accepted.text.len() as u32];
+    let chars = accepted.chars;
     if words / RECORD_WORDS < accepted.records.len() {
-        Err(Refusal { details: needed, ..Refusal::new(30, 0, 0) })
+        Err(Refusal { details: needed, chars, ..Refusal::new(30, 0, 0) })
     } else if text < accepted.text.len() {
-        Err(Refusal { details: needed, ..Refusal::new(31, 0, 0) })
+        Err(Refusal { details: needed, chars, ..Refusal::new(31, 0, 0) })
     } else {
         Ok(accepted)
     }

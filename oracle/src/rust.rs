@@ -99,6 +99,7 @@ fn acceptance(tree: &Expr) -> Acceptance {
         last_end: range.end.0,
         records: Vec::new(),
         text: Vec::new(),
+        chars: 0,
     };
     match tree {
         Expr::JoinedStr(joined) => {

@@ -1,4 +1,4 @@
-"""The call: document 01's readings and refusals, room that grows, and what cannot be lent."""
+"""The call: document 01's readings and refusals, the room that is lent, and what cannot be lent."""
 
 import ctypes
 import os
@@ -13,6 +13,7 @@ from stumpgarret import Answer, Bytes, Field, Kind, Literal, Refusal, Sort, Text
 
 expected = load("crates/try_readings/expected.py")
 expected.fill_cases()
+NO_ROOM = 30, 31
 
 
 def script_of(pieces):
@@ -47,7 +48,7 @@ def flat(answer):
 
     for record in answer.records:
         put_record(record)
-    numbers = [0, answer.sort, int(answer.u_mark), answer.start, answer.end, len(words) // 8, len(text)]
+    numbers = [0, answer.sort, int(answer.u_mark), answer.start, answer.end, len(words) // 8, len(text), 0, answer.chars]
     return numbers, words, text
 
 
@@ -73,13 +74,13 @@ class Rows(unittest.TestCase):
     def test_read(self):
         met = set()
         for numbers, pieces, answer, words, text in expected.cases:
-            if len(numbers) % 6 or answer[0] in stumpgarret.NO_ROOM:
+            if len(numbers) % 6 or answer[0] in NO_ROOM:
                 continue
             literals = [Literal(*numbers[at : at + 6]) for at in range(0, len(numbers), 6)]
             with self.subTest(numbers=numbers[:12]):
                 met.add(answer[0])
                 self.compare(script_of(pieces), literals, answer, words, text)
-        self.assertEqual(met, {0, *stumpgarret.REFUSALS} - {2, *stumpgarret.NO_ROOM})
+        self.assertEqual(met, {0, *stumpgarret.REFUSALS} - {2, *NO_ROOM})
 
     def compare(self, script, literals, answer, words, text):
         if answer[0] == 0:
@@ -90,7 +91,7 @@ class Rows(unittest.TestCase):
             read(script, literals)
         refusal = caught.exception
         numbers = [refusal.number, refusal.literal, refusal.place, *refusal.details]
-        numbers += [refusal.opened, refusal.line, refusal.column]
+        numbers += [refusal.opened, refusal.line, refusal.column, refusal.chars]
         self.assertEqual(numbers, answer)
 
     def test_numbers(self):
@@ -104,7 +105,7 @@ class Answers(unittest.TestCase):
         field = Field("w", None, None, 15, 29, 25)
         spec = Text(">", 15, 29, False), field
         records = Text("a", 10, 29, True), Field("é", "r", spec, 15, 29, 18)
-        self.assertEqual(answer, Answer(Sort.JOINED, True, 10, 29, records))
+        self.assertEqual(answer, Answer(Sort.JOINED, True, 10, 29, records, 11))
 
     def test_plain_and_bytes(self):
         self.assertEqual(read(b"\\x41", [Literal(0, False, 0, 4, 0, 6)]).records, (Text("A", 0, 6, False),))
@@ -159,6 +160,15 @@ class Answers(unittest.TestCase):
         self.assertEqual(refusal.position(10, 5), (12, 4))
         self.assertEqual(Refusal(25, 0, 4, (0, 0), 0, 2).position(10, 5), (10, 7))
 
+    def test_characters(self):
+        body = "é\n€{}"
+        literals = [Literal(0, True, 0, 8, 0, 14), Literal(1, True, 8, 8, 20, 35)]
+        with self.assertRaises(Refusal) as caught:
+            read(2 * body, literals)
+        self.assertEqual(caught.exception.chars, 5 + 5)
+        self.assertEqual(read(2 * body, literals[:1]).chars, 5)
+        self.assertEqual(pickle.loads(pickle.dumps(caught.exception)).chars, 10)
+
     def test_every_refusal_has_words(self):
         for number in stumpgarret.REFUSALS:
             self.assertRegex(str(Refusal(number, 0, 3, (40, 41))), f"^refused in literal 0 at 3.*: {number} [^{{}}]+")
@@ -185,27 +195,35 @@ class Room(unittest.TestCase):
             records = read(body, [Literal(Kind.FSTRING, True, 0, length, 0, length + 7)]).records
         return records, lent
 
-    def test_first_room_is_enough(self):
-        _, lent = self.calls(31 * "{x}" + 993 * "a")
-        self.assertEqual(lent, [(32 * 8, 1024)])
+    def test_one_call(self):
+        for body in ("", "a", 31 * "{x}" + 993 * "a", "{y}" + 100_000 * "é"):
+            _, lent = self.calls(body)
+            size = len(body.encode())
+            self.assertEqual(lent, [((size + 1) * 8, 2 * size)])
 
-    def test_more_records(self):
-        records, lent = self.calls(100 * "a{x}")
-        self.assertEqual(lent, [(32 * 8, 1024), (200 * 8, 200)])
+    def test_many_records(self):
+        records, _ = self.calls(100 * "a{x}")
         self.assertEqual([record.text for record in records[::2]], 100 * ["a"])
         self.assertEqual([record.expression for record in records[1::2]], 100 * ["x"])
+        (field,), _ = self.calls("{x:" + 100 * "{y=:a}" + "}")
+        self.assertEqual(len(field.spec), 300)
 
-    def test_more_text(self):
-        records, lent = self.calls("{y}" + 100_000 * "é")
-        self.assertEqual(lent, [(32 * 8, 1024), (2 * 8, 200_001)])
-        self.assertEqual(records[1].text, 100_000 * "é")
+    def test_much_text(self):
+        records, _ = self.calls("{" + 1000 * "é" + "=}")
+        self.assertEqual([records[0].text, records[1].expression], [1000 * "é" + "=", 1000 * "é"])
 
-    def test_no_third_call(self):
+    def test_too_long(self):
+        for size in (2**20 + 1, 2**32 - 1):
+            with self.assertRaises(Refusal) as caught:
+                read(b"", [Literal(0, False, 0, size, 0, 2**32 - 1)])
+            self.assertEqual(caught.exception.number, 4)
+
+    def test_no_second_call(self):
         function = mock.Mock(side_effect=lambda *arguments: ctypes.memmove(arguments[8], bytes([30, *47 * [0]]), 48))
         with mock.patch.object(stumpgarret, "_function", lambda: function):
             with self.assertRaisesRegex(Refusal, "30 too few record places"):
                 read(b"", [Literal(0, False, 0, 0, 0, 2)])
-        self.assertEqual(function.call_count, 2)
+        self.assertEqual(function.call_count, 1)
 
 
 class Loading(unittest.TestCase):

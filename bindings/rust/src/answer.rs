@@ -24,6 +24,7 @@ pub struct Answer<'a> {
     range: Range<usize>,
     words: Cow<'a, [u32]>,
     text: Cow<'a, [u8]>,
+    chars: usize,
 }
 
 impl<'a> Answer<'a> {
@@ -41,7 +42,7 @@ impl<'a> Answer<'a> {
 
     /// Nothing, if it does not hang together.
     fn accepted(
-        [_, sort, mark, start, end, records, length, ..]: [u32; call::ANSWER],
+        [_, sort, mark, start, end, records, length, _, chars, ..]: [u32; call::ANSWER],
         words: Cow<'a, [u32]>,
         text: Cow<'a, [u8]>,
     ) -> Option<Answer<'a>> {
@@ -53,7 +54,8 @@ impl<'a> Answer<'a> {
         };
         let words = front(words, (records as usize).checked_mul(call::RECORD)?)?;
         let text = front(text, length as usize)?;
-        let answer = Answer { sort, u_mark: mark != 0, range: range(start, end), words, text };
+        let (u_mark, range, chars) = (mark != 0, range(start, end), chars as usize);
+        let answer = Answer { sort, u_mark, range, words, text, chars };
         answer.records().reaches_end().then_some(answer)
     }
 
@@ -69,6 +71,11 @@ impl<'a> Answer<'a> {
     /// From the first literal's start to the last one's end.
     pub fn range(&self) -> Range<usize> {
         self.range.clone()
+    }
+
+    /// How many characters the bodies of all literals have.
+    pub fn chars(&self) -> usize {
+        self.chars
     }
 
     /// What stands at the top level, in order.

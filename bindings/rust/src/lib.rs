@@ -71,19 +71,15 @@ pub fn parse_strings(
 ) -> Result<Answer<'static>, Refusal> {
     let script = script.as_ref();
     let numbers = literal::numbers(literals);
-    let (records, bytes) = guess(literals);
-    let answer = read_owned(script, &numbers, records, bytes);
-    match answer.as_ref().map_err(Refusal::reason) {
-        Err(
-            &Reason::TooFewRecordPlaces { records, text }
-            | &Reason::TooLittleTextRoom { records, text },
-        ) => read_owned(script, &numbers, records, text),
-        _ => answer,
-    }
+    let (records, bytes) = room(literals);
+    let (mut words, mut text) = (vec![0; records * call::RECORD], vec![0; bytes]);
+    let answer = call::read(script, &numbers, &mut words, &mut text);
+    Answer::new(answer, Cow::Owned(words), Cow::Owned(text))
 }
 
 /// Reads as [`parse_strings`] does, into buffers of the caller's. If one is too small, the refusal
-/// has the counts needed; a record takes eight words. After a refusal both hold zeros; after an
+/// has the counts needed; a record takes eight words. As many records as all bodies have bytes, and
+/// one for each literal, and twice as many text bytes are always enough. After a refusal both hold zeros; after an
 /// acceptance, what follows the last record and the last text byte is unchanged.
 ///
 /// ```
@@ -111,21 +107,13 @@ pub fn read_into<'a>(
     Answer::new(answer, Cow::Borrowed(words), Cow::Borrowed(text))
 }
 
-fn read_owned(
-    script: &[u8],
-    numbers: &[u32],
-    records: usize,
-    bytes: usize,
-) -> Result<Answer<'static>, Refusal> {
-    let (mut words, mut text) = (vec![0; records * call::RECORD], vec![0; bytes]);
-    let answer = call::read(script, numbers, &mut words, &mut text);
-    Answer::new(answer, Cow::Owned(words), Cow::Owned(text))
-}
-
-/// Records and text bytes that are enough for most literals.
-fn guess(literals: &[Literal]) -> (usize, usize) {
-    let bodies =
+/// Records and text bytes that are enough for any literals of such bodies. More than one call takes
+/// are refused, whatever the room.
+fn room(literals: &[Literal]) -> (usize, usize) {
+    let bytes =
         literals.iter().fold(0, |sum: usize, literal| sum.saturating_add(literal.body.len()));
-    let bytes = bodies.min(MOST_BODY_BYTES);
-    (4 + bytes / 16, bytes + 16)
+    if bytes > MOST_BODY_BYTES || literals.len() > MOST_LITERALS {
+        return (0, 0);
+    }
+    (bytes + literals.len(), 2 * bytes)
 }

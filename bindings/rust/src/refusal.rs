@@ -150,6 +150,7 @@ pub struct Refusal {
     opened: usize,
     line: usize,
     column: usize,
+    chars: usize,
 }
 
 impl Refusal {
@@ -192,17 +193,23 @@ impl Refusal {
         self.column
     }
 
+    /// How many characters were read: of a refusal that is met in a body those of the literals before
+    /// and of this one up to the place, for want of room all, else 0.
+    pub fn chars(&self) -> usize {
+        self.chars
+    }
+
     pub(crate) fn new(answer: [u32; call::ANSWER]) -> Refusal {
-        let [number, literal, place, _, _, opened, line, column, ..] = answer;
+        let [number, literal, place, _, _, opened, line, column, chars, ..] = answer;
         let reason = reason(answer).unwrap_or(Reason::UnknownAnswer);
-        let [literal, place, opened, line, column] =
-            [literal, place, opened, line, column].map(|n| n as usize);
-        Refusal { number, reason, literal, place, opened, line, column }
+        let [literal, place, opened, line, column, chars] =
+            [literal, place, opened, line, column, chars].map(|n| n as usize);
+        Refusal { number, reason, literal, place, opened, line, column, chars }
     }
 
     pub(crate) fn unknown() -> Refusal {
         let reason = Reason::UnknownAnswer;
-        Refusal { number: 0, reason, literal: 0, place: 0, opened: 0, line: 0, column: 0 }
+        Refusal { number: 0, reason, literal: 0, place: 0, opened: 0, line: 0, column: 0, chars: 0 }
     }
 }
 
@@ -237,7 +244,7 @@ fn reason([number, _, _, a, b, ..]: [u32; call::ANSWER]) -> Option<Reason> {
 
 impl fmt::Display for Refusal {
     fn fmt(&self, f: &mut fmt::Formatter<'_>) -> fmt::Result {
-        let Refusal { number, reason, literal, place, opened, line, column } = self;
+        let Refusal { number, reason, literal, place, opened, line, column, .. } = self;
         write!(f, "{} (refusal {}, literal {}, place {}", reason, number, literal, place)?;
         match number {
             23 => write!(f, ", line {}, column {}, opened at place {})", line, column, opened),
@@ -264,10 +271,11 @@ mod tests {
     #[test]
     fn an_unknown_number_is_said_to_be_so() {
         for number in [8, 14, 29, 32, u32::MAX] {
-            let refusal = Refusal::new([number, 1, 2, 3, 4, 5, 6, 7, 0, 0, 0, 0]);
+            let refusal = Refusal::new([number, 1, 2, 3, 4, 5, 6, 7, 8, 0, 0, 0]);
             assert_eq!((refusal.number(), refusal.reason()), (number, &Reason::UnknownAnswer));
             assert_eq!((refusal.literal(), refusal.place()), (1, 2));
             assert_eq!((refusal.opened(), refusal.line(), refusal.column()), (5, 6, 7));
+            assert_eq!(refusal.chars(), 8);
         }
     }
 

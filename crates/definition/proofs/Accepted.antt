@@ -12,7 +12,7 @@ use Rattle.definition.specs.Escapes.{Read, got, refused}
 use Rattle.definition.specs.Body.{Piece, literal, stringN, enough, alone, readBody}
 use Rattle.definition.specs.Records.{Item, itemOf, Answer, answerOf}
 use Rattle.definition.specs.Entry.{Literal, placeOf, body, Refusal, allUtf8, anyOf, firstStart, entry}
-use Rattle.definition.specs.Reading.{Outcome, accepts, refuses, readLiteral, andThen, readFrom, sortOf, uMark, lastEnd, answered, read}
+use Rattle.definition.specs.Reading.{Outcome, accepts, refuses, readLiteral, andThen, readFrom, sortOf, uMark, lastEnd, allChars, answered, read}
 use Rattle.definition.proofs.CharLaws.{Utf8}
 use Rattle.definition.proofs.EntrySplit.{Each, utf8-each}
 use Rattle.definition.proofs.Grammar.{Parts, flat, All}
@@ -24,7 +24,7 @@ pub record From (script : List ℕ) (ls : List Literal) (x : Answer) : Type 0 wh
   pub items : List Item
   pub passed : entry script ls ≡ none
   pub reads : readFrom script 0 ls ≡ accepts items
-  pub is : x ≡ answerOf (sortOf ls) (uMark ls) (firstStart ls) (lastEnd 0 ls) items
+  pub is : x ≡ answerOf (sortOf ls) (uMark ls) (firstStart ls) (lastEnd 0 ls) (allChars script ls) items
 
 no-refusal : {P : Type 0} (r : Refusal) (x : Answer) → _≡_ {A = Outcome Answer} (refuses r) (accepts x) → P
 no-refusal r x e = let z : _≡_ {A = ℕ} 0 1 = cc in absurd (omega arith)
@@ -38,7 +38,7 @@ accepted script ls x h = go (entry script ls) refl (readFrom script 0 ls) refl
   where
     go : (c : Option Refusal) → entry script ls ≡ c → (o : Outcome (List Item)) → readFrom script 0 ls ≡ o → From script ls x
     go (some r) e o f = no-refusal r x (rw (e, read) at h)
-    go none e (refuses r) f = no-refusal r x (rw (e, f, read) at h)
+    go none e (refuses r) f = no-refusal _ x (rw (e, f, read) at h)
     go none e (accepts xs) f = record { items = xs; passed = e; reads = f; is = sym (same-answer _ x (rw (e, f, read) at h)) }
 
 pub neither : (a b : Bool) → a || b ≡ false → (a ≡ false) × (b ≡ false)

@@ -104,6 +104,7 @@ join-assoc a b c = λ i. record {
   end = c .end;
   records = records i;
   text = append-assoc (a .text) (b .text) (c .text) i;
+  chars = add-assoc (a .chars) (b .chars) (c .chars) i;
 }
   where
     n : ℕ

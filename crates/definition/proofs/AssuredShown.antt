@@ -50,7 +50,7 @@ deep-shown = refl
 -- an answer of so many records over a text
 abbrev pub over : ℕ × List ℕ × String → Answer
 unfolding ascii answerFrom
-over (count, words, text) = answerFrom 1 0 0 10 count (length (ascii text)) words (ascii text)
+over (count, words, text) = answerFrom 1 0 0 10 count (length (ascii text)) 0 words (ascii text)
 
 pub assured-shown : Splits (λ r. assured (over r))
     -- `({x}`, `{x:({y}}`

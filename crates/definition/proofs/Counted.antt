@@ -1,4 +1,4 @@
--- Line and column go with the step, character by character, and stand still from the end on. Assumes nothing.
+-- Characters, line and column go with the step, character by character, and stand still from the end on. Assumes nothing.
 use mathlib.Core.Path.{_≡_, refl, sym, _∙_}
 use mathlib.Core.Bool.{true, false, _||_}
 use mathlib.Core.List.{List, [], _∷_, map}
@@ -12,11 +12,18 @@ use Rattle.definition.specs.Counts.{Count, nothing, more, countFrom, cou
 use Rattle.definition.proofs.CharLaws.{cases, next-past, next-in}
 
 abbrev numbers : Count → List ℕ
-numbers k = k .line ∷ k .column ∷ []
+numbers k = k .chars ∷ k .line ∷ k .column ∷ []
 
 -- computed: a, é (two bytes), a line end, b, at each place from 0 to past the end
 pub counts-shown : map (λ n. numbers (counted (0x61 ∷ 0xC3 ∷ 0xA9 ∷ 10 ∷ 0x62 ∷ []) n)) (0 ∷ 1 ∷ 2 ∷ 3 ∷ 4 ∷ 5 ∷ 9 ∷ [])
-    ≡ (0 ∷ 0 ∷ []) ∷ (0 ∷ 1 ∷ []) ∷ (0 ∷ 2 ∷ []) ∷ (0 ∷ 2 ∷ []) ∷ (1 ∷ 0 ∷ []) ∷ (1 ∷ 1 ∷ []) ∷ (1 ∷ 1 ∷ []) ∷ []
+    ≡ (0 ∷ 0 ∷ 0 ∷ [])
+    ∷ (1 ∷ 0 ∷ 1 ∷ [])
+    ∷ (2 ∷ 0 ∷ 2 ∷ [])
+    ∷ (2 ∷ 0 ∷ 2 ∷ [])
+    ∷ (3 ∷ 1 ∷ 0 ∷ [])
+    ∷ (4 ∷ 1 ∷ 1 ∷ [])
+    ∷ (4 ∷ 1 ∷ 1 ∷ [])
+    ∷ []
 unfolding table37 following follow width decoded code next more countFrom counted
 counts-shown = refl
 
@@ -36,23 +43,24 @@ unfolding countFrom
 count-on zero s i taken k f h l = absurd (omega arith)
 count-on (suc n) s i taken k f h l = rw (lt-leb taken i h, lt-leb (length s) i l, countFrom)
 
--- a character is in a line or ends it
-more-one : (c : ℕ) (k : Count) → more c k .line + more c k .column ≤ k .line + k .column + 1
+-- a character is one, in a line or its end
+pub more-one : (c : ℕ) (k : Count) → (more c k .chars ≡ k .chars + 1) × (more c k .line + more c k .column ≤ k .line + k .column + 1)
 unfolding more
-more-one c k = cases (c is "\n") (λ t. rw t (omega arith)) (λ t. rw t (omega arith))
+more-one c k = cases (c is "\n") (λ t. rw t (refl, omega arith)) (λ t. rw t (refl, omega arith))
 
 -- the characters before i are counted, k of them, and the count goes on from there
 pub record Counting (s : List ℕ) (taken i : ℕ) (k : Count) : Type 0 where
   pub fuel : ℕ
   pub enough : length s ≤ i + fuel
   pub within : i ≤ length s
-  pub small : k .line + k .column ≤ i
+  pub lines : k .line + k .column ≤ k .chars
+  pub small : k .chars ≤ i
   pub same : counted s taken ≡ countFrom fuel s i taken k
 
 module _ (s : List ℕ) (taken : ℕ) where
   pub count-begins : Counting s taken 0 nothing
   unfolding counted
-  count-begins = record { fuel = length s; enough = omega arith; within = omega arith; small = omega arith; same = refl }
+  count-begins = record { fuel = length s; enough = omega arith; within = omega arith; lines = omega arith; small = omega arith; same = refl }
 
   module _ (i : ℕ) (k : Count) (K : Counting s taken i k) where
     pub count-goes : i < taken → i < length s → Counting s taken (next s i) (more (code s i) k)
@@ -62,6 +70,7 @@ module _ (s : List ℕ) (taken : ℕ) where
           fuel = pred (K .fuel);
           enough = omega (arith, K .enough);
           within = next-in s i (K .within);
+          lines = omega (arith, K .lines, more-one (code s i) k);
           small = omega (arith, K .small, more-one (code s i) k);
           same = K .same ∙ count-on (K .fuel) s i taken k (omega (arith, K .enough)) h l;
         }
@@ -72,17 +81,21 @@ module _ (s : List ℕ) (taken : ℕ) where
     pub count-ends : length s ≤ i → counted s taken ≡ k
     count-ends h = K .same ∙ count-end (K .fuel) s i taken k h
 
--- no more lines and columns than bytes
-count-small : (n : ℕ) (s : List ℕ) (i taken : ℕ) (k : Count) → countFrom n s i taken k .line + countFrom n s i taken k .column ≤ k .line + k .column + n
+-- no more lines and columns than characters, and no more of these than bytes
+count-small : (n : ℕ) (s : List ℕ) (i taken : ℕ) (k : Count) → k .line + k .column ≤ k .chars
+    → (countFrom n s i taken k .line + countFrom n s i taken k .column ≤ countFrom n s i taken k .chars) × (countFrom n s i taken k .chars ≤ k .chars + n)
 unfolding countFrom
-count-small zero s i taken k = omega arith
-count-small (suc n) s i taken k =
-    cases (leb taken i || atEnd s i) (λ t. rw (t, countFrom) (omega arith))
-    (λ t. rw (t, countFrom) (omega (arith, count-small n s (next s i) taken (more (code s i) k), more-one (code s i) k)))
+count-small zero s i taken k h = (h, omega arith)
+count-small (suc n) s i taken k h =
+    cases (leb taken i || atEnd s i) (λ t. rw (t, countFrom) (h, omega arith))
+    (λ t.
+    let m = more-one (code s i) k in
+    let r = count-small n s (next s i) taken (more (code s i) k) (omega arith) in
+    rw (t, countFrom) (r .0, omega arith))
 
-pub counted-small : (s : List ℕ) (taken : ℕ) → counted s taken .line + counted s taken .column ≤ length s
+pub counted-small : (s : List ℕ) (taken : ℕ) → (counted s taken .line + counted s taken .column ≤ counted s taken .chars) × (counted s taken .chars ≤ length s)
 unfolding counted
-counted-small s taken = omega (arith, count-small (length s) s 0 taken nothing)
+counted-small s taken = let r = count-small (length s) s 0 taken nothing (omega arith) in (r .0, omega arith)
 
 -- THE STEP COUNTS: a place that the step reaches
 pub data Reached (s : List ℕ) : ℕ → Type 0 where
@@ -103,6 +116,10 @@ reached-counts s (step {i} r l) taken h =
 pub counted-step : (s : List ℕ) (i j : ℕ) → Reached s i → i < length s → i < j → j ≤ next s i → counted s j ≡ more (code s i) (counted s i)
 counted-step s i j r l h g =
     count-stops s j (next s i) _ (count-goes s j i _ (reached-counts s r j (omega arith)) h l) g
+
+-- one character more
+pub step-chars : (s : List ℕ) (i : ℕ) → Reached s i → i < length s → counted s (next s i) .chars ≡ counted s i .chars + 1
+step-chars s i r l = rw (counted-step s i (next s i) r l (next-past s i l) (omega arith)) (more-one (code s i) (counted s i) .0)
 
 -- PAST THE END
 past-end : (n : ℕ) (s : List ℕ) (i taken : ℕ) (k : Count) → length s ≤ taken → countFrom n s i taken k ≡ countFrom n s i (length s) k

@@ -24,7 +24,7 @@ row sort count words f w = record { sort = sort; count = count; words = words; i
 
 abbrev pub answer : Row → Answer
 unfolding ascii answerFrom
-answer r = answerFrom (r .sort) 0 0 10 (r .count) 4 (r .words) (ascii "ax>5")
+answer r = answerFrom (r .sort) 0 0 10 (r .count) 4 0 (r .words) (ascii "ax>5")
 
 pub rows : List Row
 rows =

@@ -78,7 +78,7 @@ Alike c c′ = ((k : ℕ) → word (numbers (c .outcome)) k ≡ word (numbers (c
 
 same-refusal : (r r′ : Refusal) → ((k : ℕ) → word (numbers (refuses r)) k ≡ word (numbers (refuses r′)) k) → r ≡ r′
 unfolding numbers
-same-refusal r r′ h = λ i. record { number = h 0 i; literal = h 1 i; place = h 2 i; a = h 3 i; b = h 4 i; opened = h 5 i; line = h 6 i; column = h 7 i }
+same-refusal r r′ h = λ i. record { number = h 0 i; literal = h 1 i; place = h 2 i; a = h 3 i; b = h 4 i; opened = h 5 i; line = h 6 i; column = h 7 i; chars = h 8 i }
 
 -- no refusal has an acceptance's 0
 differ : {P : Type 0} (x : Answer) (r : Refusal) → Listed r → word (numbers (accepts x)) 0 ≡ word (numbers (refuses r)) 0 → P
@@ -93,7 +93,7 @@ one-outcome c c′ h h′ s s′ (n, w, t) = go (c .outcome) refl (c′ .outcome
     same k o o′ e f = rw (← e, ← f) (n k)
 
     answers : held c ≡ held c′
-    answers = λ i. answerFrom (n 1 i) (n 2 i) (n 3 i) (n 4 i) (n 5 i) (n 6 i) (w i) (t i)
+    answers = λ i. answerFrom (n 1 i) (n 2 i) (n 3 i) (n 4 i) (n 5 i) (n 6 i) (n 8 i) (w i) (t i)
 
     go : (o : Outcome Answer) → c .outcome ≡ o → (o′ : Outcome Answer) → c′ .outcome ≡ o′ → c .outcome ≡ c′ .outcome
     go (accepts x) e (accepts y) f = e ∙ ap accepts (sym (h x e .0) ∙ answers ∙ h′ y f .0) ∙ sym f

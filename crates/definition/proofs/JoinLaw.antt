@@ -2,26 +2,28 @@
 use mathlib.Core.Path.{_≡_, refl, sym, _∙_, ap, ap₂}
 use mathlib.Core.List.{List, [], _∷_, _++_, append-assoc}
 use mathlib.Core.Option.{Option, none, some}
-use Prim.Native.Nat.{ℕ, suc, _+_, _/_}
-use native.Mathlib.Nat.{add-zero, zero-add, add-suc, suc-add}
-use lib.ListN.{length}
+use Prim.Native.Nat.{ℕ, zero, suc, _+_, _/_, _≤_}
+use native.Mathlib.Nat.{add-zero, zero-add, add-suc, suc-add, add-assoc}
+use native.Mathlib.Omega.{arith}
+use lib.ListN.{length, take}
 use borrow.Author.Tests.{le-ltb}
 use Rattle.definition.specs.Escapes.{Read, got, refused}
 use Rattle.definition.specs.Body.{Piece, readBody}
 use Rattle.definition.specs.Records.{Item, Answer, answerOf}
-use Rattle.definition.specs.Entry.{Literal, oneMore, sixes, body, firstStart, entry}
-use Rattle.definition.specs.Reading.{Outcome, accepts, refuses, refusalIn, readLiteral, andThen, readFrom, sortOf, uMark, lastEnd, answered, read, outcomeOf, roomFor, roomed, called, readInto, readNumbers}
+use Rattle.definition.specs.Entry.{Literal, oneMore, sixes, body, moved, firstStart, entry}
+use Rattle.definition.specs.Reading.{Outcome, accepts, refuses, allChars, refusalIn, readLiteral, andThen, readFrom, sortOf, uMark, lastEnd, answered, read, outcomeOf, shortOf, roomFor, roomed, called, readInto, readNumbers}
 use Rattle.definition.specs.Join.{shifted, joinOutcomes, Enough}
 use Rattle.definition.proofs.Laid.{answer-append}
+use Rattle.definition.proofs.Placed.{Standing, from-stands, number-in}
 use Rattle.definition.proofs.EntrySplit.{entry-left, entry-right, sort-append}
 
 -- a refusal's literal number, raised by n
 shift : ℕ → Outcome (List Item) → Outcome (List Item)
 shift n (accepts xs) = accepts xs
-shift n (refuses r) = refuses (shifted n r)
+shift n (refuses r) = refuses (moved (n + r .literal) (r .chars) r)
 
 shift-literal : (script : List ℕ) (n i : ℕ) (l : Literal) → readLiteral script (n + i) l ≡ shift n (readLiteral script i l)
-unfolding refusalIn readLiteral shift shifted
+unfolding refusalIn readLiteral shift moved
 shift-literal script n i l = go (readBody (l .kind) (body script l)) refl
   where
     go : (r : Read (List Piece)) → readBody (l .kind) (body script l) ≡ r → readLiteral script (n + i) l ≡ shift n (readLiteral script i l)
@@ -67,30 +69,49 @@ unfolding lastEnd
 end-append e [] y ys = refl
 end-append e (x ∷ xs) y ys = end-append (x .end) xs y ys
 
-read-passed : (script : List ℕ) (ls : List Literal) → entry script ls ≡ none → read script ls ≡ answered ls (readFrom script 0 ls)
+read-passed : (script : List ℕ) (ls : List Literal) → entry script ls ≡ none → read script ls ≡ answered script ls (readFrom script 0 ls)
 unfolding read
 read-passed script ls e = rw (e, read)
 
+-- the characters of two runs, and of the literals before one of either
+chars-append : (script : List ℕ) (xs ys : List Literal) → allChars script (xs ++ ys) ≡ allChars script xs + allChars script ys
+unfolding allChars
+chars-append script [] ys = omega arith
+chars-append script (x ∷ xs) ys = omega (arith, chars-append script xs ys)
+
+take-first : (n : ℕ) (xs ys : List Literal) → n ≤ length xs → take n (xs ++ ys) ≡ take n xs
+take-first zero xs ys h = refl
+take-first (suc n) [] ys h = absurd (omega arith)
+take-first (suc n) (x ∷ xs) ys h = ap (λ l. x ∷ l) (take-first n xs ys (omega arith))
+
+take-second : (n : ℕ) (xs ys : List Literal) → take (length xs + n) (xs ++ ys) ≡ xs ++ take n ys
+take-second n [] ys = ap (λ k. take k ys) (zero-add n)
+take-second n (x ∷ xs) ys = ap (λ k. take k (x ∷ (xs ++ ys))) (suc-add (length xs) n) ∙ ap (λ l. x ∷ l) (take-second n xs ys)
+
 module _ (script : List ℕ) (x : Literal) (xs : List Literal) (y : Literal) (ys : List Literal) (passed : entry script ((x ∷ xs) ++ (y ∷ ys)) ≡ none) where
-  answered-join : (o p : Outcome (List Item))
-      → answered ((x ∷ xs) ++ (y ∷ ys)) (andThen o (shift (length (x ∷ xs)) p)) ≡ joinOutcomes (length (x ∷ xs)) (answered (x ∷ xs) o) (answered (y ∷ ys) p)
-  unfolding answered andThen shift joinOutcomes uMark firstStart
-  answered-join (refuses r) p = refl
-  answered-join (accepts ps) (refuses r) = refl
-  answered-join (accepts ps) (accepts qs) =
+  answered-join : (o p : Outcome (List Item)) → Standing script 0 (x ∷ xs) o
+      → answered script ((x ∷ xs) ++ (y ∷ ys)) (andThen o (shift (length (x ∷ xs)) p)) ≡ joinOutcomes (length (x ∷ xs)) (answered script (x ∷ xs) o) (answered script (y ∷ ys) p)
+  unfolding answered andThen shift joinOutcomes shifted moved uMark firstStart answerOf
+  answered-join (refuses r) p h =
+      ap (λ l. refuses (moved (r .literal) (allChars script l + r .chars) r)) (take-first (r .literal) (x ∷ xs) (y ∷ ys) (omega (arith, number-in (h .named))))
+  answered-join (accepts ps) (refuses r) h =
+      ap (λ n. refuses (moved (length (x ∷ xs) + r .literal) (n + r .chars) r))
+      (ap (allChars script) (take-second (r .literal) (x ∷ xs) (y ∷ ys)) ∙ chars-append script (x ∷ xs) (take (r .literal) (y ∷ ys)))
+      ∙ ap (λ n. refuses (moved (length (x ∷ xs) + r .literal) n r)) (add-assoc (allChars script (x ∷ xs)) (allChars script (take (r .literal) (y ∷ ys))) (r .chars))
+  answered-join (accepts ps) (accepts qs) h =
       ap accepts
-      (ap₂ (λ k e. answerOf k (uMark (x ∷ xs)) (x .start) e (ps ++ qs)) (sort-append script x xs y ys passed) (end-append 0 (x ∷ xs) y ys)
-      ∙ answer-append (sortOf (x ∷ xs)) (sortOf (y ∷ ys)) (uMark (x ∷ xs)) (uMark (y ∷ ys)) (x .start) (y .start) (lastEnd 0 (x ∷ xs)) (lastEnd 0 (y ∷ ys)) ps qs)
+      ((λ i. answerOf (sort-append script x xs y ys passed i) (uMark (x ∷ xs)) (x .start) (end-append 0 (x ∷ xs) y ys i) (chars-append script (x ∷ xs) (y ∷ ys) i) (ps ++ qs))
+      ∙ answer-append (sortOf (x ∷ xs)) (sortOf (y ∷ ys)) (uMark (x ∷ xs)) (uMark (y ∷ ys)) (x .start) (y .start) (lastEnd 0 (x ∷ xs)) (lastEnd 0 (y ∷ ys)) (allChars script (x ∷ xs)) (allChars script (y ∷ ys)) ps qs)
 
   -- DEMAND 3, with room for anything: two runs, each not empty, that together pass the entry checks
   pub read-join : read script ((x ∷ xs) ++ (y ∷ ys)) ≡ joinOutcomes (length (x ∷ xs)) (read script (x ∷ xs)) (read script (y ∷ ys))
   read-join =
       read-passed script ((x ∷ xs) ++ (y ∷ ys)) passed
-      ∙ ap (answered ((x ∷ xs) ++ (y ∷ ys)))
+      ∙ ap (answered script ((x ∷ xs) ++ (y ∷ ys)))
       (from-append script 0 (x ∷ xs) (y ∷ ys)
       ∙ ap (λ k. andThen (readFrom script 0 (x ∷ xs)) (readFrom script k (y ∷ ys))) (zero-add (length (x ∷ xs)) ∙ sym (add-zero (length (x ∷ xs))))
       ∙ ap (andThen (readFrom script 0 (x ∷ xs))) (shift-from script (length (x ∷ xs)) 0 (y ∷ ys)))
-      ∙ answered-join (readFrom script 0 (x ∷ xs)) (readFrom script 0 (y ∷ ys))
+      ∙ answered-join (readFrom script 0 (x ∷ xs)) (readFrom script 0 (y ∷ ys)) (from-stands script 0 (x ∷ xs))
       ∙ ap₂ (joinOutcomes (length (x ∷ xs)))
       (sym (read-passed script (x ∷ xs) (entry-left script x xs y ys passed)))
       (sym (read-passed script (y ∷ ys) (entry-right script x xs y ys passed)))

@@ -92,10 +92,10 @@ laid-raise n m (x ∷ xs) =
     ap (λ l. recordAt (n + m) x ∷ l) (ap (λ k. laid k xs) (add-assoc n m (length (x .text))) ∙ laid-raise n (m + length (x .text)) xs)
 
 -- the answer over two lists of items is the join of the two answers
-pub answer-append : (q q′ : Sort) (u u′ s s′ e e′ : ℕ) (xs ys : List Item)
-    → answerOf (joinSort q q′) u s e′ (xs ++ ys) ≡ join (answerOf q u s e xs) (answerOf q′ u′ s′ e′ ys)
+pub answer-append : (q q′ : Sort) (u u′ s s′ e e′ c c′ : ℕ) (xs ys : List Item)
+    → answerOf (joinSort q q′) u s e′ (c + c′) (xs ++ ys) ≡ join (answerOf q u s e c xs) (answerOf q′ u′ s′ e′ c′ ys)
 unfolding answerOf join merged bothItems
-answer-append q q′ u u′ s s′ e e′ xs ys = λ i. record { sort = joinSort q q′; uMark = u; start = s; end = e′; records = records i; text = text i }
+answer-append q q′ u u′ s s′ e e′ c c′ xs ys = λ i. record { sort = joinSort q q′; uMark = u; start = s; end = e′; records = records i; text = text i; chars = c + c′ }
   where
     X : List Item
     X = merge itemRole bothItems xs

@@ -20,6 +20,8 @@ pub mod Depths
 pub mod Prefix
 pub mod ViewLaw
 pub mod Room
+pub mod Tight
+pub mod Lent
 pub mod Shown
 pub mod Grammar
 pub mod FieldState

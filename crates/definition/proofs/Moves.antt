@@ -292,11 +292,11 @@ field-at-end : (s : List ℕ) (i : ℕ) (f : Field) → atEnd s i ≡ true → c
 unfolding caseOf fieldCase
 field-at-end s i (state e b o c d w) h = rw h
 
--- the size of a field's state: the expression, the spaces and the `=`, twice
+-- the size of a field's state: the expression, the spaces and the `=`, four times, so that each byte adds one
 abbrev pub fieldSize : Field → ℕ
-fieldSize (state e b o c d w) = 2 * (length e + w + (if d then 1 else 0))
+fieldSize (state e b o c d w) = 4 * (length e + w + (if d then 1 else 0))
 
-add-size : (t : List ℕ) (b : Bool) (f : Field) → fieldSize (add t b f) ≡ fieldSize f + 2 * length t
+add-size : (t : List ℕ) (b : Bool) (f : Field) → fieldSize (add t b f) ≡ fieldSize f + 4 * length t
 unfolding add
 add-size t b′ (state e b o c d w) = omega (arith, length-append e t)
 
@@ -364,7 +364,7 @@ module _ (s : List ℕ) (i : ℕ) (h : i < length s) where
         go false = (λ q. (tt, refl), on-by-one s i h .1)
 
     -- the state goes on as it is, but for its `=` or its spaces
-    skipping : (d′ : Bool) (w′ : ℕ) → fieldSize (state e b o c d′ w′) ≤ fieldSize (state e b o c d w) + 2 → (Open s i o → Open s (next s i) o) → Goes (goes (next s i) (state e b o c d′ w′))
+    skipping : (d′ : Bool) (w′ : ℕ) → fieldSize (state e b o c d′ w′) ≤ fieldSize (state e b o c d w) + 4 → (Open s i o → Open s (next s i) o) → Goes (goes (next s i) (state e b o c d′ w′))
     skipping d′ w′ l t = let k = on-by-one s i h in (k .0, k .1, omega arith, t)
 
   close-ahead : (e : List ℕ) (b : Bool) (o : List Bracket) (c : ℕ) (d : Bool) (w : ℕ) → (code s i is ")]}") ≡ true → Goes e b o c d w (closeMove s i (state e b o c d w))
@@ -456,7 +456,7 @@ finished-light depth from i j (state e b o c d w) p h = go b
     c′ : ℕ
     c′ = conversionOf d c p
 
-    pieces : (d : Bool) (p : Option (List Piece)) → weight (selfDocumenting depth d e w ++ fieldPieces depth e c′ from p) + 4 * i ≤ 2 * (length e + w + (if d then 1 else 0)) + specWeight p + 4 * j
+    pieces : (d : Bool) (p : Option (List Piece)) → weight (selfDocumenting depth d e w ++ fieldPieces depth e c′ from p) + 4 * i ≤ 4 * (length e + w + (if d then 1 else 0)) + specWeight p + 4 * j
     pieces true none = omega (arith, length-append e (61 ∷ []), length-replicate {A = ℕ} w 32)
     pieces true (some ps) = omega (arith, length-append e (61 ∷ []), length-replicate {A = ℕ} w 32)
     pieces false none = omega arith

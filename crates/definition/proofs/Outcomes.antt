@@ -13,8 +13,8 @@ use Rattle.definition.specs.Chars.{if_then_else_}
 use Rattle.definition.specs.Escapes.{Read, got, refused}
 use Rattle.definition.specs.Body.{Piece, readBody}
 use Rattle.definition.specs.Records.{Item, Record, wordsOf, merged, texts, recordAt, laid, cover, Answer, answerOf}
-use Rattle.definition.specs.Entry.{Literal, sixes, placeOf, body, Refusal, refusal, notEmpty, notMany, firstBad, bad, allGood, total, notLong, formed, illFormed, allUtf8, anyOf, firstStart, notMixed, firstOf, entry}
-use Rattle.definition.specs.Reading.{Outcome, accepts, refuses, refusalIn, readLiteral, andThen, readFrom, uMark, lastEnd, answered, read, outcomeOf, roomFor, roomed, allWords, inFront, wordsAfter, textAfter, Call, called, readInto, readNumbers}
+use Rattle.definition.specs.Entry.{Literal, sixes, placeOf, body, Refusal, refusal, moved, notEmpty, notMany, firstBad, bad, allGood, total, notLong, formed, illFormed, allUtf8, anyOf, firstStart, notMixed, firstOf, entry}
+use Rattle.definition.specs.Reading.{Outcome, accepts, refuses, refusalIn, readLiteral, andThen, readFrom, uMark, lastEnd, answered, read, outcomeOf, shortOf, roomFor, roomed, allWords, inFront, wordsAfter, textAfter, Call, called, readInto, readNumbers}
 use Rattle.definition.proofs.Moves.{detailed, OfBody, Sound}
 use Rattle.definition.proofs.Fuel.{body-reading}
 
@@ -128,17 +128,17 @@ abbrev pub Numbered : Option Refusal → Outcome Answer → Type 0
 Numbered (some r) o = OfEntry r × (o ≡ refuses r)
 Numbered none o = FromBody o
 
-answered-body : (ls : List Literal) (o : Outcome (List Item)) → FromBody o → FromBody (answered ls o)
-unfolding answered
-answered-body ls (accepts xs) h = tt
-answered-body ls (refuses r) h = h
+answered-body : (script : List ℕ) (ls : List Literal) (o : Outcome (List Item)) → FromBody o → FromBody (answered script ls o)
+unfolding answered moved
+answered-body script ls (accepts xs) h = tt
+answered-body script ls (refuses r) h = h
 
 pub read-numbered : (script : List ℕ) (ls : List Literal) → Numbered (entry script ls) (read script ls)
 unfolding read
 read-numbered script ls = go (entry script ls) refl (entry-numbered script ls)
   where
     go : (c : Option Refusal) → entry script ls ≡ c → Refusing OfEntry c → Numbered c (read script ls)
-    go none e h = rw (e, read) (answered-body ls (readFrom script 0 ls) (from-body script 0 ls))
+    go none e h = rw (e, read) (answered-body script ls (readFrom script 0 ls) (from-body script 0 ls))
     go (some r) e h = (h, rw (e, read) refl)
 
 -- AN ACCEPTANCE'S OFFSETS AND LENGTHS: the text from n to m lies in the records in order, without gaps
@@ -169,10 +169,10 @@ pub gapless-sum : (n : ℕ) (rs : List Record) (m : ℕ) → Gapless n rs m → 
 gapless-sum n [] m h = omega arith
 gapless-sum n (r ∷ rs) m h = omega (arith, gapless-sum (n + r .size) rs m (h .1))
 
-answered-sane : (ls : List Literal) (o : Outcome (List Item)) → FromBody o → Sane (answered ls o)
-unfolding answered answerOf
-answered-sane ls (refuses r) h = body-listed r h
-answered-sane ls (accepts xs) h = (gapless, omega (arith, gapless-sum 0 records (length (texts (merged xs))) gapless))
+answered-sane : (script : List ℕ) (ls : List Literal) (o : Outcome (List Item)) → FromBody o → Sane (answered script ls o)
+unfolding answered answerOf moved
+answered-sane script ls (refuses r) h = body-listed r h
+answered-sane script ls (accepts xs) h = (gapless, omega (arith, gapless-sum 0 records (length (texts (merged xs))) gapless))
   where
     records : List Record
     records = map (cover (firstStart ls) (lastEnd 0 ls) (uMark ls)) (laid 0 (merged xs))
@@ -188,11 +188,11 @@ unfolding read
 read-sane script ls = go (entry script ls) refl (entry-numbered script ls)
   where
     go : (c : Option Refusal) → entry script ls ≡ c → Refusing OfEntry c → Sane (read script ls)
-    go none e h = rw (e, read) (answered-sane ls (readFrom script 0 ls) (from-body script 0 ls))
+    go none e h = rw (e, read) (answered-sane script ls (readFrom script 0 ls) (from-body script 0 ls))
     go (some r) e h = rw (e, read) (entry-listed r h)
 
 roomed-sane : (w t : ℕ) (o : Outcome Answer) → Sane o → Sane (roomed w t o)
-unfolding outcomeOf roomFor roomed refusal
+unfolding outcomeOf roomFor shortOf roomed refusal moved
 roomed-sane w t (refuses r) h = h
 roomed-sane w t (accepts x) h = go (ltb (w / 8) (length (x .records))) refl (ltb t (length (x .text))) refl
   where

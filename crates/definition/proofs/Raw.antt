@@ -14,7 +14,7 @@ use Rattle.definition.specs.Escapes.{got}
 use Rattle.definition.specs.Body.{literal, TextCase, textCase, textMove, filled, textN, enough, readBody}
 use Rattle.definition.specs.Records.{top, item, itemOf, wordsOf, merge, merged, glue, texts, laid, recordAt, cover, covers, joined, Answer, answerOf}
 use Rattle.definition.specs.Entry.{Literal, sixes, oneMore, body, anyOf, firstStart, entry}
-use Rattle.definition.specs.Reading.{accepts, readLiteral, andThen, readFrom, sortOf, uMark, lastEnd, answered, read, roomed, allWords, inFront, wordsAfter, textAfter, sortNumber, numbers, Call, called, readInto, readNumbers}
+use Rattle.definition.specs.Reading.{accepts, readLiteral, andThen, readFrom, sortOf, uMark, lastEnd, allChars, answered, read, roomed, allWords, inFront, wordsAfter, textAfter, sortNumber, numbers, Call, called, readInto, readNumbers}
 use Rattle.definition.specs.Matched.{braceless}
 use Rattle.definition.proofs.CharLaws.{cases, code-is, next-past, next-in, next-from}
 use Rattle.definition.proofs.Steps.{text-goes, text-ends}
@@ -83,13 +83,13 @@ module _ (script : List ℕ) (triple offset size start end : ℕ) where
   -- one literal of its bytes
   abbrev pub RawIs : (words text : List ℕ) → Call → Type 0
   RawIs words text c =
-      (numbers (c .outcome) ≡ 0 ∷ 1 ∷ 0 ∷ start ∷ end ∷ 1 ∷ length bytes ∷ [])
+      (numbers (c .outcome) ≡ 0 ∷ 1 ∷ 0 ∷ start ∷ end ∷ 1 ∷ length bytes ∷ 0 ∷ allChars script (alone ∷ []) ∷ [])
       × (c .words ≡ inFront (1 ∷ 0 ∷ length bytes ∷ start ∷ end ∷ 0 ∷ 0 ∷ 0 ∷ []) words)
       × (c .text ≡ inFront bytes text)
 
   module _ (passed : entry script (alone ∷ []) ≡ none) (free : braceless bytes ≡ true) (some-byte : 1 ≤ length bytes) where
     abbrev answer : Answer
-    answer = answerOf joined 0 start end (item top 1 bytes start end 0 0 0 ∷ [])
+    answer = answerOf joined 0 start end (allChars script (alone ∷ [])) (item top 1 bytes start end 0 0 0 ∷ [])
 
     raw-from : readFrom script 0 (alone ∷ []) ≡ accepts (item top 1 bytes start end 0 0 0 ∷ [])
     unfolding readFrom andThen readLiteral itemOf
@@ -110,7 +110,7 @@ module _ (script : List ℕ) (triple offset size start end : ℕ) where
       into-raw =
           let room : roomed (length words) (length text) (accepts answer) ≡ accepts answer = roomed-enough (length words) (length text) answer (omega (arith, raw-words .2)) (omega (arith, ap length (raw-words .1))) in
           rw (raw-read, room) (
-            ap₂ (λ n m. 0 ∷ 1 ∷ 0 ∷ start ∷ end ∷ n ∷ m ∷ []) (raw-words .2) (ap length (raw-words .1)),
+            ap₂ (λ n m. 0 ∷ 1 ∷ 0 ∷ start ∷ end ∷ n ∷ m ∷ 0 ∷ allChars script (alone ∷ []) ∷ []) (raw-words .2) (ap length (raw-words .1)),
             ap (λ l. inFront l words) (raw-words .0),
             ap (λ l. inFront l text) (raw-words .1),
           )

@@ -10,8 +10,8 @@ use lib.ListN.{length}
 use borrow.Author.Tests.{le-ltb, leb-true}
 use Rattle.definition.specs.Numbers.{refusals, _among_, notSixes, tooFewRecordPlaces, tooLittleTextRoom}
 use Rattle.definition.specs.Records.{Answer}
-use Rattle.definition.specs.Entry.{Literal, Refusal, refusal, sixes, entry}
-use Rattle.definition.specs.Reading.{Outcome, accepts, refuses, read, outcomeOf, roomFor, roomed, Call, called, readInto, readNumbers}
+use Rattle.definition.specs.Entry.{Literal, Refusal, refusal, moved, sixes, entry}
+use Rattle.definition.specs.Reading.{Outcome, accepts, refuses, read, outcomeOf, shortOf, roomFor, roomed, Call, called, readInto, readNumbers}
 use Rattle.definition.proofs.Moves.{detailed, OfBody}
 use Rattle.definition.proofs.Outcomes.{Numbered, read-numbered}
 
@@ -22,7 +22,7 @@ Needed x (refuses r) = (r .a ≡ length (x .records)) × (r .b ≡ length (x .te
 
 module _ (w t : ℕ) where
   roomed-needed : (x : Answer) → Needed x (roomed w t (accepts x))
-  unfolding outcomeOf roomFor roomed refusal
+  unfolding outcomeOf roomFor shortOf roomed refusal moved
   roomed-needed x = go (ltb (w / 8) (length (x .records))) refl (ltb t (length (x .text))) refl
     where
       go : (a : Bool) → ltb (w / 8) (length (x .records)) ≡ a → (b : Bool) → ltb t (length (x .text)) ≡ b → Needed x (roomed w t (accepts x))
@@ -73,7 +73,7 @@ module _ (script words text words′ text′ : List ℕ) (x : Answer) where
     numbers-enough h k = listed (λ c. c .outcome ≡ accepts x) (λ ls i. into-enough ls i h k)
 
 -- WITH ROOM FOR ANYTHING no number is above 28
-abbrev Below : Outcome Answer → Type 0
+abbrev pub Below : Outcome Answer → Type 0
 Below (accepts x) = Unit {0}
 Below (refuses r) = r .number ≤ 28
 
@@ -91,7 +91,7 @@ body-below n a b h = go (leb 10 n) (detailed n a b) h
     go true y h = under n 28 (omega arith) (n among refusals) y h
     go false y h = absurd h
 
-read-below : (script : List ℕ) (ls : List Literal) → Below (read script ls)
+pub read-below : (script : List ℕ) (ls : List Literal) → Below (read script ls)
 read-below script ls = go (entry script ls) (read script ls) (read-numbered script ls)
   where
     go : (c : Option Refusal) (o : Outcome Answer) → Numbered c o → Below o
@@ -110,12 +110,12 @@ same-refusal : (a b : Refusal) → _≡_ {A = Outcome Answer} (refuses a) (refus
 same-refusal a b e = cc
 
 roomed-told : (w t : ℕ) (o : Outcome Answer) (r : Refusal) → Below o → 30 ≤ r .number → roomed w t o ≡ refuses r → Told r o
-unfolding outcomeOf roomFor roomed refusal
+unfolding outcomeOf roomFor shortOf roomed refusal moved
 roomed-told w t (refuses r′) r b h e = let s = same-refusal r′ r e in let b′ = rw s at b in absurd (omega arith)
 roomed-told w t (accepts x) r b h e = go (ltb (w / 8) (length (x .records))) refl (ltb t (length (x .text))) refl
   where
-    short : (number : ℕ) → _≡_ {A = Outcome Answer} (refuses (refusal number 0 0 (length (x .records)) (length (x .text)))) (refuses r) → Told r (accepts x)
-    short number q = rw (← same-refusal (refusal number 0 0 (length (x .records)) (length (x .text))) r q) (x, refl, refl, refl)
+    short : (number : ℕ) → _≡_ {A = Outcome Answer} (refuses (shortOf number (length (x .records)) (length (x .text)) (x .chars))) (refuses r) → Told r (accepts x)
+    short number q = rw (← same-refusal (shortOf number (length (x .records)) (length (x .text)) (x .chars)) r q) (x, refl, refl, refl)
 
     go : (p : Bool) → ltb (w / 8) (length (x .records)) ≡ p → (q : Bool) → ltb t (length (x .text)) ≡ q → Told r (accepts x)
     go true p q k = short tooFewRecordPlaces (rw p at e)

@@ -1,4 +1,5 @@
--- 01's starred readings, 02's five reasons of 20, and its places of 23: a table and a claim over it each, computed. Assumes nothing.
+-- 01's starred readings, 02's five reasons of 20, its places of 23 and its count of characters: a table and a claim over it each, computed.
+-- Assumes nothing.
 use Prim.Native.Nat.{ℕ, _+_}
 use Prim.Native.String.{String}
 use mathlib.Core.Path.{_≡_, refl}
@@ -10,8 +11,8 @@ use Rattle.definition.specs.Counts.{more, countFrom, counted}
 use Rattle.definition.specs.Escapes.{octalDigit, octalFrom, hexDigit, scalar, hexFrom, lookup, named, unicodeName, escapeCase, escape, encode, meant}
 use Rattle.definition.specs.Body.{withEscape, stringCase, stringMove, stringN, textCase, textMove, filled, fresh, add, documented, spaced, outside, fieldCase, caseOf, conversionMove, openMove, closeMove, quoteMove, fieldMove, direct, conversionOf, fieldPieces, selfDocumenting, finished, specified, plainRun, textN, alone, readBody}
 use Rattle.definition.specs.Records.{Role, top, raw, inner, touching, covers, Record, item, itemOf, glue, merge, bothItems, merged, texts, recordAt, laid, cover, Sort, plain, joined, bytesOnly, Answer, answerOf}
-use Rattle.definition.specs.Entry.{Literal, opening, placeOf, body, refusal, notEmpty, notMany, firstBad, bad, allGood, total, notLong, formed, illFormed, allUtf8, anyOf, firstStart, notMixed, firstOf, entry}
-use Rattle.definition.specs.Reading.{Outcome, accepts, refuses, openedAt, refusalIn, readLiteral, andThen, readFrom, sortOf, uMark, lastEnd, answered, read}
+use Rattle.definition.specs.Entry.{Literal, opening, placeOf, body, refusal, moved, notEmpty, notMany, firstBad, bad, allGood, total, notLong, formed, illFormed, allUtf8, anyOf, firstStart, notMixed, firstOf, entry}
+use Rattle.definition.specs.Reading.{Outcome, accepts, refuses, openedAt, refusalIn, readLiteral, andThen, readFrom, sortOf, uMark, lastEnd, allChars, answered, read}
 
 abbrev literal : (kind offset size start end : ℕ) → Literal
 literal kind offset size start end = record { kind = kind; triple = 0; offset = offset; size = size; start = start; end = end }
@@ -26,13 +27,14 @@ rec role kind offset size start end mode parts place =
     record { role = role; kind = kind; offset = offset; size = size; start = start; end = end; mode = mode; parts = parts; place = place }
 
 -- an acceptance that starts at 0
-abbrev accepted : Sort → ℕ → List Record → List ℕ → Outcome Answer
-accepted sort end records text = accepts (record { sort = sort; uMark = 0; start = 0; end = end; records = records; text = text })
+abbrev accepted : Sort → (end chars : ℕ) → List Record → List ℕ → Outcome Answer
+accepted sort end chars records text =
+    accepts (record { sort = sort; uMark = 0; start = 0; end = end; records = records; text = text; chars = chars })
 
--- a refusal in the first line
+-- a refusal in the first line of the first body: its column is the characters before
 abbrev refusedAs : (number place a b opened column : ℕ) → Outcome Answer
 refusedAs number place a b opened column =
-    refuses (record { number = number; literal = 0; place = place; a = a; b = b; opened = opened; line = 0; column = column })
+    refuses (record { number = number; literal = 0; place = place; a = a; b = b; opened = opened; line = 0; column = column; chars = column })
 
 pub record Row : Type 0 where
   pub reading : Outcome Answer
@@ -45,15 +47,15 @@ reading gives is = record { reading = reading; is = is }
 pub starred : List Row
 unfolding ascii
 starred =
-    (one 1 "{x!=y}" gives accepted joined 9 (rec inner 2 0 4 0 9 0 0 3 ∷ []) (ascii "x!=y"))
+    (one 1 "{x!=y}" gives accepted joined 9 6 (rec inner 2 0 4 0 9 0 0 3 ∷ []) (ascii "x!=y"))
     ∷ (one 1 "{x!r b}" gives refusedAs 20 6 2 0 0 4)
     ∷ (one 1 "{x:{y:{z}}}" gives refusedAs 24 8 0 0 0 6)
-    ∷ (one 1 "{x = }" gives accepted joined 9 (rec top 1 0 4 0 9 0 0 0 ∷ rec inner 2 4 2 0 9 114 0 3 ∷ []) (ascii "x = x "))
-    ∷ (one 1 "{x=()}" gives accepted joined 9 (rec top 1 0 4 0 9 0 0 0 ∷ rec inner 2 4 3 0 9 114 0 3 ∷ []) (ascii "x()=x()"))
-    ∷ (one 1 "" gives accepted joined 3 [] [])
+    ∷ (one 1 "{x = }" gives accepted joined 9 6 (rec top 1 0 4 0 9 0 0 0 ∷ rec inner 2 4 2 0 9 114 0 3 ∷ []) (ascii "x = x "))
+    ∷ (one 1 "{x=()}" gives accepted joined 9 6 (rec top 1 0 4 0 9 0 0 0 ∷ rec inner 2 4 3 0 9 114 0 3 ∷ []) (ascii "x()=x()"))
+    ∷ (one 1 "" gives accepted joined 3 0 [] [])
     ∷ (one 1 "{(]}" gives refusedAs 23 5 40 93 4 3)
     ∷ (one 1 "{x:\\n>{w}\\n}"
-    gives accepted joined 15
+    gives accepted joined 15 12
     (rec inner 2 0 1 0 15 0 1 3
     ∷ rec inner 3 1 0 0 15 0 3 0
     ∷ rec inner 1 1 3 0 15 0 0 0
@@ -62,9 +64,9 @@ starred =
     ∷ [])
     (ascii "x\\n>w\n"))
     ∷ (read (ascii "\"\" f\"{x}\"") (literal 0 1 0 0 2 ∷ literal 1 5 3 3 9 ∷ [])
-    gives accepted joined 9 (rec top 1 0 0 0 9 0 0 0 ∷ rec inner 2 0 1 3 9 0 0 6 ∷ []) (ascii "x"))
-    ∷ (one 2 "\\777" gives accepted bytesOnly 7 (rec raw 4 0 1 0 7 0 0 0 ∷ []) (255 ∷ []))
-    ∷ (one 0 "\\777" gives accepted plain 6 (rec top 1 0 2 0 6 0 0 0 ∷ []) (0xC7 ∷ 0xBF ∷ []))
+    gives accepted joined 9 3 (rec top 1 0 0 0 9 0 0 0 ∷ rec inner 2 0 1 3 9 0 0 6 ∷ []) (ascii "x"))
+    ∷ (one 2 "\\777" gives accepted bytesOnly 7 4 (rec raw 4 0 1 0 7 0 0 0 ∷ []) (255 ∷ []))
+    ∷ (one 0 "\\777" gives accepted plain 6 4 (rec top 1 0 2 0 6 0 0 0 ∷ []) (0xC7 ∷ 0xBF ∷ []))
     ∷ []
 
 -- what 20's first detail says: the body ends right after `!`; the character after a conversion is neither `}` nor `:`, or there is none;
@@ -92,12 +94,21 @@ openers =
     ∷ (one 1 "{x:{(]}}" gives refusedAs 23 8 40 93 7 6)
     ∷ []
 
+-- the characters that are counted: é (two bytes), a line end and a, read; é, and then a body that is refused after a line end, é and `}`
+pub counts : List Row
+counts =
+    (read (0xC3 ∷ 0xA9 ∷ 10 ∷ 97 ∷ []) (literal 0 0 2 0 4 ∷ literal 0 2 2 4 8 ∷ [])
+    gives accepted plain 8 3 (rec top 1 0 4 0 8 0 0 0 ∷ []) (0xC3 ∷ 0xA9 ∷ 10 ∷ 97 ∷ []))
+    ∷ (read (0xC3 ∷ 0xA9 ∷ 10 ∷ 0xC3 ∷ 0xA9 ∷ 125 ∷ 97 ∷ []) (literal 0 0 2 0 4 ∷ literal 1 2 5 4 12 ∷ [])
+    gives refuses (record { number = 25; literal = 1; place = 10; a = 0; b = 0; opened = 0; line = 1; column = 2; chars = 4 }))
+    ∷ []
+
 abbrev pub Given : List Row → Type 0
 Given rows = map (λ r. r .reading) rows ≡ map (λ r. r .is) rows
 
-computed : Given starred × Given unclosed × Given openers
-unfolding starred unclosed openers prefix ascii insideAny table37 following follow width decoded code next char formedFrom wellFormed utf8 whiteSpace before same more countFrom counted octalDigit octalFrom hexDigit scalar hexFrom lookup named unicodeName escapeCase escape encode meant withEscape stringCase stringMove stringN textCase textMove filled fresh add documented spaced outside fieldCase caseOf conversionMove openMove closeMove quoteMove fieldMove direct conversionOf fieldPieces selfDocumenting finished specified plainRun textN alone readBody touching covers item itemOf glue merge bothItems merged texts recordAt laid cover answerOf opening placeOf body refusal notEmpty notMany firstBad bad allGood total notLong formed illFormed allUtf8 anyOf firstStart notMixed firstOf entry openedAt refusalIn readLiteral andThen readFrom sortOf uMark lastEnd answered read
-computed = (refl, refl, refl)
+computed : Given starred × Given unclosed × Given openers × Given counts
+unfolding starred unclosed openers counts prefix ascii insideAny table37 following follow width decoded code next char formedFrom wellFormed utf8 whiteSpace before same more countFrom counted octalDigit octalFrom hexDigit scalar hexFrom lookup named unicodeName escapeCase escape encode meant withEscape stringCase stringMove stringN textCase textMove filled fresh add documented spaced outside fieldCase caseOf conversionMove openMove closeMove quoteMove fieldMove direct conversionOf fieldPieces selfDocumenting finished specified plainRun textN alone readBody touching covers item itemOf glue merge bothItems merged texts recordAt laid cover answerOf opening placeOf body refusal moved notEmpty notMany firstBad bad allGood total notLong formed illFormed allUtf8 anyOf firstStart notMixed firstOf entry openedAt refusalIn readLiteral andThen readFrom sortOf uMark lastEnd allChars answered read
+computed = (refl, refl, refl, refl)
 
 pub starred-read : Given starred
 starred-read = computed .0
@@ -107,3 +118,6 @@ unclosed-read = computed .1
 
 pub openers-read : Given openers
 openers-read = computed .2
+
+pub counts-read : Given counts
+counts-read = computed .3

@@ -15,7 +15,7 @@ use Rattle.definition.specs.Body.{Piece, literal, field, spec}
 use Rattle.definition.specs.Records.{Role, top, raw, inner, touching, covers, Item, item, itemOf, Record, wordsOf, glue, merge, bothItems, merged, texts, recordAt, laid, cover, Sort, plain, joined, bytesOnly, Answer, answerOf}
 use Rattle.definition.specs.Matched.{matched, blank}
 use Rattle.definition.specs.Entry.{Literal, placeOf, anyOf, firstStart}
-use Rattle.definition.specs.Reading.{accepts, readFrom, sortOf, uMark, lastEnd, read, allWords, sortNumber}
+use Rattle.definition.specs.Reading.{accepts, readFrom, sortOf, uMark, lastEnd, allChars, read, allWords, sortNumber}
 use Rattle.definition.specs.Words.{word, roleAt, recordsFrom, sortFrom, answerFrom, fits, allFit, hasSpec, ordered, gapless, noBytes, oneOf, sorted, recordsFormed, together, atTop, whole, alike, apart, recordsWellFormed, expressed, within, twoDeep, assured}
 use Rattle.definition.proofs.CharLaws.{cases}
 use Rattle.definition.proofs.Seam.{touch-eq, glue-true, glue-false}
@@ -260,12 +260,12 @@ sort-table : (ls : List Literal) (f b : Bool) → anyOf isFString ls ≡ f → a
 unfolding sortOf
 sort-table ls f b p q = rw (p, q) refl
 
-laid-back : (q : Sort) (u s e : ℕ) (xs : List Item) → Good s e u 0 false [] 0 0 (merged xs) → (words text : List ℕ)
-    → answerFrom (sortNumber q) u s e (length (map (cover s e u) (laid 0 (merged xs)))) (length (texts (merged xs))) (allWords (map (cover s e u) (laid 0 (merged xs))) ++ words) (texts (merged xs) ++ text)
-    ≡ answerOf q u s e xs
+laid-back : (q : Sort) (u s e c : ℕ) (xs : List Item) → Good s e u 0 false [] 0 0 (merged xs) → (words text : List ℕ)
+    → answerFrom (sortNumber q) u s e (length (map (cover s e u) (laid 0 (merged xs)))) (length (texts (merged xs))) c (allWords (map (cover s e u) (laid 0 (merged xs))) ++ words) (texts (merged xs) ++ text)
+    ≡ answerOf q u s e c xs
 unfolding answerFrom answerOf
-laid-back q u s e xs g words text =
-    λ i. record { sort = sort-back q i; uMark = u; start = s; end = e; records = records i; text = take-append-seam (texts (merged xs)) text i }
+laid-back q u s e c xs g words text =
+    λ i. record { sort = sort-back q i; uMark = u; start = s; end = e; records = records i; text = take-append-seam (texts (merged xs)) text i; chars = c }
   where
     rs : List Record
     rs = map (cover s e u) (laid 0 (merged xs))
@@ -338,9 +338,9 @@ module _ (script : List ℕ) (ls : List Literal) (x : Answer) (e : read script l
 
   -- and what its numbers, words and text say, whatever stands after them
   pub answer-back : (words text : List ℕ)
-      → answerFrom (sortNumber (x .sort)) (x .uMark) (x .start) (x .end) (length (x .records)) (length (x .text)) (allWords (x .records) ++ words) (x .text ++ text) ≡ x
+      → answerFrom (sortNumber (x .sort)) (x .uMark) (x .start) (x .end) (length (x .records)) (length (x .text)) (x .chars) (allWords (x .records) ++ words) (x .text ++ text) ≡ x
   unfolding answerOf
-  answer-back words text = rw (from .is) (laid-back (sortOf ls) (uMark ls) (firstStart ls) (lastEnd 0 ls) (from .items) good words text)
+  answer-back words text = rw (from .is) (laid-back (sortOf ls) (uMark ls) (firstStart ls) (lastEnd 0 ls) (allChars script ls) (from .items) good words text)
 
   -- every field's expression is matched and not blank
   pub all-expressed : expressed (x .text) (x .records) ≡ true

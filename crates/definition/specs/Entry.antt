@@ -43,7 +43,7 @@ unfoldable pub body : List ℕ → Literal → List ℕ
 body script l = part script (l .offset) (l .offset + l .size)
 
 -- A refusal; `literal` is an index from 0, `opened` the place just after the bracket that 23 names; line and column are its place's, in the
--- literal's body
+-- literal's body; `chars` are the characters that were read
 pub record Refusal : Type 0 where
   pub number : ℕ
   pub literal : ℕ
@@ -53,11 +53,17 @@ pub record Refusal : Type 0 where
   pub opened : ℕ
   pub line : ℕ
   pub column : ℕ
+  pub chars : ℕ
 
--- one that names no bracket, line or column
+-- one that names no bracket, line or column, before any character is read
 unfoldable pub refusal : ℕ → ℕ → ℕ → ℕ → ℕ → Refusal
 refusal number literal place a b =
-    record { number = number; literal = literal; place = place; a = a; b = b; opened = 0; line = 0; column = 0 }
+    record { number = number; literal = literal; place = place; a = a; b = b; opened = 0; line = 0; column = 0; chars = 0 }
+
+-- the same, of another literal and after so many characters
+unfoldable pub moved : (literal chars : ℕ) → Refusal → Refusal
+moved literal chars r =
+    record { number = r .number; literal = literal; place = r .place; a = r .a; b = r .b; opened = r .opened; line = r .line; column = r .column; chars = chars }
 
 -- THE ENTRY CHECKS: each gives its refusal, or none. 1
 unfoldable pub notEmpty : List Literal → Option Refusal

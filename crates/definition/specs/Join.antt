@@ -3,7 +3,7 @@ use Prim.Native.Nat.{ℕ, _+_, _/_, _≤_}
 use mathlib.Core.List.{List, [], _∷_, _++_, map}
 use lib.ListN.{length}
 use Rattle.definition.specs.Records.{Role, Record, glue, cover, Sort, plain, joined, bytesOnly, Answer}
-use Rattle.definition.specs.Entry.{Refusal}
+use Rattle.definition.specs.Entry.{Refusal, moved}
 use Rattle.definition.specs.Reading.{Outcome, accepts, refuses}
 
 -- two records become one, texts joined
@@ -37,7 +37,7 @@ joinSort bytesOnly plain = joined
 joinSort bytesOnly joined = joined
 joinSort bytesOnly bytesOnly = bytesOnly
 
--- start and u mark are A's, end is B's, also in every top-level literal and bytes record
+-- start and u mark are A's, end is B's, also in every top-level literal and bytes record; characters are the sum
 unfoldable pub join : Answer → Answer → Answer
 join x y =
     record {
@@ -47,17 +47,17 @@ join x y =
       end = y .end;
       records = map (cover (x .start) (y .end) (x .uMark)) (seamed (x .records) (map (raise (length (x .text))) (y .records)));
       text = x .text ++ y .text;
+      chars = x .chars + y .chars;
     }
 
--- a refusal of the second of two runs, whose first has n literals
-unfoldable pub shifted : ℕ → Refusal → Refusal
-shifted n r =
-    record { number = r .number; literal = n + r .literal; place = r .place; a = r .a; b = r .b; opened = r .opened; line = r .line; column = r .column }
+-- a refusal of the second of two runs, whose first has n literals and so many characters
+unfoldable pub shifted : (n chars : ℕ) → Refusal → Refusal
+shifted n chars r = moved (n + r .literal) (chars + r .chars) r
 
--- the first's refusal, else the second's with its literal number raised by n, else the join
+-- the first's refusal, else the second's with its literal number raised by n and the first's characters added, else the join
 unfoldable pub joinOutcomes : ℕ → Outcome Answer → Outcome Answer → Outcome Answer
 joinOutcomes n (refuses r) o = refuses r
-joinOutcomes n (accepts x) (refuses r) = refuses (shifted n r)
+joinOutcomes n (accepts x) (refuses r) = refuses (shifted n (x .chars) r)
 joinOutcomes n (accepts x) (accepts y) = accepts (join x y)
 
 -- room enough for an outcome in w words and t bytes: a refusal needs none

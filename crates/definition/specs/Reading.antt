@@ -3,29 +3,44 @@ use Prim.Native.Nat.{ℕ, suc, _+_, _/_}
 use mathlib.Core.List.{List, [], _∷_, _++_, map}
 use mathlib.Core.Option.{Option, none, some}
 use lib.Dec.{ltb, eqb}
-use lib.ListN.{length, drop, replicate}
+use lib.ListN.{length, take, drop, replicate}
 use Rattle.definition.specs.Numbers.{isFString, isBytes, isUnicode, mismatchedDelimiter, notSixes, tooFewRecordPlaces, tooLittleTextRoom}
 use Rattle.definition.specs.Chars.{if_then_else_}
 use Rattle.definition.specs.Counts.{counted}
 use Rattle.definition.specs.Escapes.{Fault, got, refused}
 use Rattle.definition.specs.Body.{readBody}
 use Rattle.definition.specs.Records.{Item, itemOf, Record, wordsOf, Sort, plain, joined, bytesOnly, Answer, answerOf}
-use Rattle.definition.specs.Entry.{Literal, sixes, placeOf, body, Refusal, refusal, anyOf, firstStart, entry}
+use Rattle.definition.specs.Entry.{Literal, sixes, placeOf, body, Refusal, refusal, moved, anyOf, firstStart, entry}
 
 -- An outcome
 pub data Outcome (A : Type 0) : Type 0 where
   accepts : (answer : A) → Outcome A
   refuses : (why : Refusal) → Outcome A
 
+-- the characters of all bodies
+unfoldable pub allChars : List ℕ → List Literal → ℕ
+allChars script [] = 0
+allChars script (l ∷ ls) = counted (body script l) (length (body script l)) .chars + allChars script ls
+
 -- a fault's place just after a bracket: 23 has one
 unfoldable pub openedAt : Literal → Fault → ℕ
 openedAt l x = if eqb (x .number) mismatchedDelimiter then placeOf l (x .opened) else 0
 
--- a fault in a literal, number i of the list
+-- a fault in a literal, number i of the list, after the characters of its body up to there
 unfoldable pub refusalIn : List ℕ → ℕ → Literal → Fault → Refusal
 refusalIn script i l x =
     let k = counted (body script l) (x .taken) in
-    record { number = x .number; literal = i; place = placeOf l (x .taken); a = x .a; b = x .b; opened = openedAt l x; line = k .line; column = k .column }
+    record {
+      number = x .number;
+      literal = i;
+      place = placeOf l (x .taken);
+      a = x .a;
+      b = x .b;
+      opened = openedAt l x;
+      line = k .line;
+      column = k .column;
+      chars = k .chars;
+    }
 
 -- one literal, number i of the list
 unfoldable pub readLiteral : List ℕ → ℕ → Literal → Outcome (List Item)
@@ -59,29 +74,34 @@ unfoldable pub lastEnd : ℕ → List Literal → ℕ
 lastEnd end [] = end
 lastEnd end (l ∷ ls) = lastEnd (l .end) ls
 
-unfoldable pub answered : List Literal → Outcome (List Item) → Outcome Answer
-answered ls (accepts xs) = accepts (answerOf (sortOf ls) (uMark ls) (firstStart ls) (lastEnd 0 ls) xs)
-answered ls (refuses r) = refuses r
+-- an acceptance has the characters of all bodies; a refusal also those of the literals before
+unfoldable pub answered : List ℕ → List Literal → Outcome (List Item) → Outcome Answer
+answered script ls (accepts xs) = accepts (answerOf (sortOf ls) (uMark ls) (firstStart ls) (lastEnd 0 ls) (allChars script ls) xs)
+answered script ls (refuses r) = refuses (moved (r .literal) (allChars script (take (r .literal) ls) + r .chars) r)
 
 -- A WHOLE LIST, with room for anything
 unfoldable pub read : List ℕ → List Literal → Outcome Answer
-read script ls = elim (entry script ls) [ some r ↦ refuses r | none ↦ answered ls (readFrom script 0 ls) ]
+read script ls = elim (entry script ls) [ some r ↦ refuses r | none ↦ answered script ls (readFrom script 0 ls) ]
 
 -- x, unless a check refuses
 unfoldable pub outcomeOf : {A : Type 0} → A → Option Refusal → Outcome A
 outcomeOf x none = accepts x
 outcomeOf x (some r) = refuses r
 
+-- a refusal for room, after all characters
+unfoldable pub shortOf : (number records size chars : ℕ) → Refusal
+shortOf number records size chars = moved 0 chars (refusal number 0 0 records size)
+
 -- 30 before 31, exactly if the buffer holds fewer than needed: record places and bytes that are lent, records and bytes that are needed
-unfoldable pub roomFor : ℕ → ℕ → ℕ → ℕ → Option Refusal
-roomFor places bytes records size =
-    if ltb places records then some (refusal tooFewRecordPlaces 0 0 records size) else
-    if ltb bytes size then some (refusal tooLittleTextRoom 0 0 records size) else none
+unfoldable pub roomFor : (places bytes records size chars : ℕ) → Option Refusal
+roomFor places bytes records size chars =
+    if ltb places records then some (shortOf tooFewRecordPlaces records size chars) else
+    if ltb bytes size then some (shortOf tooLittleTextRoom records size chars) else none
 
 -- w words and t bytes are lent: eight words make one record place
 unfoldable pub roomed : ℕ → ℕ → Outcome Answer → Outcome Answer
 roomed w t (refuses r) = refuses r
-roomed w t (accepts x) = outcomeOf x (roomFor (w / 8) t (length (x .records)) (length (x .text)))
+roomed w t (accepts x) = outcomeOf x (roomFor (w / 8) t (length (x .records)) (length (x .text)) (x .chars))
 
 -- the records' words, in order
 unfoldable pub allWords : List Record → List ℕ
@@ -129,5 +149,5 @@ sortNumber joined = 1
 sortNumber bytesOnly = 2
 
 unfoldable pub numbers : Outcome Answer → List ℕ
-numbers (refuses r) = r .number ∷ r .literal ∷ r .place ∷ r .a ∷ r .b ∷ r .opened ∷ r .line ∷ r .column ∷ []
-numbers (accepts x) = 0 ∷ sortNumber (x .sort) ∷ x .uMark ∷ x .start ∷ x .end ∷ length (x .records) ∷ length (x .text) ∷ []
+numbers (refuses r) = r .number ∷ r .literal ∷ r .place ∷ r .a ∷ r .b ∷ r .opened ∷ r .line ∷ r .column ∷ r .chars ∷ []
+numbers (accepts x) = 0 ∷ sortNumber (x .sort) ∷ x .uMark ∷ x .start ∷ x .end ∷ length (x .records) ∷ length (x .text) ∷ 0 ∷ x .chars ∷ []

@@ -117,7 +117,7 @@ cover start end u r =
 pub data Sort : Type 0 where
   plain joined bytesOnly : Sort
 
--- AN ACCEPTANCE
+-- AN ACCEPTANCE; `chars` are the characters of all bodies
 pub record Answer : Type 0 where
   pub sort : Sort
   pub uMark : ℕ
@@ -125,9 +125,10 @@ pub record Answer : Type 0 where
   pub end : ℕ
   pub records : List Record
   pub text : List ℕ
+  pub chars : ℕ
 
-unfoldable pub answerOf : Sort → ℕ → ℕ → ℕ → List Item → Answer
-answerOf sort u start end xs =
+unfoldable pub answerOf : Sort → ℕ → ℕ → ℕ → ℕ → List Item → Answer
+answerOf sort u start end chars xs =
     record {
       sort = sort;
       uMark = u;
@@ -135,4 +136,5 @@ answerOf sort u start end xs =
       end = end;
       records = map (cover start end u) (laid 0 (merged xs));
       text = texts (merged xs);
+      chars = chars;
     }

@@ -46,13 +46,13 @@ unfoldable pub sortFrom : ℕ → Sort
 sortFrom n = if eqb n 0 then plain else if eqb n 1 then joined else bytesOnly
 
 -- AN ANSWER from its numbers, its words and its text, whatever follows them in their buffers
-unfoldable pub answerFrom : (sort uMark start end count size : ℕ) (words text : List ℕ) → Answer
-answerFrom sort u start end count size words text =
-    record { sort = sortFrom sort; uMark = u; start = start; end = end; records = recordsFrom count 0 words; text = take size text }
+unfoldable pub answerFrom : (sort uMark start end count size chars : ℕ) (words text : List ℕ) → Answer
+answerFrom sort u start end count size chars words text =
+    record { sort = sortFrom sort; uMark = u; start = start; end = end; records = recordsFrom count 0 words; text = take size text; chars = chars }
 
 -- THE ANSWER THAT A CALLER HOLDS: from the numbers that were returned, 0 first, and both buffers
 unfoldable pub heldFrom : (numbers words text : List ℕ) → Answer
-heldFrom ns words text = answerFrom (word ns 1) (word ns 2) (word ns 3) (word ns 4) (word ns 5) (word ns 6) words text
+heldFrom ns words text = answerFrom (word ns 1) (word ns 2) (word ns 3) (word ns 4) (word ns 5) (word ns 6) (word ns 8) words text
 
 -- 01'S RECORD RULES. So many records and text bytes lie in the buffers
 unfoldable pub lie : (count size : ℕ) (words text : List ℕ) → Bool

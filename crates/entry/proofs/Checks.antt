@@ -9,7 +9,7 @@ use lib.Dec.{ltb}
 use lib.ListN.{length}
 use Rattle.definition.specs.Numbers.{emptyList, notSixes, tooManyLiterals}
 use Rattle.definition.specs.Entry.{Refusal, refusal, notEmpty, notMany, firstOf, entry}
-use Rattle.definition.specs.Reading.{Outcome, accepts, refuses, outcomeOf, roomFor}
+use Rattle.definition.specs.Reading.{Outcome, accepts, refuses, allChars, outcomeOf, roomFor}
 use Rattle.definition.proofs.CharLaws.{cases}
 use Rattle.entry.specs.Answers.{laterChecks, checkNumbers}
 use Rattle.entry.specs.Literals.{literals}
@@ -37,18 +37,17 @@ refused n r (some x) e = cc
 
 -- the checks in turn: one that refuses, one that passes, the last one
 module _ (n : ℕ) (c : Option Refusal) (cs : List (Option Refusal)) where
-  pub stops-here : (r : Refusal) (o : Outcome ℕ) → o ≡ refuses r → o ≡ outcomeOf n c → o ≡ outcomeOf n (firstOf (c ∷ cs))
-  unfolding firstOf
-  stops-here r o e h = let s = refused n r c (sym e ∙ h) in rw s (rw s at h)
+  pub stops-here : (m : ℕ) (r : Refusal) (o : Outcome ℕ) → o ≡ refuses r → o ≡ outcomeOf m c → o ≡ outcomeOf n (firstOf (c ∷ cs))
+  unfolding firstOf outcomeOf
+  stops-here m r o e h = let s = refused m r c (sym e ∙ h) in rw s e
 
-  pub goes-on : (k : ℕ) (o p : Outcome ℕ) → o ≡ accepts k → o ≡ outcomeOf n c → p ≡ outcomeOf n (firstOf cs) → p ≡ outcomeOf n (firstOf (c ∷ cs))
+  pub goes-on : (m k : ℕ) (o p : Outcome ℕ) → o ≡ accepts k → o ≡ outcomeOf m c → p ≡ outcomeOf n (firstOf cs) → p ≡ outcomeOf n (firstOf (c ∷ cs))
   unfolding firstOf
-  goes-on k o p e h g = rw (passes n k c (sym e ∙ h)) g
+  goes-on m k o p e h g = rw (passes m k c (sym e ∙ h)) g
 
-pub last-says : (n : ℕ) (c : Option Refusal) → outcomeOf n c ≡ outcomeOf n (firstOf (c ∷ []))
-unfolding firstOf
-last-says n none = refl
-last-says n (some r) = refl
+pub none-stops : (n : ℕ) → accepts n ≡ outcomeOf n (firstOf [])
+unfolding firstOf outcomeOf
+none-stops n = refl
 
 -- flat numbers: 2; then by the literals' indexes, 1, 3 and the later checks
 pub checked-not-sixes : (script ns : List ℕ) → (length ns % 6 ≡ 0 → ⊥) → checkNumbers script ns ≡ refuses (refusal notSixes 0 0 0 0)
@@ -56,9 +55,9 @@ unfolding checkNumbers
 checked-not-sixes script ns h = rw (sixes-none ns h, checkNumbers)
 
 module _ (script ns : List ℕ) (n : ℕ) (six : length ns ≡ n * 6) where
-  pub checked : checkNumbers script ns ≡ outcomeOf n (entry script (literals ns 0 n))
+  pub checked : checkNumbers script ns ≡ outcomeOf (allChars script (literals ns 0 n)) (entry script (literals ns 0 n))
   unfolding checkNumbers
-  checked = rw (sixes-some ns n six, checkNumbers, length-literals ns 0 n)
+  checked = rw (sixes-some ns n six, checkNumbers)
 
   pub checked-none : n ≡ 0 → checkNumbers script ns ≡ refuses (refusal emptyList 0 0 0 0)
   unfolding entry notEmpty firstOf outcomeOf literals
@@ -72,13 +71,13 @@ module _ (script ns : List ℕ) (n : ℕ) (six : length ns ≡ n * 6) where
   unfolding entry notMany firstOf outcomeOf
   checked-many h = rw (checked, not-empty (omega arith), length-literals ns 0 n, lt-ltb 1024 n h)
 
-  pub checked-few : 0 < n → n ≤ 1024 → checkNumbers script ns ≡ outcomeOf n (laterChecks script (literals ns 0 n))
+  pub checked-few : 0 < n → n ≤ 1024 → checkNumbers script ns ≡ outcomeOf (allChars script (literals ns 0 n)) (laterChecks script (literals ns 0 n))
   unfolding entry notMany firstOf laterChecks
   checked-few h few = rw (checked, not-empty h, length-literals ns 0 n, le-ltb 1024 n few)
 
 -- no refusal for want of room: all that is needed is there
-pub room-enough : (places bytes records used : ℕ) → roomFor places bytes records used ≡ none → (records ≤ places) × (used ≤ bytes)
+pub room-enough : (places bytes records used chars : ℕ) → roomFor places bytes records used chars ≡ none → (records ≤ places) × (used ≤ bytes)
 unfolding roomFor
-room-enough places bytes records used e =
+room-enough places bytes records used chars e =
     cases (ltb places records) (λ t. clash (let z = rw t at e in cc))
     (λ t. cases (ltb bytes used) (λ u. clash (let z = rw (t, u) at e in cc)) (λ u. (ltb-false _ _ t, ltb-false _ _ u)))

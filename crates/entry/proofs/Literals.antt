@@ -7,9 +7,12 @@ use Prim.Native.Nat.{ℕ, zero, suc, _+_, _-_, _*_, _%_, _≤_, _<_}
 use native.Mathlib.Nat.{add-zero, add-suc, suc-add, suc-mul}
 use native.Mathlib.Numerals.{add-one, add-six}
 use native.Mathlib.Omega.{arith}
-use lib.ListN.{length}
-use Rattle.definition.specs.Entry.{Literal, sixes, oneMore, Refusal, firstBad, total, anyOf, firstStart}
-use Rattle.definition.specs.Reading.{lastEnd}
+use lib.ListN.{length, take}
+use Rattle.definition.specs.Entry.{Literal, sixes, oneMore, body, Refusal, firstBad, total, anyOf, firstStart}
+use Rattle.definition.specs.Counts.{counted}
+use Rattle.definition.specs.Reading.{allChars, lastEnd}
+use Rattle.definition.proofs.Moves.{part-short}
+use Rattle.definition.proofs.Counted.{counted-small}
 use Rattle.entry.specs.Literals.{literalAt, literals}
 
 -- the end before literal i
@@ -49,6 +52,16 @@ module _ (ns : List ℕ) (n : ℕ) where
   unfolding total
   total-turn i h = rw (one-left i h)
 
+  -- the characters from i on
+  module _ (script : List ℕ) where
+    pub chars-turn : (i : ℕ) → i < n → let s = body script (literalAt ns i) in allChars script (literals ns i (n - i)) ≡ counted s (length s) .chars + allChars script (literals ns (i + 1) (n - (i + 1)))
+    unfolding allChars
+    chars-turn i h = rw (one-left i h)
+
+    pub chars-none : (i : ℕ) → n ≤ i → allChars script (literals ns i (n - i)) ≡ 0
+    unfolding allChars
+    chars-none i h = rw (none-left i h)
+
   -- any literal from i on
   module _ (test : ℕ → Bool) where
     pub any-turn : (i : ℕ) → i < n → test (literalAt ns i .kind) ≡ false → anyOf test (literals ns i (n - i)) ≡ anyOf test (literals ns (i + 1) (n - (i + 1)))
@@ -84,6 +97,19 @@ pub length-literals : (ns : List ℕ) (i n : ℕ) → length (literals ns i n) �
 unfolding literals
 length-literals ns i zero = refl
 length-literals ns i (suc n) = ap suc (length-literals ns (suc i) n)
+
+-- the first k of them
+pub take-literals : (ns : List ℕ) (i k n : ℕ) → k ≤ n → take k (literals ns i n) ≡ literals ns i k
+unfolding literals
+take-literals ns i zero n h = refl
+take-literals ns i (suc k) zero h = absurd (omega arith)
+take-literals ns i (suc k) (suc n) h = ap (λ ls. literalAt ns i ∷ ls) (take-literals ns (suc i) k n (omega arith))
+
+pub total-first : (ns : List ℕ) (i k n : ℕ) → k ≤ n → total (literals ns i k) ≤ total (literals ns i n)
+unfolding literals total
+total-first ns i zero n h = omega arith
+total-first ns i (suc k) zero h = absurd (omega arith)
+total-first ns i (suc k) (suc n) h = omega (arith, total-first ns (suc i) k n (omega arith))
 
 -- six numbers more in front
 module _ (a b c d e f : ℕ) (ns : List ℕ) where
@@ -128,3 +154,11 @@ pub first-start : (test : ℕ → Bool) (ns : List ℕ) (n : ℕ) → anyOf test
 unfolding literals anyOf firstStart
 first-start test ns zero e = cc
 first-start test ns (suc n) e = refl
+
+-- no more characters than bytes
+pub chars-most : (script : List ℕ) (ls : List Literal) → allChars script ls ≤ total ls
+unfolding allChars total body
+chars-most script [] = omega arith
+chars-most script (l ∷ ls) =
+    let s = body script l in
+    omega (arith, counted-small s (length s) .1, part-short script (l .offset) (l .offset + l .size), chars-most script ls)

@@ -20,7 +20,7 @@ differ n r e = let z : _≡_ {A = ℕ} 0 1 = cc in absurd (omega arith)
 
 refusal-one : (r r′ : Refusal) → refusalOf r ≡ refusalOf r′ → r ≡ r′
 refusal-one r r′ e =
-    λ i. record { number = e i .number; literal = e i .literal; place = e i .place; a = e i .a; b = e i .b; opened = e i .opened; line = e i .line; column = e i .column }
+    λ i. record { number = e i .number; literal = e i .literal; place = e i .place; a = e i .a; b = e i .b; opened = e i .opened; line = e i .line; column = e i .column; chars = e i .chars }
 
 pub says-one : (r r′ : Checked) → says r ≡ says r′ → r ≡ r′
 says-one (Passed n) (Passed m) e = let s : n ≡ m = cc in ap Passed s

@@ -10,10 +10,10 @@ use native.Mathlib.Omega.{arith}
 use borrow.Author.Tests.{ltb-false, eqb-true, eqb-false}
 use lib.Dec.{ltb, eqb}
 use lib.ListN.{length, length-take, length-drop}
-use Rattle.definition.specs.Numbers.{notSixes, badDescriptor, tooManyLiterals, bodiesTooLong}
-use Rattle.definition.specs.Chars.{if_then_else_}
-use Rattle.definition.specs.Entry.{Literal, sixes, opening, placeOf, body, Refusal, refusal, notEmpty, notMany, bad, allGood, total, notLong, allUtf8, notMixed, firstOf, entry}
-use Rattle.definition.specs.Reading.{accepts, refuses, andThen, readLiteral, readFrom, answered, read, roomed, called, readInto, readNumbers}
+use Rattle.definition.specs.Numbers.{notSixes, badDescriptor, tooManyLiterals, bodiesTooLong, notUtf8}
+use Rattle.definition.specs.Chars.{if_then_else_, wellFormed}
+use Rattle.definition.specs.Entry.{Literal, sixes, opening, placeOf, body, Refusal, refusal, notEmpty, notMany, firstBad, bad, allGood, total, notLong, formed, illFormed, allUtf8, notMixed, firstOf, entry}
+use Rattle.definition.specs.Reading.{accepts, refuses, allChars, andThen, readLiteral, readFrom, answered, read, roomed, called, readInto, readNumbers}
 use Rattle.definition.proofs.CharLaws.{cases}
 use Rattle.entry.specs.Answers.{checkNumbers}
 use Rattle.entry.specs.Literals.{literalAt, literals}
@@ -46,23 +46,35 @@ not-bad script previous l e =
 abbrev pub why : ℕ → Literal → Refusal
 why i l = refusal badDescriptor i 0 0 0
 
-module _ (script ns : List ℕ) (n : ℕ) where
-  -- no literal up to i is bad
-  good-to : allGood script (literals ns 0 n) ≡ none → (i : ℕ) → i ≤ n → badFrom ns n (bad script) why i ≡ none
-  unfolding allGood endBefore
-  good-to e zero h = rw sub-zero e
-  good-to e (suc i) h =
-      let b = good-to e i (omega arith) in
-      let l : i < n = h in
-      cases (bad script (endBefore ns i) (literalAt ns i)) (λ t. (let z = sym (bad-found ns n (bad script) why i l t) ∙ b in cc))
-      (λ t. rw (← add-one i) (sym (bad-turn ns n (bad script) why i l t) ∙ b))
+-- that of a body that is not UTF-8
+abbrev pub whyNot : List ℕ → ℕ → Literal → Refusal
+whyNot script i l = refusal notUtf8 i (placeOf l (formed script l)) 0 0
 
+-- a test that finds no literal bad fails for each
+module _ (ns : List ℕ) (n : ℕ) (test : ℕ → Literal → Bool) (why : ℕ → Literal → Refusal) (e : firstBad test why 0 0 (literals ns 0 n) ≡ none) where
+  none-to : (i : ℕ) → i ≤ n → badFrom ns n test why i ≡ none
+  unfolding endBefore
+  none-to zero h = rw sub-zero e
+  none-to (suc i) h =
+      let b = none-to i (omega arith) in
+      let l : i < n = h in
+      cases (test (endBefore ns i) (literalAt ns i)) (λ t. (let z = sym (bad-found ns n test why i l t) ∙ b in cc))
+      (λ t. rw (← add-one i) (sym (bad-turn ns n test why i l t) ∙ b))
+
+  none-at : (i : ℕ) → i < n → test (endBefore ns i) (literalAt ns i) ≡ false
+  none-at i h =
+      cases (test (endBefore ns i) (literalAt ns i)) (λ t. clash (let y = sym (bad-found ns n test why i h t) ∙ none-to i (omega arith) in cc)) (λ t. t)
+
+module _ (script ns : List ℕ) (n : ℕ) where
   -- 4 found none: each is good
   pub good-at : allGood script (literals ns 0 n) ≡ none → (i : ℕ) → i < n → Good script (literalAt ns i)
-  good-at e i h =
-      cases (bad script (endBefore ns i) (literalAt ns i))
-      (λ t. clash (let y = sym (bad-found ns n (bad script) why i h t) ∙ good-to e i (omega arith) in cc))
-      (λ t. not-bad script (endBefore ns i) (literalAt ns i) t)
+  unfolding allGood
+  good-at e i h = not-bad script (endBefore ns i) (literalAt ns i) (none-at ns n (bad script) why e i h)
+
+  -- 6 found none: each body is well-formed up to its end
+  formed-at : allUtf8 script (literals ns 0 n) ≡ none → (i : ℕ) → i < n → let s = body script (literalAt ns i) in length s ≤ wellFormed s
+  unfolding allUtf8 illFormed formed
+  formed-at e i h = ltb-false _ _ (none-at ns n (illFormed script) (whyNot script) e i h)
 
 -- the body of a good descriptor is whole
 pub length-body : (script : List ℕ) (l : Literal) → Good script l → length (body script l) ≡ l .size
@@ -84,6 +96,11 @@ nones (some r ∷ cs) e = (e, clash cc)
 within : (limit n : ℕ) (r : Refusal) → (if ltb limit n then some r else none) ≡ none → n ≤ limit
 within limit n r e = cases (ltb limit n) (λ t. clash (let y = rw t at e in cc)) (λ t. ltb-false _ _ t)
 
+-- 5 without a refusal
+pub not-long : (ls : List Literal) → notLong ls ≡ none → total ls ≤ 1048576
+unfolding notLong
+not-long ls e = within 1048576 (total ls) (refusal bodiesTooLong 0 0 0 0) e
+
 -- 1 without a refusal
 some-literal : (ns : List ℕ) (n : ℕ) → notEmpty (literals ns 0 n) ≡ none → 0 < n
 unfolding literals notEmpty
@@ -98,12 +115,13 @@ pub record Passed (script ns : List ℕ) (n : ℕ) : Type 0 where
   pub few : n ≤ 1024
   pub good : (i : ℕ) → i < n → Good script (literalAt ns i)
   pub short : total (literals ns 0 n) ≤ 1048576
+  pub formed : (i : ℕ) → i < n → let s = body script (literalAt ns i) in length s ≤ wellFormed s
   pub unmixed : notMixed (literals ns 0 n) ≡ none
 
 module _ (script ns : List ℕ) where
   -- by the definition's checks
   entered : (n : ℕ) → length ns ≡ n * 6 → entry script (literals ns 0 n) ≡ none → Passed script ns n
-  unfolding entry notMany notLong
+  unfolding entry notMany
   entered n six e =
       let ls = literals ns 0 n in
       let h = nones (notEmpty ls ∷ notMany ls ∷ allGood script ls ∷ notLong ls ∷ allUtf8 script ls ∷ notMixed ls ∷ []) e in
@@ -113,20 +131,20 @@ module _ (script ns : List ℕ) where
         any = some-literal ns n (h .0);
         few = rw (length-literals ns 0 n) at (within 1024 (length ls) (refusal tooManyLiterals 0 0 0 0) (h .1 .0));
         good = good-at script ns n (h .1 .1 .0);
-        short = within 1048576 (total ls) (refusal bodiesTooLong 0 0 0 0) (h .1 .1 .1 .0);
+        short = not-long ls (h .1 .1 .1 .0);
+        formed = formed-at script ns n (h .1 .1 .1 .1 .0);
         unmixed = h .1 .1 .1 .1 .1 .0;
       }
 
   -- by what the checks of flat numbers say
-  pub passed : (n : ℕ) → accepts n ≡ checkNumbers script ns → Passed script ns n
-  passed n e =
+  pub passed : (k : ℕ) → accepts k ≡ checkNumbers script ns → Passed script ns (length ns / 6) × (k ≡ allChars script (literals ns 0 (length ns / 6)))
+  passed k e =
       cases (eqb (length ns % 6) 0)
       (λ t.
       let z : length ns % 6 ≡ 0 = eqb-true _ _ t in
       let six : length ns ≡ length ns / 6 * 6 = omega arith in
       let h = e ∙ checked script ns (length ns / 6) six in
-      let k = passes-all _ _ _ h in
-      rw k (entered (length ns / 6) six (passes _ _ _ h)))
+      (entered (length ns / 6) six (passes _ _ _ h), passes-all _ _ _ h))
       (λ t. clash (let y = e ∙ checked-not-sixes script ns (eqb-false _ _ t) in cc))
 
   -- what a call gives then: the refusal, or the literals' reading
@@ -139,7 +157,7 @@ module _ (script ns : List ℕ) where
         go none q = let h : r ≡ refusal notSixes 0 0 0 0 = (let y = rw (q, checkNumbers) at e in cc) in rw (q, readNumbers, h)
         go (some ls) q = rw (q, readNumbers, readInto, refused _ r _ (rw (q, checkNumbers) at e), read, roomed)
 
-    pub passed-reads : (n : ℕ) → Passed script ns n → let ls = literals ns 0 n in readNumbers script ns words text ≡ called (roomed (length words) (length text) (answered ls (readFrom script 0 ls))) words text
+    pub passed-reads : (n : ℕ) → Passed script ns n → let ls = literals ns 0 n in readNumbers script ns words text ≡ called (roomed (length words) (length text) (answered script ls (readFrom script 0 ls))) words text
     unfolding readNumbers readInto read
     passed-reads n p = rw (p .listed, readNumbers, p .enters, read)
 

@@ -6,7 +6,7 @@ ghost use lib.Dec.{eqb};
 ghost use lib.ListN.{getD};
 ghost use Rattle.definition.specs.Numbers.{prefix};
 ghost use Rattle.definition.specs.Entry.{refusal, opening, placeOf, bad, allGood, total, notLong, allUtf8, anyOf, notMixed};
-ghost use Rattle.definition.specs.Reading.{refuses, outcomeOf, roomFor};
+ghost use Rattle.definition.specs.Reading.{refuses, allChars, outcomeOf, shortOf, roomFor};
 ghost use Rattle.entry.specs.Answers.{described, says, isOf, laterChecks, checkNumbers};
 ghost use Rattle.entry.specs.Literals.{literalAt, literals};
 
@@ -31,9 +31,10 @@ pub struct Refusal {
     pub opened: u32,
     pub line: u32,
     pub column: u32,
+    pub chars: u32,
 }
 
-// What a check says: how many literals passed, or the refusal.
+// What a check says: how much passed, literals or characters or records; or the refusal.
 pub enum Checked {
     Passed(u32),
     Refused(Refusal),
@@ -128,6 +129,7 @@ fn refuse(number: u32, literal: u32, place: u32) -> Checked
         opened: 0,
         line: 0,
         column: 0,
+        chars: 0,
     })
 }
 
@@ -194,23 +196,25 @@ fn not_long(numbers: &[u32], count: u32) -> Checked
     Checked::Passed(count)
 }
 
-// 6: the first body that is not UTF-8, of good descriptors.
+// 6: the first body that is not UTF-8, of good descriptors that are not too long; how many characters passed.
 fn all_utf8(script: &[u8], numbers: &[u32], count: u32) -> Checked
-    requires { ⌜ allGood (now script) (literals (now numbers) 0 count) ≡ none ⌝ }
-    ensures { λ r. ⌜ says r ≡ outcomeOf count (allUtf8 (now (script .entry)) (literals (now (numbers .entry)) 0 count)) ⌝ }
+    requires { ⌜ (allGood (now script) (literals (now numbers) 0 count) ≡ none) × (notLong (literals (now numbers) 0 count) ≡ none) ⌝ }
+    ensures { λ r. ⌜ says r ≡ outcomeOf (allChars (now (script .entry)) (literals (now (numbers .entry)) 0 count)) (allUtf8 (now (script .entry)) (literals (now (numbers .entry)) 0 count)) ⌝ }
 {
+    let mut chars: u32 = 0;
     let mut i = 0;
     while i < count {
         let l = literal_at(numbers, i);
         let from = l.offset as usize;
         let to = from + l.size as usize;
         let formed = utf8::well_formed(&script[from..to]);
-        if formed < to - from {
-            return refuse(NOT_UTF8, i, place(l, formed as u32) as u32);
+        if formed.len < to - from {
+            return refuse(NOT_UTF8, i, place(l, formed.len as u32) as u32);
         }
+        chars += formed.chars as u32;
         i += 1;
     }
-    Checked::Passed(count)
+    Checked::Passed(chars)
 }
 
 // Whether a kind is one of two.
@@ -263,9 +267,9 @@ fn not_mixed(numbers: &[u32], count: u32) -> Checked
     refuse(MIXED_BYTES, 0, first.start)
 }
 
-// 4 to 7 in order, each over the whole list before the next.
+// 4 to 7 in order, each over the whole list before the next; how many characters passed.
 fn check_literals(script: &[u8], numbers: &[u32], count: u32) -> Checked
-    ensures { λ r. ⌜ says r ≡ outcomeOf count (laterChecks (now (script .entry)) (literals (now (numbers .entry)) 0 count)) ⌝ }
+    ensures { λ r. ⌜ says r ≡ outcomeOf (allChars (now (script .entry)) (literals (now (numbers .entry)) 0 count)) (laterChecks (now (script .entry)) (literals (now (numbers .entry)) 0 count)) ⌝ }
 {
     let good = all_good(script, numbers, count);
     let Checked::Passed(_) = good else {
@@ -276,13 +280,17 @@ fn check_literals(script: &[u8], numbers: &[u32], count: u32) -> Checked
         return short;
     };
     let formed = all_utf8(script, numbers, count);
-    let Checked::Passed(_) = formed else {
+    let Checked::Passed(chars) = formed else {
         return formed;
     };
-    not_mixed(numbers, count)
+    let unmixed = not_mixed(numbers, count);
+    let Checked::Passed(_) = unmixed else {
+        return unmixed;
+    };
+    Checked::Passed(chars)
 }
 
-// The entry checks 1 to 7 of flat numbers.
+// The entry checks 1 to 7 of flat numbers; how many characters passed.
 pub fn check(script: &[u8], numbers: &[u32]) -> Checked
     ensures { λ r. ⌜ says r ≡ checkNumbers (now (script .entry)) (now (numbers .entry)) ⌝ }
 {
@@ -300,9 +308,9 @@ pub fn check(script: &[u8], numbers: &[u32]) -> Checked
     check_literals(script, numbers, count as u32)
 }
 
-// A refusal for want of room, with what is needed.
-fn short(number: u32, records: u32, used: u32) -> Checked
-    ensures { λ r. ⌜ says r ≡ refuses (refusal number 0 0 records used) ⌝ }
+// A refusal for want of room, with what is needed, after all characters.
+fn short(number: u32, records: u32, used: u32, chars: u32) -> Checked
+    ensures { λ r. ⌜ says r ≡ refuses (shortOf number records used chars) ⌝ }
 {
     Checked::Refused(Refusal {
         number,
@@ -313,18 +321,19 @@ fn short(number: u32, records: u32, used: u32) -> Checked
         opened: 0,
         line: 0,
         column: 0,
+        chars,
     })
 }
 
 // 30 and 31: whether the record places and text bytes that are lent are as many as are needed.
-pub fn room(places: usize, bytes: usize, records: u32, used: u32) -> Checked
-    ensures { λ r. ⌜ says r ≡ outcomeOf records (roomFor places bytes records used) ⌝ }
+pub fn room(places: usize, bytes: usize, records: u32, used: u32, chars: u32) -> Checked
+    ensures { λ r. ⌜ says r ≡ outcomeOf records (roomFor places bytes records used chars) ⌝ }
 {
     if places < records as usize {
-        return short(TOO_FEW_RECORD_PLACES, records, used);
+        return short(TOO_FEW_RECORD_PLACES, records, used, chars);
     }
     if bytes < used as usize {
-        return short(TOO_LITTLE_TEXT_ROOM, records, used);
+        return short(TOO_LITTLE_TEXT_ROOM, records, used, chars);
     }
     Checked::Passed(records)
 }

@@ -8,9 +8,10 @@ use lib.ListN.{length, take, getD}
 use lib.Seq.{take-at}
 use Rattle.definition.specs.Numbers.{bodiesTooLong}
 use Rattle.definition.specs.Records.{Answer}
-use Rattle.definition.specs.Entry.{Literal}
+use Rattle.definition.specs.Entry.{Literal, sixes, oneMore, total}
 use Rattle.definition.specs.Reading.{Outcome, accepts, refuses, read, numbers, wordsAfter, textAfter, called, readNumbers}
 use Rattle.definition.proofs.Outcomes.{Sane, read-sane}
+use Rattle.definition.proofs.Lent.{read-needs, numbers-lent}
 use Rattle.entry.specs.declared.Refusal.{Refusal as Why}
 use Rattle.entry.proofs.Checks.{clash}
 use Rattle.strings.specs.declared.Answer.{Answer as Given}
@@ -20,7 +21,6 @@ use Rattle.strings.specs.Strings.{CallIs}
 use Rattle.definition.specs.Lines.{refusalLine, recordLines, outcomeLines, oneLiteral, bodyLines}
 use Rattle.lines.specs.Written.{Adds, placeLines, Lie, longest, Lists, Room}
 use Rattle.lines.proofs.Places.{Small, all-places, gapless-inside, places-inside, lines-short}
-use Rattle.lines.proofs.Need.{Needs, read-needs, reads-one}
 
 -- a body that is too long
 pub long-lines : (s : List ℕ) → 1024 < length s → bodyLines s ≡ refusalLine bodiesTooLong 0 0 0
@@ -43,7 +43,8 @@ module _ (s words text W T : List ℕ) (room : Room s words text) where
 
   -- there is room
   there : (r : Said) → Called r → CallIs (called (read s one) words text) W T r
-  there r p = rw (reads-one s words text (omega arith) (omega arith)) at p
+  unfolding sixes oneMore total
+  there r p = rw (numbers-lent s words text (1 ∷ 0 ∷ 0 ∷ length s ∷ 0 ∷ (length s + 3) ∷ []) one refl (omega (arith, room .words-room), omega (arith, room .text-room))) at p
 
   short-lines : bodyLines s ≡ outcomeLines (read s one)
   unfolding bodyLines
@@ -58,12 +59,13 @@ module _ (s words text W T : List ℕ) (room : Room s words text) where
       go (refuses r) e q = let z = q .answer in let y = short-lines ∙ ap outcomeLines e in cc
 
   pub accepted-shows : (x : Given) → length W ≡ length words → length T ≡ length text → ((i : ℕ) → Small (getD W i 0)) → Called (Accepted x) → Shows s W T x
-  unfolding outcomeLines called numbers wordsAfter textAfter
-  accepted-shows x w t small p = go (read s one) refl (read-needs s) (read-sane s one) (there (Accepted x) p)
+  unfolding outcomeLines called numbers wordsAfter textAfter total
+  accepted-shows x w t small p = go (read s one) refl (read-sane s one) (there (Accepted x) p)
     where
-      go : (o : Outcome Answer) → read s one ≡ o → Needs (4 * length s + 1) o → Sane o → CallIs (called o words text) W T (Accepted x) → Shows s W T x
-      go (refuses r) e n g q = clash (let z = q .answer in cc)
-      go (accepts y) e n g q =
+      go : (o : Outcome Answer) → read s one ≡ o → Sane o → CallIs (called o words text) W T (Accepted x) → Shows s W T x
+      go (refuses r) e g q = clash (let z = q .answer in cc)
+      go (accepts y) e g q =
+          let n = read-needs s one y e in
           let z = q .answer in
           let count : x .records ≡ length (y .records) = cc in
           let used : x .text ≡ length (y .text) = cc in

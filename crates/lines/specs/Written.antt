@@ -32,9 +32,9 @@ pub record Lie (words text : List ℕ) (count : ℕ) : Type 0 where
   pub places : count * 8 ≤ length words
   pub inside : (i : ℕ) → i < count → getD words (i * 8 + 1) 0 + getD words (i * 8 + 2) 0 ≤ length text
 
--- the lines of a body are never longer: 70 bytes for each of 4,097 records and bytes of text
+-- the lines of a body are never longer: 70 bytes for each of 1,025 records, and six for each of 2,048 bytes of text
 abbrev pub longest : ℕ
-longest = 286790
+longest = 84038
 
 -- a body's lines over a buffer from its front on, and how long they are
 pub record Lists (body buffer after : List ℕ) (r : ℕ) : Type 0 where
@@ -42,8 +42,8 @@ pub record Lists (body buffer after : List ℕ) (r : ℕ) : Type 0 where
   pub size : r ≡ length (bodyLines body)
   pub short : length (bodyLines body) ≤ longest
 
--- words and text with room for what a body of at most 1,024 bytes needs: four record places and text bytes for each byte, and one more
+-- words and text with room for whatever a body of at most 1,024 bytes needs: a record for each byte and one more, two text bytes for each
 pub record Room (body words text : List ℕ) : Type 0 where
   pub few : length body ≤ 1024
-  pub words-room : (4 * length body + 1) * 8 ≤ length words
-  pub text-room : 4 * length body + 1 ≤ length text
+  pub words-room : (length body + 1) * 8 ≤ length words
+  pub text-room : 2 * length body ≤ length text

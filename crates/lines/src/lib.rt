@@ -11,8 +11,8 @@ ghost use Rattle.lines.specs.Written.{Adds, Fits, placeLines, Lie, Lists
 
 const BODIES_TOO_LONG: u32 = 5;
 
-// The lines of a body are never longer: 70 bytes for each of 4,097 records and bytes of text.
-pub const LONGEST: usize = 286790;
+// The lines of a body are never longer: 70 bytes for each of 1,025 records, and six for each of 2,048 bytes of text.
+pub const LONGEST: usize = 84038;
 
 // Writes a byte.
 fn write_byte(out: &mut [u8], used: usize, byte: u8) -> usize
@@ -208,17 +208,17 @@ fn read_lines(body: &[u8], words: &mut [u32], text: &mut [u8], out: &mut [u8]) -
 }
 
 // Words for the records of any body of at most 1,024 bytes.
-fn words() -> [u32; 32776]
-    ensures { λ r. ⌜ 32776 ≡ length r ⌝ }
+fn words() -> [u32; 8200]
+    ensures { λ r. ⌜ 8200 ≡ length r ⌝ }
 {
-    [0; 32776]
+    [0; 8200]
 }
 
 // Bytes for the text of any body of at most 1,024 bytes.
-fn text() -> [u8; 4097]
-    ensures { λ r. ⌜ 4097 ≡ length r ⌝ }
+fn text() -> [u8; 2048]
+    ensures { λ r. ⌜ 2048 ≡ length r ⌝ }
 {
-    [0; 4097]
+    [0; 2048]
 }
 
 // Writes the lines of a body, and says how many bytes they are.

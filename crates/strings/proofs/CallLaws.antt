@@ -9,7 +9,7 @@ use lib.ListN.{length, replicate}
 use Rattle.definition.specs.Records.{Role, covers, Item, Record, Answer, Sort, answerOf, merged, texts, laid, cover, wordsOf}
 use Rattle.definition.specs.Entry.{Literal, refusal, firstStart, anyOf}
 use Rattle.definition.specs.Numbers.{isBytes, isFString}
-use Rattle.definition.specs.Reading.{accepts, refuses, readFrom, sortOf, sortNumber, uMark, lastEnd, answered, outcomeOf, roomFor, roomed, Call, called, readNumbers, wordsAfter, textAfter, allWords, numbers, zeros}
+use Rattle.definition.specs.Reading.{accepts, refuses, readFrom, sortOf, sortNumber, uMark, lastEnd, allChars, answered, outcomeOf, roomFor, roomed, Call, called, readNumbers, wordsAfter, textAfter, allWords, numbers, zeros}
 use Rattle.definition.specs.Reading as o
 use Rattle.definition.proofs.Laid.{laid-length}
 use Rattle.buffers.specs.Over.{over}
@@ -26,7 +26,7 @@ use Rattle.strings.specs.declared.emit.Sink.{Sink}
 use Rattle.strings.specs.Emit as e
 use Rattle.strings.specs.Emit.{closed, Tops}
 use Rattle.strings.specs.Sinks.{outOf, wholeOf}
-use Rattle.strings.specs.Strings.{says, CallIs, wholeFor, roleFor, empty, Wrote, All}
+use Rattle.strings.specs.Strings.{says, isAccepted, CallIs, wholeFor, roleFor, empty, Wrote, All}
 use Rattle.strings.proofs.Emitted.{done, emitted}
 use Rattle.strings.proofs.TopLaws.{tops-read, covers-role}
 
@@ -73,12 +73,12 @@ record Landed (x : Answer) (words₀ text₀ words text : List ℕ) (k : Sink) :
   words-are : words ≡ over words₀ 0 (allWords (x .records))
   text-is : text ≡ over text₀ 0 (x .text)
 
-landed : (w : Whole) (s : Sort) (role : Role) (xs : List Item) (words₀ text₀ words text words′ : List ℕ) (k r : Sink)
+landed : (w : Whole) (s : Sort) (n : ℕ) (role : Role) (xs : List Item) (words₀ text₀ words text words′ : List ℕ) (k r : Sink)
     → covers role ≡ true → Tops (wholeOf w) role xs → Wrote (wholeOf w) xs words₀ text₀ words text k
     → ((T : List ℕ) → outOf r words′ T ≡ closed (wholeOf w) (outOf k words T))
-    → Landed (answerOf s (w .mark) (w .start) (w .end) xs) words₀ text₀ words′ text r
+    → Landed (answerOf s (w .mark) (w .start) (w .end) n xs) words₀ text₀ words′ text r
 unfolding answerOf
-landed w s role xs words₀ text₀ words text words′ k r c t h e =
+landed w s n role xs words₀ text₀ words text words′ k r c t h e =
     record {
       count = ap (λ o. o .count) z ∙ count-done (wholeOf w) words₀ text₀ (merged xs) ∙ sym (laid-length (cover (w .start) (w .end) (w .mark)) 0 (merged xs));
       used = ap (λ o. o .used) z ∙ used-done (wholeOf w) words₀ text₀ (merged xs);
@@ -90,16 +90,16 @@ landed w s role xs words₀ text₀ words text words′ k r c t h e =
     z = e text ∙ ap (closed (wholeOf w)) (h .out) ∙ emitted (wholeOf w) role xs (empty words₀ text₀) c t refl refl
 
 -- the answer of literals and their items
-abbrev answerFor : List Literal → List Item → Answer
-answerFor ls xs = answerOf (sortOf ls) (uMark ls) (firstStart ls) (lastEnd 0 ls) xs
+abbrev answerFor : List ℕ → List Literal → List Item → Answer
+answerFor script ls xs = answerOf (sortOf ls) (uMark ls) (firstStart ls) (lastEnd 0 ls) (allChars script ls) xs
 
-landed-for : (w : Whole) (ls : List Literal) (role : Role) (xs : List Item) (words₀ text₀ words text words′ : List ℕ) (k r : Sink)
+landed-for : (w : Whole) (script : List ℕ) (ls : List Literal) (role : Role) (xs : List Item) (words₀ text₀ words text words′ : List ℕ) (k r : Sink)
     → covers role ≡ true → Tops (wholeOf w) role xs → wholeOf w ≡ wholeFor ls → Wrote (wholeOf w) xs words₀ text₀ words text k
     → ((T : List ℕ) → outOf r words′ T ≡ closed (wholeOf w) (outOf k words T))
-    → Landed (answerFor ls xs) words₀ text₀ words′ text r
-landed-for w ls role xs words₀ text₀ words text words′ k r c t p h z =
-    subst (λ (v : e.Whole). Landed (answerOf (sortOf ls) (v .mark) (v .start) (v .end) xs) words₀ text₀ words′ text r) p
-    (landed w (sortOf ls) role xs words₀ text₀ words text words′ k r c t h z)
+    → Landed (answerFor script ls xs) words₀ text₀ words′ text r
+landed-for w script ls role xs words₀ text₀ words text words′ k r c t p h z =
+    subst (λ (v : e.Whole). Landed (answerOf (sortOf ls) (v .mark) (v .start) (v .end) (allChars script ls) xs) words₀ text₀ words′ text r) p
+    (landed w (sortOf ls) (allChars script ls) role xs words₀ text₀ words text words′ k r c t h z)
 
 -- both buffers keep their lengths
 same-words : {x : Answer} {words₀ text₀ words text : List ℕ} {k : Sink} → Landed x words₀ text₀ words text k → length words ≡ length words₀
@@ -120,62 +120,63 @@ module _ (words text words₁ text₁ words′ text′ : List ℕ) (x : Refusal)
   unfolding called wordsAfter textAfter numbers
   refused-call call e lw lt h =
       rw e
-      record { answer = rw (h .0) refl; words = h .1 ∙ ap (λ n. replicate n 0) lw; text = h .2 ∙ ap (λ n. replicate n 0) lt }
+      record { accepted = rw (h .0) refl; answer = rw (h .0) refl; words = h .1 ∙ ap (λ n. replicate n 0) lw; text = h .2 ∙ ap (λ n. replicate n 0) lt }
 
 -- THE ROOM, of buffers that an answer lies over: what is needed is there, or is refused
 room-there : (x : Answer) (words₀ text₀ words text : List ℕ) (k : Sink) → Landed x words₀ text₀ words text k
-    → roomed (length words₀) (length text₀) (accepts x) ≡ outcomeOf x (roomFor (length words / 8) (length text) (k .count) (k .used))
+    → roomed (length words₀) (length text₀) (accepts x) ≡ outcomeOf x (roomFor (length words / 8) (length text) (k .count) (k .used) (x .chars))
 unfolding roomed
 room-there x words₀ text₀ words text k h = rw (same-words h, same-text h, h .count, h .used)
 
 accepted : (x : Answer) (words₀ text₀ words text : List ℕ) (k : Sink) (r : Outcome) → Landed x words₀ text₀ words text k
-    → roomFor (length words / 8) (length text) (k .count) (k .used) ≡ none → says r ≡ 0 ∷ sortNumber (x .sort) ∷ x .uMark ∷ x .start ∷ x .end ∷ k .count ∷ k .used ∷ []
+    → roomFor (length words / 8) (length text) (k .count) (k .used) (x .chars) ≡ none → isAccepted r ≡ true → says r ≡ 0 ∷ sortNumber (x .sort) ∷ x .uMark ∷ x .start ∷ x .end ∷ k .count ∷ k .used ∷ 0 ∷ x .chars ∷ []
     → CallIs (called (roomed (length words₀) (length text₀) (accepts x)) words₀ text₀) words text r
 unfolding called wordsAfter textAfter numbers outcomeOf
-accepted x words₀ text₀ words text k r h n s =
+accepted x words₀ text₀ words text k r h n t s =
     rw (room-there x words₀ text₀ words text k h, n)
     (record {
-      answer = s ∙ ap₂ (λ m n. 0 ∷ sortNumber (x .sort) ∷ x .uMark ∷ x .start ∷ x .end ∷ m ∷ n ∷ []) (h .count) (h .used);
+      accepted = t;
+      answer = s ∙ ap₂ (λ m n. 0 ∷ sortNumber (x .sort) ∷ x .uMark ∷ x .start ∷ x .end ∷ m ∷ n ∷ 0 ∷ x .chars ∷ []) (h .count) (h .used);
       words = h .words-are ∙ over-front words₀ (allWords (x .records)) (omega (arith, length-words (x .records), same-words h, h .count, enough .0));
       text = h .text-is ∙ over-front text₀ (x .text) (omega (arith, same-text h, h .used, enough .1));
     })
   where
     enough : (k .count ≤ length words / 8) × (k .used ≤ length text)
-    enough = room-enough (length words / 8) (length text) (k .count) (k .used) n
+    enough = room-enough (length words / 8) (length text) (k .count) (k .used) (x .chars) n
 
 -- what the end of a call owes
-abbrev pub Finished : Whole → List Literal → List ℕ → List ℕ → Sink → List ℕ → List ℕ → Outcome → Type 0
-Finished w ls words text k W T r =
-    (role : Role) (xs : List Item) (words₀ text₀ : List ℕ) → covers role ≡ true → Tops (wholeOf w) role xs → wholeOf w ≡ wholeFor ls → Wrote (wholeOf w) xs words₀ text₀ words text k
-    → CallIs (called (roomed (length words₀) (length text₀) (answered ls (accepts xs))) words₀ text₀) W T r
+abbrev pub Finished : Whole → List Literal → ℕ → List ℕ → List ℕ → Sink → List ℕ → List ℕ → Outcome → Type 0
+Finished w ls chars words text k W T r =
+    (script : List ℕ) (role : Role) (xs : List Item) (words₀ text₀ : List ℕ) → chars ≡ allChars script ls → covers role ≡ true → Tops (wholeOf w) role xs → wholeOf w ≡ wholeFor ls → Wrote (wholeOf w) xs words₀ text₀ words text k
+    → CallIs (called (roomed (length words₀) (length text₀) (answered script ls (accepts xs))) words₀ text₀) W T r
 
-module _ (w : Whole) (ls : List Literal) (words text words′ : List ℕ) (k a : Sink) (closing : (T : List ℕ) → outOf a words′ T ≡ closed (wholeOf w) (outOf k words T)) where
-  pub finish-short : (y : Refusal) (W T : List ℕ) (r : Outcome) → roomFor (length words′ / 8) (length text) (a .count) (a .used) ≡ some (refusalOf y)
-      → (r ≡ Refused y) × (W ≡ zeros words′) × (T ≡ zeros text) → Finished w ls words text k W T r
-  unfolding answered outcomeOf
-  finish-short y W T r n v role xs words₀ text₀ c t p h =
-      let l = landed-for w ls role xs words₀ text₀ words text words′ k a c t p h closing in
-      refused-call words₀ text₀ words′ text W T y r _ (ap (λ o. called o words₀ text₀) (room-there (answerFor ls xs) words₀ text₀ words′ text a l ∙ ap (outcomeOf (answerFor ls xs)) n)) (same-words l) (same-text l) v
+module _ (w : Whole) (ls : List Literal) (n : ℕ) (words text words′ : List ℕ) (k a : Sink) (closing : (T : List ℕ) → outOf a words′ T ≡ closed (wholeOf w) (outOf k words T)) where
+  pub finish-short : (y : Refusal) (W T : List ℕ) (r : Outcome) → roomFor (length words′ / 8) (length text) (a .count) (a .used) n ≡ some (refusalOf y)
+      → (r ≡ Refused y) × (W ≡ zeros words′) × (T ≡ zeros text) → Finished w ls n words text k W T r
+  unfolding answered outcomeOf answerOf
+  finish-short y W T r g v script role xs words₀ text₀ m c t p h =
+      let l = landed-for w script ls role xs words₀ text₀ words text words′ k a c t p h closing in
+      refused-call words₀ text₀ words′ text W T y r _ (ap (λ o. called o words₀ text₀) (room-there (answerFor script ls xs) words₀ text₀ words′ text a l ∙ ap (outcomeOf (answerFor script ls xs)) (ap (roomFor (length words′ / 8) (length text) (a .count) (a .used)) (sym m) ∙ g))) (same-words l) (same-text l) v
 
-  pub finish-accepted : (n : ℕ) → n ≡ sortNumber (sortOf ls) → roomFor (length words′ / 8) (length text) (a .count) (a .used) ≡ none
-      → Finished w ls words text k words′ text (Accepted (record { sort = n; mark = w .mark; start = w .start; end = w .end; records = a .count; text = a .used }))
+  pub finish-accepted : (q : ℕ) → q ≡ sortNumber (sortOf ls) → roomFor (length words′ / 8) (length text) (a .count) (a .used) n ≡ none
+      → Finished w ls n words text k words′ text (Accepted (record { sort = q; mark = w .mark; start = w .start; end = w .end; records = a .count; text = a .used; chars = n }))
   unfolding answered answerOf
-  finish-accepted n s g role xs words₀ text₀ c t p h =
-      accepted (answerFor ls xs) words₀ text₀ words′ text a (Accepted (record { sort = n; mark = w .mark; start = w .start; end = w .end; records = a .count; text = a .used }))
-      (landed-for w ls role xs words₀ text₀ words text words′ k a c t p h closing) g
-      (ap₂ (λ (m : ℕ) (v : e.Whole). 0 ∷ m ∷ v .mark ∷ v .start ∷ v .end ∷ a .count ∷ a .used ∷ []) s p)
+  finish-accepted q s g script role xs words₀ text₀ m c t p h =
+      accepted (answerFor script ls xs) words₀ text₀ words′ text a (Accepted (record { sort = q; mark = w .mark; start = w .start; end = w .end; records = a .count; text = a .used; chars = n }))
+      (landed-for w script ls role xs words₀ text₀ words text words′ k a c t p h closing) (ap (roomFor (length words′ / 8) (length text) (a .count) (a .used)) (sym m) ∙ g) refl
+      ((λ i. 0 ∷ s i ∷ p i .mark ∷ p i .start ∷ p i .end ∷ a .count ∷ a .used ∷ 0 ∷ m i ∷ []))
 
 -- LITERALS THAT PASSED THE CHECKS
 module _ (script ns : List ℕ) (n : ℕ) (words text : List ℕ) (P : Passed script ns n) where
   abbrev ls : List Literal
   ls = literals ns 0 n
 
-  pub refused-list : (x : Refusal) → readFrom script 0 ls ≡ refuses (refusalOf x) → readNumbers script ns words text ≡ called (why x) words text
-  unfolding answered roomed
-  refused-list x e = passed-reads script ns words text n P ∙ rw (e, answered, roomed)
+  pub refused-list : (x : Refusal) → answered script ls (readFrom script 0 ls) ≡ refuses (refusalOf x) → readNumbers script ns words text ≡ called (why x) words text
+  unfolding roomed
+  refused-list x e = passed-reads script ns words text n P ∙ rw (e, roomed)
 
-  pub accepted-call : (w : Whole) (words₁ text₁ words′ text′ : List ℕ) (k : Sink) (r : Outcome) → wholeOf w ≡ wholeFor ls → All (readFrom script 0 ls) (wholeOf w) words text words₁ text₁ k
-      → Finished w ls words₁ text₁ k words′ text′ r → CallIs (readNumbers script ns words text) words′ text′ r
-  accepted-call w words₁ text₁ words′ text′ k r e A f =
+  pub accepted-call : (w : Whole) (words₁ text₁ words′ text′ : List ℕ) (k : Sink) (r : Outcome) (chars : ℕ) → chars ≡ allChars script ls → wholeOf w ≡ wholeFor ls → All (readFrom script 0 ls) (wholeOf w) words text words₁ text₁ k
+      → Finished w ls chars words₁ text₁ k words′ text′ r → CallIs (readNumbers script ns words text) words′ text′ r
+  accepted-call w words₁ text₁ words′ text′ k r chars m e A f =
       rw (passed-reads script ns words text n P, A .reads)
-      (f (roleFor ls) (A .items) words text (covers-role ls) (subst (λ v. Tops v (roleFor ls) (A .items)) (sym e) (tops-read script 0 ls (A .items) (P .unmixed) (A .reads))) e (A .wrote))
+      (f script (roleFor ls) (A .items) words text m (covers-role ls) (subst (λ v. Tops v (roleFor ls) (A .items)) (sym e) (tops-read script 0 ls (A .items) (P .unmixed) (A .reads))) e (A .wrote))

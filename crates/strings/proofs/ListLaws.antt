@@ -14,7 +14,7 @@ use Rattle.definition.specs.Escapes as d
 use Rattle.definition.specs.Body.{literal, textN, stringN, enough, alone, readBody}
 use Rattle.definition.specs.Records.{Item, itemOf}
 use Rattle.definition.specs.Entry.{opening, placeOf, body, total}
-use Rattle.definition.specs.Reading.{accepts, refuses, andThen, refusalIn, readLiteral, readFrom}
+use Rattle.definition.specs.Reading.{accepts, refuses, andThen, refusalIn, readLiteral, readFrom, answered}
 use Rattle.definition.specs.Reading as o
 use Rattle.definition.proofs.Counted.{counted-small}
 use Rattle.definition.proofs.Moves.{weight, Names}
@@ -25,7 +25,7 @@ use Rattle.buffers.specs.Over.{over}
 use Rattle.entry.specs.Answers.{described}
 use Rattle.entry.specs.Literals.{literalAt, literals}
 use Rattle.entry.specs.declared.Descriptor.{Descriptor}
-use Rattle.entry.proofs.Literals.{total-turn}
+use Rattle.entry.proofs.Literals.{total-turn, take-literals, total-first}
 use Rattle.entry.proofs.Checks.{clash}
 use Rattle.entry.proofs.Passed.{Passed, Good, length-body, read-turn, read-end}
 use Rattle.strings.specs.declared.Refusal.{Refusal}
@@ -41,7 +41,7 @@ use Rattle.strings.specs.Emit.{emits}
 use Rattle.strings.specs.Sinks.{loadOf, outOf, wholeOf, Emits}
 use Rattle.strings.specs.Text.{refusal, faultOf, StringIs}
 use Rattle.strings.specs.Fstring.{ReadIs}
-use Rattle.strings.specs.Strings.{Room, Stands, frameOf, empty, All}
+use Rattle.strings.specs.Strings.{Room, Stands, First, refusedAt, frameOf, empty, All}
 use Rattle.strings.proofs.Emitted.{emits-append}
 use Rattle.strings.proofs.SinkLaws.{grown}
 use Rattle.strings.proofs.FstringLaws.{Gave, gave, refuses as written-refuses}
@@ -97,14 +97,14 @@ taken-in kind s x h =
     named true w l = omega (arith, w .before)
     named false e l = omega arith
 
--- line and column in a literal's body are no more than its bytes
-pub count-fits : (script : List ℕ) (l : Descriptor) (taken : ℕ) (k : Count) → countOf k ≡ counted (body script (described l)) taken → (k .line ≤ l .size) × (k .column ≤ l .size)
+-- characters, line and column in a literal's body are no more than its bytes
+pub count-fits : (script : List ℕ) (l : Descriptor) (taken : ℕ) (k : Count) → countOf k ≡ counted (body script (described l)) taken → (k .chars ≤ l .size) × (k .line ≤ l .size) × (k .column ≤ l .size)
 unfolding body described
 count-fits script l taken k e =
     let s = body script (described l) in
     let n = length-take (l .offset + l .size - l .offset) (drop (l .offset) script) in
     let h = rw (← e) at (counted-small s taken) in
-    (omega arith, omega arith)
+    (omega arith, omega arith, omega arith)
 
 -- THE LIST: what is read and written before literal i
 pub record Listing (script ns : List ℕ) (n : ℕ) (w : e.Whole) (words text words′ text′ : List ℕ) (i : ℕ) (k : Sink) : Type 0 where
@@ -162,6 +162,14 @@ module _ (script ns : List ℕ) (n : ℕ) (w : Whole) (words text : List ℕ) (P
       unfolding described
       rest = total-turn ns n i h ∙ ap (λ x. x .size + total (literals ns (i + 1) (n - (i + 1)))) (sym q)
 
+      pub first : First script ns i
+      first =
+          record {
+            good = λ j g. P .good j (omega arith);
+            formed = λ j g. P .formed j (omega arith);
+            short = omega (arith, P .short, total-first ns 0 i n (omega arith));
+          }
+
       pub room : Room script l k
       unfolding described
       room =
@@ -182,15 +190,19 @@ module _ (script ns : List ℕ) (n : ℕ) (w : Whole) (words text : List ℕ) (P
         unfolding described placeOf
         stands =
             let t = taken-in (l .kind) (body script (described l)) (faultOf x) R in
-            record { inside = good .inside; within = omega (arith, size); place = omega (arith, size, good .fits); bracket = omega (arith, size, good .fits) }
+            record { inside = good .inside; small = omega (arith, L .short, rest); within = omega (arith, size); place = omega (arith, size, good .fits); bracket = omega (arith, size, good .fits) }
 
         refuses-here : readLiteral script i (described l) ≡ refuses (refusalIn script i (described l) (faultOf x))
         unfolding readLiteral described
         refuses-here = rw (R, readLiteral)
 
-        pub refuses-all : readFrom script 0 (literals ns 0 n) ≡ refuses (refusalIn script i (described l) (faultOf x))
+        refuses-first : readFrom script 0 (literals ns 0 n) ≡ refuses (refusalIn script i (described l) (faultOf x))
         unfolding andThen
-        refuses-all = L .same ∙ rw (read-turn script ns n i h, ← q, refuses-here)
+        refuses-first = L .same ∙ rw (read-turn script ns n i h, ← q, refuses-here)
+
+        pub refuses-all : answered script (literals ns 0 n) (readFrom script 0 (literals ns 0 n)) ≡ refuses (refusedAt script ns i (described l) (faultOf x))
+        unfolding answered refusalIn
+        refuses-all = rw (refuses-first, take-literals ns 0 i n (omega arith)) refl
 
       -- its pieces
       module _ (words″ text″ : List ℕ) (at : Cursor) (r : Sink) (H : ReadIs (readBody (l .kind) (body script (described l))) (frameOf l w) 0 words′ text′ words″ text″ k (Done at r)) where

@@ -1,16 +1,19 @@
 -- What a call over a list of literals answers and leaves, by the definition's reading.
 use Prim.Native.Nat.{ℕ, _+_, _*_, _≤_, _<_}
 use mathlib.Core.Path.{_≡_}
-use mathlib.Core.Bool.{false}
+use mathlib.Core.Bool.{Bool, true, false}
 use mathlib.Core.List.{List, [], _∷_}
 use lib.ListN.{length}
 use Rattle.definition.specs.Numbers.{isBytes}
-use Rattle.definition.specs.Chars.{if_then_else_}
+use Rattle.definition.specs.Chars.{if_then_else_, wellFormed}
 use Rattle.definition.specs.Records.{Role, top, raw, Item}
-use Rattle.definition.specs.Entry.{Literal, opening, placeOf, anyOf, firstStart}
-use Rattle.definition.specs.Reading.{accepts, refuses, uMark, lastEnd, Call, numbers}
+use Rattle.definition.specs.Escapes.{Fault}
+use Rattle.definition.specs.Entry.{Literal, opening, placeOf, body, Refusal, moved, total, anyOf, firstStart}
+use Rattle.definition.specs.Reading.{accepts, refuses, allChars, refusalIn, readFrom, uMark, lastEnd, answered, Call, numbers}
 use Rattle.definition.specs.Reading as lists
 use Rattle.entry.specs.Answers.{described, refusalOf}
+use Rattle.entry.specs.Literals.{literalAt, literals}
+use Rattle.entry.proofs.Passed.{Good}
 use Rattle.entry.specs.declared.Descriptor.{Descriptor}
 use Rattle.strings.specs.declared.Outcome.{Outcome}
 use Rattle.strings.specs.declared.Outcome.the-variants.{Accepted, Refused}
@@ -25,11 +28,21 @@ use Rattle.strings.specs.Sinks.{loadOf, outOf, Fits}
 
 -- the paper's numbers of an answer
 abbrev pub says : Outcome → List ℕ
-says (Accepted x) = 0 ∷ x .sort ∷ x .mark ∷ x .start ∷ x .end ∷ x .records ∷ x .text ∷ []
-says (Refused r) = r .number ∷ r .literal ∷ r .place ∷ r .a ∷ r .b ∷ r .opened ∷ r .line ∷ r .column ∷ []
+says (Accepted x) = 0 ∷ x .sort ∷ x .mark ∷ x .start ∷ x .end ∷ x .records ∷ x .text ∷ 0 ∷ x .chars ∷ []
+says (Refused r) = r .number ∷ r .literal ∷ r .place ∷ r .a ∷ r .b ∷ r .opened ∷ r .line ∷ r .column ∷ r .chars ∷ []
+
+-- whether an answer is an acceptance, and whether an outcome is one
+abbrev pub isAccepted : Outcome → Bool
+isAccepted (Accepted x) = true
+isAccepted (Refused r) = false
+
+abbrev pub isAcceptance : {A : Type 0} → lists.Outcome A → Bool
+isAcceptance (accepts x) = true
+isAcceptance (refuses r) = false
 
 -- a call of the definition: what is answered, and both buffers afterwards
 pub record CallIs (call : Call) (words′ text′ : List ℕ) (r : Outcome) : Type 0 where
+  pub accepted : isAccepted r ≡ isAcceptance (call .outcome)
   pub answer : says r ≡ numbers (call .outcome)
   pub words : words′ ≡ call .words
   pub text : text′ ≡ call .text
@@ -57,9 +70,20 @@ pub record Room (script : List ℕ) (l : Descriptor) (k : Sink) : Type 0 where
 -- the body of a good literal lies in the script, so many of its bytes are taken, and their place and that of a bracket are numbers
 pub record Stands (script : List ℕ) (l : Descriptor) (taken opened : ℕ) : Type 0 where
   pub inside : l .offset + l .size ≤ length script
+  pub small : l .size ≤ 1048576
   pub within : taken ≤ l .size
   pub place : placeOf (described l) taken < 4294967296
   pub bracket : placeOf (described l) opened < 4294967296
+
+-- the first k literals are good, well-formed up to their ends, and not too long
+pub record First (script ns : List ℕ) (k : ℕ) : Type 0 where
+  pub good : (i : ℕ) → i < k → Good script (literalAt ns i)
+  pub formed : (i : ℕ) → i < k → let s = body script (literalAt ns i) in length s ≤ wellFormed s
+  pub short : total (literals ns 0 k) ≤ 1048576
+
+-- a fault in literal i of flat numbers, after the characters of the literals before
+abbrev pub refusedAt : (script ns : List ℕ) → ℕ → Literal → Fault → Refusal
+refusedAt script ns i l x = let r = refusalIn script i l x in moved i (allChars script (literals ns 0 i) + r .chars) r
 
 -- where a literal stands
 abbrev pub frameOf : Descriptor → Whole → Frame
@@ -76,6 +100,6 @@ pub record All (reading : lists.Outcome (List Item)) (w : e.Whole) (words text w
   pub reads : reading ≡ accepts items
   pub wrote : Wrote w items words text words′ text′ r
 
-abbrev pub ListIs : lists.Outcome (List Item) → e.Whole → List ℕ → List ℕ → List ℕ → List ℕ → Listed → Type 0
-ListIs reading w words text words′ text′ (listed.Done r) = All reading w words text words′ text′ r
-ListIs reading w words text words′ text′ (listed.Refused x) = reading ≡ refuses (refusalOf x)
+abbrev pub ListIs : List ℕ → List Literal → e.Whole → List ℕ → List ℕ → List ℕ → List ℕ → Listed → Type 0
+ListIs script ls w words text words′ text′ (listed.Done r) = All (readFrom script 0 ls) w words text words′ text′ r
+ListIs script ls w words text words′ text′ (listed.Refused x) = answered script ls (readFrom script 0 ls) ≡ refuses (refusalOf x)

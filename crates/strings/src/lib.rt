@@ -30,7 +30,7 @@ ghost use Rattle.definition.specs.Escapes.{detail};
 ghost use Rattle.definition.specs.Records.{Role, covers, Item};
 ghost use Rattle.definition.specs.Entry.{placeOf, body, anyOf};
 ghost use Rattle.definition.specs.Body.{readBody};
-ghost use Rattle.definition.specs.Reading.{accepts, openedAt, refusalIn, readFrom, sortOf, sortNumber, answered, roomed, called, readNumbers, zeros};
+ghost use Rattle.definition.specs.Reading.{accepts, allChars, openedAt, sortOf, sortNumber, answered, roomed, called, readNumbers, zeros};
 ghost use Rattle.entry.specs.Answers.{described, refusalOf};
 ghost use Rattle.entry.specs.Literals.{literals};
 ghost use Rattle.entry.proofs.Passed.{Passed};
@@ -40,7 +40,7 @@ ghost use Rattle.strings.specs.Emit.{Tops};
 ghost use Rattle.strings.specs.Sinks.{Fits, wholeOf};
 ghost use Rattle.strings.specs.Text.{refusal, faultOf};
 ghost use Rattle.strings.specs.Fstring.{Room as BodyRoom, ReadIs};
-ghost use Rattle.strings.specs.Strings.{CallIs, wholeFor, Room, Stands, frameOf, Wrote, ListIs};
+ghost use Rattle.strings.specs.Strings.{CallIs, wholeFor, Room, Stands, First, refusedAt, frameOf, Wrote, ListIs};
 
 // Why a body is refused: the number, the bytes taken just after the bracket that it names and at its place, two details.
 pub(crate) struct Refusal {
@@ -51,7 +51,8 @@ pub(crate) struct Refusal {
     pub(crate) b: u32,
 }
 
-// An acceptance: its sort (0 plain, 1 joined, 2 bytes), u mark, first start, last end, and how many records and text bytes it has.
+// An acceptance: its sort (0 plain, 1 joined, 2 bytes), u mark, first start, last end, how many records and text bytes it has, and how many
+// characters were read.
 pub struct Answer {
     pub sort: u32,
     pub mark: u32,
@@ -59,6 +60,7 @@ pub struct Answer {
     pub end: u32,
     pub records: u32,
     pub text: u32,
+    pub chars: u32,
 }
 
 pub enum Outcome {
@@ -141,10 +143,27 @@ fn opened_at(l: Descriptor, x: Refusal) -> u32
     0
 }
 
-// The refusal of a body, number i of the list: its place, line and column, and the place of its bracket.
-fn refusal_in(script: &[u8], i: u32, l: Descriptor, x: Refusal) -> entry::Refusal
-    requires { ⌜ Stands (now script) l (x .taken) (x .opened) ⌝ }
-    ensures { λ r. ⌜ refusalOf r ≡ refusalIn (now (script .entry)) i (described l) (faultOf x) ⌝ }
+// How many characters the first literals have, which passed the checks.
+fn chars_before(script: &[u8], numbers: &[u32], count: u32) -> u32
+    requires { ⌜ First (now script) (now numbers) count ⌝ }
+    ensures { λ r. ⌜ r ≡ allChars (now (script .entry)) (literals (now (numbers .entry)) 0 count) ⌝ }
+{
+    let mut chars: u32 = 0;
+    let mut i: u32 = 0;
+    while i < count {
+        let l = entry::literal_at(numbers, i);
+        let from = l.offset as usize;
+        let to = from + l.size as usize;
+        chars += utf8::heads(&script[from..to]) as u32;
+        i += 1;
+    }
+    chars
+}
+
+// The refusal of a body, number i of the list: its place, line and column, the place of its bracket, and the characters before.
+fn refusal_in(script: &[u8], numbers: &[u32], i: u32, l: Descriptor, x: Refusal) -> entry::Refusal
+    requires { ⌜ Stands (now script) l (x .taken) (x .opened) × First (now script) (now numbers) i ⌝ }
+    ensures { λ r. ⌜ refusalOf r ≡ refusedAt (now (script .entry)) (now (numbers .entry)) i (described l) (faultOf x) ⌝ }
 {
     let from = l.offset as usize;
     let to = from + l.size as usize;
@@ -158,6 +177,7 @@ fn refusal_in(script: &[u8], i: u32, l: Descriptor, x: Refusal) -> entry::Refusa
         opened: opened_at(l, x),
         line: k.line as u32,
         column: k.column as u32,
+        chars: chars_before(script, numbers, i) + k.chars as u32,
     }
 }
 
@@ -171,7 +191,7 @@ fn read_list(
     text: &mut [u8],
 ) -> Listed
     requires { ⌜ Passed (now script) (now numbers) count ⌝ }
-    ensures { λ r. ⌜ ListIs (readFrom (now (script .entry)) 0 (literals (now (numbers .entry)) 0 count)) (wholeOf whole) (now (words .entry)) (now (text .entry)) (now (words .exit)) (now (text .exit)) r ⌝ }
+    ensures { λ r. ⌜ ListIs (now (script .entry)) (literals (now (numbers .entry)) 0 count) (wholeOf whole) (now (words .entry)) (now (text .entry)) (now (words .exit)) (now (text .exit)) r ⌝ }
 {
     let mut sink = Sink {
         count: 0,
@@ -185,7 +205,7 @@ fn read_list(
         let l = entry::literal_at(numbers, i);
         match read_literal(script, l, whole, words, text, sink) {
             Read::Refused(x) => {
-                return Listed::Refused(refusal_in(script, i, l, x));
+                return Listed::Refused(refusal_in(script, numbers, i, l, x));
             }
             Read::Done(_, next) => {
                 sink = next;
@@ -257,18 +277,19 @@ fn sort_of(numbers: &[u32], count: u32) -> u32
 fn finish(
     numbers: &[u32],
     count: u32,
+    chars: u32,
     whole: Whole,
     words: &mut [u32],
     text: &mut [u8],
     sink: Sink,
 ) -> Outcome
     requires { ⌜ Fits sink ⌝ }
-    ensures { λ r. ⌜ ((role : Role) (xs : List Item) (words₀ text₀ : List ℕ) → covers role ≡ true → Tops (wholeOf whole) role xs → wholeOf whole ≡ wholeFor (literals (now (numbers .entry)) 0 count) → Wrote (wholeOf whole) xs words₀ text₀ (now (words .entry)) (now (text .entry)) sink → CallIs (called (roomed (length words₀) (length text₀) (answered (literals (now (numbers .entry)) 0 count) (accepts xs))) words₀ text₀) (now (words .exit)) (now (text .exit)) r) ⌝ }
+    ensures { λ r. ⌜ ((script : List ℕ) (role : Role) (xs : List Item) (words₀ text₀ : List ℕ) → chars ≡ allChars script (literals (now (numbers .entry)) 0 count) → covers role ≡ true → Tops (wholeOf whole) role xs → wholeOf whole ≡ wholeFor (literals (now (numbers .entry)) 0 count) → Wrote (wholeOf whole) xs words₀ text₀ (now (words .entry)) (now (text .entry)) sink → CallIs (called (roomed (length words₀) (length text₀) (answered script (literals (now (numbers .entry)) 0 count) (accepts xs))) words₀ text₀) (now (words .exit)) (now (text .exit)) r) ⌝ }
 {
     let k = close_held(words, whole, sink);
     let records = k.count as u32;
     let used = k.used as u32;
-    match entry::room(words.len() / 8, text.len(), records, used) {
+    match entry::room(words.len() / 8, text.len(), records, used, chars) {
         Checked::Refused(r) => refuse(words, text, r),
         Checked::Passed(_) => Outcome::Accepted(Answer {
             sort: sort_of(numbers, count),
@@ -277,6 +298,7 @@ fn finish(
             end: whole.end,
             records,
             text: used,
+            chars,
         }),
     }
 }
@@ -286,16 +308,17 @@ fn read_all(
     script: &[u8],
     numbers: &[u32],
     count: u32,
+    chars: u32,
     words: &mut [u32],
     text: &mut [u8],
 ) -> Outcome
-    requires { ⌜ Passed (now script) (now numbers) count ⌝ }
+    requires { ⌜ Passed (now script) (now numbers) count × (chars ≡ allChars (now script) (literals (now numbers) 0 count)) ⌝ }
     ensures { λ r. ⌜ CallIs (readNumbers (now (script .entry)) (now (numbers .entry)) (now (words .entry)) (now (text .entry))) (now (words .exit)) (now (text .exit)) r ⌝ }
 {
     let whole = whole_of(numbers, count);
     match read_list(script, numbers, count, whole, words, text) {
         Listed::Refused(r) => refuse(words, text, r),
-        Listed::Done(sink) => finish(numbers, count, whole, words, text, sink),
+        Listed::Done(sink) => finish(numbers, count, chars, whole, words, text, sink),
     }
 }
 
@@ -305,6 +328,9 @@ pub fn parse_strings(script: &[u8], numbers: &[u32], words: &mut [u32], text: &m
 {
     match entry::check(script, numbers) {
         Checked::Refused(r) => refuse(words, text, r),
-        Checked::Passed(count) => read_all(script, numbers, count, words, text),
+        Checked::Passed(chars) => {
+            let count = (numbers.len() / 6) as u32;
+            read_all(script, numbers, count, chars, words, text)
+        }
     }
 }

@@ -57,7 +57,7 @@ fn put_escaped(answer: Escaped) {
     }
 }
 
-// One vector: `b` the class of each byte, `c` the well-formed prefix and the characters, else the escape of a kind at an index.
+// One vector: `b` the class of each byte, `c` the well-formed prefix, the bytes that begin a character and the characters, else the escape of a kind at an index.
 fn try_one(sort: u8, kind: u8, at: usize, s: &[u8]) {
     match sort {
         b'b' => {
@@ -68,7 +68,10 @@ fn try_one(sort: u8, kind: u8, at: usize, s: &[u8]) {
         }
         b'c' => {
             put(b"formed");
-            put_number(utf8::well_formed(s));
+            let formed = utf8::well_formed(s);
+            put_number(formed.len);
+            put_number(formed.chars);
+            put_number(utf8::heads(s));
             put_chars(s);
         }
         _ => put_escaped(escapes::parse_escaped_char(s, Cursor { at }, kind as u32)),

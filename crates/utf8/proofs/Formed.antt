@@ -52,3 +52,17 @@ pub ended : (s : List ℕ) (i : ℕ) → Formed s i → (i < length s → width 
 unfolding wellFormed
 ended s i f h =
     f .same ∙ stop (f .fuel) s i (cases (ltb i (length s)) (λ t. h (ltb-true i (length s) t)) (λ t. width-end s i (ltb-false i (length s) t)))
+
+-- the prefix goes as far, and no further than the text
+on : (fuel : ℕ) (s : List ℕ) (i : ℕ) → i ≤ length s → (i ≤ formedFrom fuel s i) × (formedFrom fuel s i ≤ length s)
+unfolding formedFrom
+on zero s i h = (omega arith, h)
+on (suc fuel) s i h = go (width s i) refl (λ j. on fuel s j)
+  where
+    go : (w : ℕ) → width s i ≡ w → ((j : ℕ) → j ≤ length s → (j ≤ formedFrom fuel s j) × (formedFrom fuel s j ≤ length s)) → (i ≤ formedFrom (suc fuel) s i) × (formedFrom (suc fuel) s i ≤ length s)
+    go zero e ih = rw (e, formedFrom) (omega arith, h)
+    go (suc w) e ih = let k = ih (i + suc w) (omega (arith, width-in s i h)) in rw (e, formedFrom) (omega arith, k .1)
+
+pub formed-within : (s : List ℕ) (i : ℕ) → Formed s i → (i ≤ wellFormed s) × (wellFormed s ≤ length s)
+unfolding wellFormed
+formed-within s i f = rw (f .same) (on (f .fuel) s i (f .within))

@@ -1,9 +1,9 @@
--- Runs of bytes: below a limit, well-formed.
-use Prim.Native.Nat.{ℕ, _+_, _≤_, _<_}
+-- Runs of bytes: below a limit, well-formed; and the bytes that begin a character.
+use Prim.Native.Nat.{ℕ, zero, suc, _+_, _≤_, _<_}
 use mathlib.Core.Path.{_≡_}
 use mathlib.Core.List.{List}
 use lib.ListN.{length}
-use Rattle.definition.specs.Chars.{byte, formedFrom}
+use Rattle.definition.specs.Chars.{if_then_else_, byte, _to_, inside, formedFrom}
 
 -- all bytes from i up to j are below n
 abbrev pub Below : ℕ → List ℕ → ℕ → ℕ → Type 0
@@ -21,3 +21,12 @@ pub record Formed (s : List ℕ) (i : ℕ) : Type 0 where
   pub enough : length s ≤ i + fuel
   pub within : i ≤ length s
   pub same : formedFrom (length s) s 0 ≡ formedFrom fuel s i
+
+-- 1 for a byte that may begin a character, which all but 80 to BF may
+unfoldable pub headOf : ℕ → ℕ
+headOf b = if inside (0x80 to 0xBF) b then 0 else 1
+
+-- how many of n bytes from i on
+unfoldable pub headsFrom : ℕ → List ℕ → ℕ → ℕ
+headsFrom zero s i = 0
+headsFrom (suc n) s i = headOf (byte s i) + headsFrom n s (i + 1)

@@ -13,4 +13,4 @@ stepAt s i = if atEnd s i then End else Char (code s i) (record { at = next s i 
 
 -- the definition's count
 abbrev pub countOf : Count → d.Count
-countOf k = record { line = k .line; column = k .column }
+countOf k = record { chars = k .chars; line = k .line; column = k .column }

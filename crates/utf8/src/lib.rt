@@ -1,14 +1,14 @@
-// UTF-8 by the Unicode Standard, tables 3-6 and 3-7: byte classes, the character step, lines and columns by it, the well-formed prefix.
+// UTF-8 by the Unicode Standard, tables 3-6 and 3-7: byte classes, the character step, what is counted by it, the well-formed prefix.
 ghost use mathlib.Core.Path.{_≡_};
 ghost use mathlib.Core.Bool.{true, false, _&&_};
 ghost use lib.Dec.{leb};
-ghost use Prim.Native.Nat.{_+_, _<_, _≤_, max, min};
+ghost use Prim.Native.Nat.{_+_, _-_, _<_, _≤_, max, min};
 ghost use lib.ListN.{length};
 ghost use Rattle.definition.specs.Chars.{byte, follow, width, decoded, code, wellFormed};
 ghost use Rattle.definition.specs.Counts.{more, counted};
 ghost use Rattle.utf8.specs.Classes.{classes, classOf, ranges};
 ghost use Rattle.utf8.specs.Steps.{stepAt, countOf};
-ghost use Rattle.utf8.specs.Runs.{Below, Ascii, Formed};
+ghost use Rattle.utf8.specs.Runs.{Below, Ascii, Formed, headOf, headsFrom};
 ghost use Rattle.utf8.specs.Fits.{isDue, SecondFits, Fits, AllFit, Fitting, lastStart};
 
 // A place in the bytes of a body.
@@ -173,8 +173,9 @@ impl Cursor {
     }
 }
 
-// What was counted of a text: line ends, and the characters since the last one.
+// What was counted of a text: characters, line ends, and the characters since the last one.
 pub struct Count {
+    pub chars: usize,
     pub line: usize,
     pub column: usize,
 }
@@ -182,16 +183,18 @@ pub struct Count {
 impl Count {
     // One more character.
     fn more(self, c: u32) -> Count
-        requires { ⌜ self .line + self .column < 18446744073709551615 ⌝ }
+        requires { ⌜ (self .line + self .column ≤ self .chars) × (self .chars < 18446744073709551615) ⌝ }
         ensures { λ r. ⌜ countOf r ≡ more c (countOf self) ⌝ }
     {
         if c == 10 {
             return Count {
+                chars: self.chars + 1,
                 line: self.line + 1,
                 column: 0,
             };
         }
         Count {
+            chars: self.chars + 1,
             line: self.line,
             column: self.column + 1,
         }
@@ -202,7 +205,11 @@ impl Count {
 pub fn count_before(s: &[u8], place: usize) -> Count
     ensures { λ r. ⌜ countOf r ≡ counted (now (s .entry)) place ⌝ }
 {
-    let mut k = Count { line: 0, column: 0 };
+    let mut k = Count {
+        chars: 0,
+        line: 0,
+        column: 0,
+    };
     let mut at = 0;
     while at < place {
         let Step::Char(c, after) = (Cursor { at }).next_char(s) else {
@@ -487,18 +494,82 @@ fn formed_until(s: &[u8], from: usize, to: usize) -> usize
     at
 }
 
-// The length of the longest well-formed prefix.
-pub fn well_formed(s: &[u8]) -> usize
+// The length of the longest well-formed prefix, which begins with ASCII up to an index.
+fn formed_end(s: &[u8], ascii: usize) -> usize
+    requires { ⌜ Ascii (now s) 0 ascii ⌝ }
     ensures { λ r. ⌜ r ≡ wellFormed (now (s .entry)) ⌝ }
 {
-    let ascii = ascii_end(s, 0);
-    if s.len() <= ascii {
-        return ascii;
-    }
     if s.len() < 67 {
         return formed_until(s, ascii, s.len());
     }
     let begun = formed_until(s, ascii, 3);
     let blocks = formed_blocks(s, begun);
     formed_until(s, blocks, s.len())
+}
+
+// 1 if a character begins with the byte, else 0.
+fn head(b: u8) -> u8
+    ensures { λ r. ⌜ r ≡ headOf b ⌝ }
+{
+    if is_trail(b) { 0 } else { 1 }
+}
+
+// How many of the bytes from an index up to another, at most 128, begin a character.
+fn heads_near(s: &[u8], from: usize, to: usize) -> u8
+    requires { ⌜ (from ≤ to) × (to ≤ length (now s)) × (to ≤ from + 128) ⌝ }
+    ensures { λ r. ⌜ r ≡ headsFrom (to - from) (now (s .entry)) from ⌝ }
+{
+    let mut n = 0;
+    let mut i = from;
+    while i < to {
+        n += head(s[i]);
+        i += 1;
+    }
+    n
+}
+
+// How many of the bytes from an index up to another begin a character, by blocks.
+fn heads_between(s: &[u8], from: usize, to: usize) -> usize
+    requires { ⌜ (from ≤ to) × (to ≤ length (now s)) ⌝ }
+    ensures { λ r. ⌜ r ≡ headsFrom (to - from) (now (s .entry)) from ⌝ }
+{
+    let mut n = 0;
+    let mut i = from;
+    while 128 <= to - i {
+        let past = i + 128;
+        n += heads_near(s, i, past) as usize;
+        i = past;
+    }
+    n + heads_near(s, i, to) as usize
+}
+
+// How many bytes of a text begin a character: of well-formed text, how many characters it has.
+pub fn heads(s: &[u8]) -> usize
+    ensures { λ r. ⌜ r ≡ headsFrom (length (now (s .entry))) (now (s .entry)) 0 ⌝ }
+{
+    heads_between(s, 0, s.len())
+}
+
+// The longest well-formed prefix of a text: its length, and how many characters it has.
+pub struct Prefix {
+    pub len: usize,
+    pub chars: usize,
+}
+
+// The longest well-formed prefix.
+pub fn well_formed(s: &[u8]) -> Prefix
+    ensures { λ r. ⌜ (r .len ≡ wellFormed (now (s .entry))) × (r .chars ≡ counted (now (s .entry)) (r .len) .chars) ⌝ }
+{
+    let ascii = ascii_end(s, 0);
+    if s.len() <= ascii {
+        return Prefix {
+            len: ascii,
+            chars: ascii,
+        };
+    }
+    let len = formed_end(s, ascii);
+    Prefix {
+        len,
+        chars: ascii + heads_between(s, ascii, len),
+    }
 }

@@ -16,6 +16,8 @@ fn check(rows: &[Row]) {
         assert_eq!(answer.sort(), sort, "{}", script);
         assert_eq!(answer.range(), 0..script.len(), "{}", script);
         assert_eq!(answer.u_mark(), literals[0].kind.is_unicode(), "{}", script);
+        let bodies = literals.iter().map(|literal| &script[literal.body.clone()]);
+        assert_eq!(answer.chars(), bodies.map(|body| body.chars().count()).sum(), "{}", script);
     }
 }
 

@@ -185,6 +185,21 @@ fn the_innermost_bracket_still_open_is_named() {
 }
 
 #[test]
+fn characters_are_counted_up_to_the_place() {
+    let run = [(Plain, "é\n"), (FString, "€{x!é}"), (Plain, "é")];
+    let refusal = of_run(&run);
+    assert_eq!((refusal.number(), refusal.literal(), refusal.chars()), (21, 1, 2 + 5));
+    let (script, literals) = side_by_side(&[(Plain, "é\n"), (FString, "€{x}")]);
+    assert_eq!(parse_strings(&script, &literals).unwrap().chars(), 6);
+    for (words, text) in [(0, 0), (16, 0)] {
+        let (mut words, mut text) = (vec![0; words], vec![0; text]);
+        let refusal = read_into(&script, &literals, &mut words, &mut text).unwrap_err();
+        assert_eq!(refusal.chars(), 6);
+    }
+    assert_eq!(of_run(&[(Plain, "é"), (Bytes, "b")]).chars(), 0);
+}
+
+#[test]
 fn blanks_are_no_expression() {
     for body in ["{}", "{\u{a0}}", "{\u{85}!r}", "{\t\u{3000}}", "{x:{\u{2028}}}"] {
         assert_eq!(of(body).reason(), &Reason::EmptyExpression, "{:?}", body);

@@ -61,6 +61,23 @@ fn the_counts_of_a_refusal_are_enough() {
 }
 
 #[test]
+fn a_record_for_each_byte_and_literal_is_enough() {
+    let nested = format!("{{x:{}}}", "{y=:a}".repeat(100));
+    let documented = format!("{{{}=}}", "é".repeat(100));
+    for run in [
+        [(Plain, ""), (Plain, "")],
+        [(FString, nested.as_str()), (Plain, "")],
+        [(FString, documented.as_str()), (Unicode, "\\u00e9")],
+    ] {
+        let (script, literals) = side_by_side(&run);
+        let bytes: usize = literals.iter().map(|literal| literal.body.len()).sum();
+        let (mut words, mut text) = (vec![0; 8 * (bytes + literals.len())], vec![0; 2 * bytes]);
+        let answer = read_into(&script, &literals, &mut words, &mut text).unwrap();
+        assert_eq!(answer, parse_strings(&script, &literals).unwrap());
+    }
+}
+
+#[test]
 fn empty_buffers_are_enough_for_nothing() {
     let (script, literals) = side_by_side(&[(FString, "")]);
     let answer = read_into(&script, &literals, &mut [], &mut []).unwrap();

@@ -25,10 +25,10 @@ finish-spec =
     let a = c .before .before .before .before .before .before .before .before .before .before .before .before .before .before .before .before .before .before .before .before .args in
     let k = c .before .before .before .before .before .before .before .before .before .before .before .before .before .before .before .close-held in
     let y = c .before .before .before .before .before .before .before .before .r .given in
-    finish-short (a .whole) _ (a .words .now) (a .text .now) _ (a .sink) (k .result) (k .ensures .out) (y .0 .0) _ _ _ (refused _ _ _ (rw (y .1) at (c .before .before .before .before .before .before .before .before .before .before .room .ensures))) (c .before .before .before .before .refuse .ensures))  -- returns
+    finish-short (a .whole) _ (a .chars) (a .words .now) (a .text .now) _ (a .sink) (k .result) (k .ensures .out) (y .0 .0) _ _ _ (refused _ _ _ (rw (y .1) at (c .before .before .before .before .before .before .before .before .before .before .room .ensures))) (c .before .before .before .before .refuse .ensures))  -- returns
     (λ c. search needs)  -- same-length-3
     (λ c.
     let a = c .before .before .before .before .before .before .before .before .before .before .before .before .before .args in
     let k = c .before .before .before .before .before .before .before .before .close-held in
     let t = c .before .enum-told .given in
-    finish-accepted (a .whole) _ (a .words .now) (a .text .now) _ (a .sink) (k .result) (k .ensures .out) _ (c .sort-of .ensures) (passes _ _ _ (rw (t .1) at (c .before .before .before .room .ensures)))))  -- returns-2
+    finish-accepted (a .whole) _ (a .chars) (a .words .now) (a .text .now) _ (a .sink) (k .result) (k .ensures .out) _ (c .sort-of .ensures) (passes _ _ _ (rw (t .1) at (c .before .before .before .room .ensures)))))  -- returns-2

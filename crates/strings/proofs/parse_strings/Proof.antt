@@ -1,5 +1,6 @@
 -- `strings::parse_strings` meets its contract. Assumes nothing.
 use borrow.Author.Needs.{needs}
+use native.Mathlib.Omega.{arith}
 use mathlib.Core.Path.{refl}
 use Rattle.definition.specs.Reading.{readNumbers}
 use Rattle.entry.specs.Answers.{refusalOf}
@@ -15,8 +16,9 @@ parse-strings-spec =
     (λ c κs. search needs)  -- check-requires
     (λ c. search needs)  -- enum-known-r
     (λ c κs. search needs)  -- refuse-requires
-    (λ c. search needs)  -- enum-known-count
-    (λ c κs. let a = (c .before .before .before .before .before .before .before .before .before .before .args) in passed (a .script .now) (a .numbers .now) (c .before .before .before .count .given .0 .0) (rw (c .before .before .before .count .given .1) at (c .before .before .before .before .before .check .ensures)))  -- read-all-requires
+    (λ c. search needs)  -- enum-known-chars
+    (λ c. let a = c .before .before .before .before .before .before .before .before .args in let p = passed (a .script .now) (a .numbers .now) (c .before .chars .given .0 .0) (rw (c .before .chars .given .1) at (c .before .before .before .check .ensures)) in omega (arith, p .0 .few))  -- cast-count
+    (λ c κs. let a = c .before .before .before .before .before .before .before .before .before .before .args in passed (a .script .now) (a .numbers .now) (c .before .before .before .chars .given .0 .0) (rw (c .before .before .before .chars .given .1) at (c .before .before .before .before .before .check .ensures)))  -- read-all-requires
     (λ c. search needs)  -- same-length
     (λ c. search needs)  -- same-length-2
     (λ c. let a = (c .before .before .before .before .before .before .before .before .before .before .before .before .before .before .before .args) in let x = (c .before .before .before .before .before .before .before .before .r .given .0 .0) in refused-call (a .words .now) (a .text .now) (a .words .now) (a .text .now) (c .before .before .before .before .refuse .last .0) (c .before .before .before .before .refuse .last .1 .0) x (c .before .before .before .before .refuse .result) (readNumbers (a .script .now) (a .numbers .now) (a .words .now) (a .text .now)) (refused-reads (a .script .now) (a .numbers .now) (a .words .now) (a .text .now) (refusalOf x) (rw (c .before .before .before .before .before .before .before .before .r .given .1) at (c .before .before .before .before .before .before .before .before .before .before .check .ensures))) refl refl (c .before .before .before .before .refuse .ensures))  -- returns

@@ -5,7 +5,7 @@ use mathlib.Core.Path.{_≡_, refl, _∙_}
 use Prim.Native.Nat.{_-_}
 use lib.ListN.{length}
 use Rattle.strings.specs.Sinks.{wholeOf}
-use Rattle.strings.proofs.ListLaws.{Listing, before-all, after-all, room, stands, refuses-all, next-literal}
+use Rattle.strings.proofs.ListLaws.{Listing, before-all, after-all, room, first, stands, refuses-all, next-literal}
 use Rattle.strings.proofs.read_list.Statement.{statement}
 use Rattle.strings.proofs.read_list.Tie as tie
 
@@ -27,8 +27,11 @@ read-list-spec =
     (λ c. search needs)  -- enum-known-x
     (λ c κs.
     let l = c .before .before .before .before .before .before .before .before .before .before in
-    stands _ _ _ _ _ _ (l .before .before .before .before .before .before .before .pre) _ _ _ _ (l .before .before .loop .inv .2) (l .before .loop-test .taken) (l .literal-at .result) (l .literal-at .ensures) (omega (arith, l .literal-at .ok)) _ _ (c .before .x .given .0 .0)
-    (rw (c .before .x .given .1) at (c .before .before .before .before .before .before .before .read-literal .ensures)))  -- refusal-in-requires
+    let p = l .before .before .before .before .before .before .before .pre in (
+      stands _ _ _ _ _ _ p _ _ _ _ (l .before .before .loop .inv .2) (l .before .loop-test .taken) (l .literal-at .result) (l .literal-at .ensures) (omega (arith, l .literal-at .ok)) _ _ (c .before .x .given .0 .0)
+          (rw (c .before .x .given .1) at (c .before .before .before .before .before .before .before .read-literal .ensures)),
+      first _ _ _ _ _ _ p _ _ _ _ (l .before .before .loop .inv .2) (l .before .loop-test .taken) (l .literal-at .result) (l .literal-at .ensures) (omega (arith, l .literal-at .ok)),
+    ))  -- refusal-in-requires
     (λ c. search needs)  -- same-length
     (λ c. search needs)  -- same-length-2
     (λ c.

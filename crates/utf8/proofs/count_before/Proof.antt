@@ -28,7 +28,7 @@ count-before-spec =
     (λ c. search needs)  -- enum-known-c
     (λ c. search needs)  -- enum-told
     (λ c. let l = c .before .before .before .before .loop in sym (count-ends _ _ _ _ (l .inv) (step-end _ _ (sym (c .before .before .next-char .ensures) ∙ c .enum-told .given .1))))  -- returns
-    (λ c κs. omega (arith, c .before .before .before .before .before .loop .inv .small, step-char _ _ _ _ (sym (c .before .before .before .next-char .ensures) ∙ c .before .c .given .1) .there))  -- more-requires
+    (λ c κs. let l = c .before .before .before .before .before .loop in (l .inv .lines, omega (arith, l .inv .small, step-char _ _ _ _ (sym (c .before .before .before .next-char .ensures) ∙ c .before .c .given .1) .there)))  -- more-requires
     (λ c.
     let l = c .before .before .before .before .before .before in
     let S = step-char _ _ _ _ (sym (c .before .before .before .before .next-char .ensures) ∙ c .before .before .c .given .1) in

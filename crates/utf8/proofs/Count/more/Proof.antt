@@ -1,5 +1,6 @@
 -- `utf8::Count::more` meets its contract. Assumes nothing.
 use borrow.Author.Needs.{needs}
+use native.Mathlib.Omega.{arith}
 use borrow.Author.Tests.{eq-eqb, ne-eqb}
 use Rattle.definition.specs.Counts.{more}
 use Rattle.utf8.proofs.Count.more.Statement.{statement}
@@ -11,6 +12,8 @@ more-spec =
     tie.close
     (tie.spec
     (λ c. search needs)  -- add-t4
-    (λ c. rw (eq-eqb _ _ (c .before .if1 .taken)))  -- returns
     (λ c. search needs)  -- add-t5
-    (λ c. rw (ne-eqb _ _ (c .before .if1 .left))))  -- returns-2
+    (λ c. rw (eq-eqb _ _ (c .before .before .if1 .taken)))  -- returns
+    (λ c. search needs)  -- add-t6
+    (λ c. search needs)  -- add-t7
+    (λ c. rw (ne-eqb _ _ (c .before .before .if1 .left))))  -- returns-2
