@@ -9,7 +9,7 @@ use Rattle.definition.specs.Chars.{if_then_else_, _is_, atEnd, code, nex
 use Rattle.definition.specs.Body.{FieldCase, pair, converts, documents, formats, opener, closes, closer, quote, space, backslash, stray, fieldCase}
 use Rattle.definition.proofs.Adds.{Calm}
 
-and-both : (a b : Bool) → (a && b) ≡ true → (a ≡ true) × (b ≡ true)
+pub and-both : (a b : Bool) → (a && b) ≡ true → (a ≡ true) × (b ≡ true)
 and-both true b e = (refl, e)
 and-both false b e = absurd (false≢true e)
 

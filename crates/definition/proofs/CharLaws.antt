@@ -1,14 +1,16 @@
 -- Characters of any bytes: where one ends, and which of them are ASCII. Assumes nothing.
 use mathlib.Core.Path.{_≡_, refl, sym, _∙_, ap, ap₂, subst}
-use mathlib.Core.Bool.{Bool, true, false, _&&_}
+use mathlib.Core.Bool.{Bool, true, false, _&&_, _||_}
 use mathlib.Core.List.{List, [], _∷_}
 use mathlib.Core.Option.{Option, none, some}
 use Prim.Native.Nat.{ℕ, zero, suc, _+_, _-_, _≤_, _<_, max}
 use native.Mathlib.Nat.{add-assoc, le-of-suc-le-suc, not-suc-le-zero}
+use native.Mathlib.Numerals.{add-one}
 use native.Mathlib.Omega.{arith, by-contra}
 use borrow.Author.Tests.{ltb-true, ltb-false, leb-true, leb-false, le-leb, lt-leb, eqb-true, eqb-false, ne-eqb}
 use lib.Dec.{ltb, leb, eqb, lit≤}
-use lib.ListN.{length, drop, getD, length-drop, List·getD-eq-default}
+use lib.ListN.{length, drop, getD, drop-of-length-le, length-drop, List·getD-eq-default}
+use lib.Seq.{drop-cons}
 use Rattle.definition.specs.Chars.{if_then_else_, byte, atEnd, noCode, Range, _to_, inside, insideAny, table37, following, follow, width, decoded, code, next, formedFrom, wellFormed, before}
 
 -- a test is true or false
@@ -18,6 +20,11 @@ cases false f g = g refl
 
 pub no : {P : Type 0} → false ≡ true → P
 no h = let z : _≡_ {A = ℕ} 0 1 = cc in absurd (omega arith)
+
+-- one of two tests is true
+pub either : {P : Type 0} (x y : Bool) → (x || y) ≡ true → (x ≡ true → P) → (y ≡ true → P) → P
+either true y e f g = f refl
+either false y e f g = g e
 
 -- what is within a range, and what is not
 pub inside-true : (low high b : ℕ) → inside (low to high) b ≡ true → (low ≤ b) × (b ≤ high)
@@ -229,6 +236,20 @@ before-most test (b ∷ l) = go (test b) refl (before-most test l)
 -- what stands before the first byte that passes a test ends in the body
 pub before-in : (test : ℕ → Bool) (s : List ℕ) (i : ℕ) → i ≤ length s → i + before test (drop i s) ≤ length s
 before-in test s i h = omega (arith, before-most test (drop i s), length-drop i s)
+
+-- it ends with the body, at a byte that passes, or later
+module _ (test : ℕ → Bool) (s : List ℕ) (i : ℕ) where
+  pub before-end : length s ≤ i → i + before test (drop i s) ≡ i
+  unfolding before
+  before-end h = rw (drop-of-length-le s h) (omega arith)
+
+  pub before-here : i < length s → test (byte s i) ≡ true → i + before test (drop i s) ≡ i
+  unfolding before
+  before-here h t = rw (drop-cons s i 256 h) (rw (t, before) (omega arith))
+
+  pub before-next : i < length s → test (byte s i) ≡ false → i + before test (drop i s) ≡ i + 1 + before test (drop (i + 1) s)
+  unfolding before
+  before-next h t = rw (drop-cons s i 256 h) (rw (t, before, add-one i) (omega arith))
 
 -- WELL-FORMED TEXT: where no character begins, a tail stands
 abbrev pub Utf8 : List ℕ → Type 0

@@ -33,3 +33,9 @@ pub mod Held
 pub mod Raw
 pub mod FormedShown
 pub mod AssuredShown
+pub mod LiteralLaws
+pub mod LiteralFound
+pub mod RunLaws
+pub mod LiteralSteps
+pub mod ListLaw
+pub mod ListShown

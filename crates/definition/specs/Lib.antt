@@ -11,3 +11,6 @@ pub mod View
 pub mod Matched
 pub mod Words
 pub mod Lines
+pub mod Opening
+pub mod IsRun
+pub mod Literals

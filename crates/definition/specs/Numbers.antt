@@ -89,7 +89,23 @@ tooFewRecordPlaces = 30
 abbrev pub tooLittleTextRoom : ℕ
 tooLittleTextRoom = 31
 
--- all of them, in the table's order
+-- of the literals from an offset on
+abbrev pub scriptTooLong : ℕ
+scriptTooLong = 49
+
+abbrev pub neverClosed : ℕ
+neverClosed = 50
+
+abbrev pub newlineInLiteral : ℕ
+newlineInLiteral = 51
+
+abbrev pub noLiteral : ℕ
+noLiteral = 52
+
+abbrev pub tooLittleListRoom : ℕ
+tooLittleListRoom = 53
+
+-- those of a reading, in the table's order
 abbrev pub refusals : List ℕ
 refusals =
     emptyList
