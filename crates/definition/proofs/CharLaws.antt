@@ -237,19 +237,19 @@ before-most test (b ∷ l) = go (test b) refl (before-most test l)
 pub before-in : (test : ℕ → Bool) (s : List ℕ) (i : ℕ) → i ≤ length s → i + before test (drop i s) ≤ length s
 before-in test s i h = omega (arith, before-most test (drop i s), length-drop i s)
 
--- it ends with the body, at a byte that passes, or later
-module _ (test : ℕ → Bool) (s : List ℕ) (i : ℕ) where
+-- it ends with the body, at a byte that passes, or later, whatever is read past the end
+module _ (test : ℕ → Bool) (s : List ℕ) (i d : ℕ) where
   pub before-end : length s ≤ i → i + before test (drop i s) ≡ i
   unfolding before
   before-end h = rw (drop-of-length-le s h) (omega arith)
 
-  pub before-here : i < length s → test (byte s i) ≡ true → i + before test (drop i s) ≡ i
+  pub before-here : i < length s → test (getD s i d) ≡ true → i + before test (drop i s) ≡ i
   unfolding before
-  before-here h t = rw (drop-cons s i 256 h) (rw (t, before) (omega arith))
+  before-here h t = rw (drop-cons s i d h) (rw (t, before) (omega arith))
 
-  pub before-next : i < length s → test (byte s i) ≡ false → i + before test (drop i s) ≡ i + 1 + before test (drop (i + 1) s)
+  pub before-next : i < length s → test (getD s i d) ≡ false → i + before test (drop i s) ≡ i + 1 + before test (drop (i + 1) s)
   unfolding before
-  before-next h t = rw (drop-cons s i 256 h) (rw (t, before, add-one i) (omega arith))
+  before-next h t = rw (drop-cons s i d h) (rw (t, before, add-one i) (omega arith))
 
 -- WELL-FORMED TEXT: where no character begins, a tail stands
 abbrev pub Utf8 : List ℕ → Type 0

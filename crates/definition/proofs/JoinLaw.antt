@@ -64,7 +64,7 @@ from-append script i (x ∷ xs) ys =
     (from-append script (suc i) xs ys ∙ ap (λ k. andThen (readFrom script (suc i) xs) (readFrom script k ys)) (suc-add i (length xs) ∙ sym (add-suc i (length xs))))
     ∙ then-assoc (readLiteral script i x) (readFrom script (suc i) xs) (readFrom script (i + suc (length xs)) ys)
 
-end-append : (e : ℕ) (xs : List Literal) (y : Literal) (ys : List Literal) → lastEnd e (xs ++ (y ∷ ys)) ≡ lastEnd 0 (y ∷ ys)
+pub end-append : (e : ℕ) (xs : List Literal) (y : Literal) (ys : List Literal) → lastEnd e (xs ++ (y ∷ ys)) ≡ lastEnd 0 (y ∷ ys)
 unfolding lastEnd
 end-append e [] y ys = refl
 end-append e (x ∷ xs) y ys = end-append (x .end) xs y ys

@@ -6,7 +6,7 @@ use mathlib.Core.Option.{Option, none, some}
 use Prim.Native.Nat.{ℕ, suc, _+_, _*_, _≤_, _<_}
 use native.Mathlib.Nat.{sub-self}
 use native.Mathlib.Omega.{arith}
-use borrow.Author.Tests.{leb-true, lt-leb, ltb-true, ltb-false, le-ltb}
+use borrow.Author.Tests.{leb-true, ltb-true, ltb-false, le-ltb}
 use lib.Dec.{ltb, leb}
 use lib.ListN.{length, drop, length-append, length-drop, length-replicate}
 use Rattle.definition.specs.Numbers.{badDescriptor, scriptTooLong, noLiteral}
@@ -20,6 +20,7 @@ use Rattle.definition.proofs.Adds.{part-split}
 use Rattle.definition.proofs.LiteralLaws.{opens-in}
 use Rattle.definition.proofs.LiteralFound.{literal-lies, literal-good}
 use Rattle.definition.proofs.RunLaws.{passed-ahead, opens-known, RunAt, run-is, run-found}
+use Rattle.definition.proofs.LiteralSteps.{from-run}
 
 -- A LIST THAT IS GIVEN IS A RUN
 pub record Given (script : List ℕ) (offset : ℕ) (x : Run) : Type 0 where
@@ -59,10 +60,8 @@ given script offset x h = subst (λ (o : Outcome Run). Told script offset o) h (
 -- and what is a run is given
 pub list-found : (script : List ℕ) (offset : ℕ) (ls : List Literal) (stop : ℕ) → length script ≤ 1048576 → opens script offset ≤ 6 → IsRun script offset ls stop
     → literalsFrom script offset ≡ accepts (record { literals = ls; stop = stop })
-unfolding literalsFrom run
-list-found script offset ls stop h o p =
-    rw (le-ltb 1048576 (length script) h, lt-leb noKind (opens script offset) (omega arith), literalsFrom)
-    (run-found script ls stop (suc (length script)) offset (omega arith) p)
+unfolding run
+list-found script offset ls stop h o p = from-run script offset h o ∙ run-found script ls stop (suc (length script)) offset (omega arith) p
 
 -- IT PASSES THE ENTRY CHECKS 1, 2 AND 4
 good-from : (s : List ℕ) (ls : List Literal) (stop previous n : ℕ) → previous ≤ nextPlace ls stop → Adjacent s ls stop → firstBad (bad s) (λ i l. refusal badDescriptor i 0 0 0) previous n ls ≡ none

@@ -3,13 +3,13 @@ use mathlib.Core.Path.{_≡_, refl, ap}
 use mathlib.Core.List.{List, [], _∷_, _++_, append-assoc}
 use Prim.Native.Nat.{ℕ, zero, suc, _+_, _-_, _≤_, _<_}
 use native.Mathlib.Omega.{arith}
-use borrow.Author.Tests.{le-leb, lt-leb}
+use borrow.Author.Tests.{lt-ltb, le-ltb, le-leb, lt-leb}
 use lib.ListN.{length}
-use Rattle.definition.specs.Numbers.{neverClosed, newlineInLiteral}
-use Rattle.definition.specs.Entry.{Literal, Refusal}
+use Rattle.definition.specs.Numbers.{scriptTooLong, neverClosed, newlineInLiteral, noLiteral}
+use Rattle.definition.specs.Entry.{Literal, Refusal, refusal}
 use Rattle.definition.specs.Reading.{Outcome, accepts, refuses}
 use Rattle.definition.specs.Opening.{noKind, opens, lineEnd}
-use Rattle.definition.specs.Literals.{BodyCase, over, takes, closes, breaks, plain, bodyCase, closed, fails, closingN, closing, literalAt, space, comment, other, blankCase, passedN, passed, Run, firstRun, runN, run}
+use Rattle.definition.specs.Literals.{BodyCase, over, takes, closes, breaks, plain, bodyCase, closed, fails, closingN, closing, literalAt, space, comment, other, blankCase, passedN, passed, Run, firstRun, runN, run, literalsFrom}
 use Rattle.definition.proofs.LiteralLaws.{Facts, facts}
 use Rattle.definition.proofs.LiteralFound.{LiteralAt, literal-at}
 use Rattle.definition.proofs.RunLaws.{sign-in, blank-facts, space-in, comment-ahead, passed-fuel, run-fuel, fewer}
@@ -95,3 +95,17 @@ pub run-after : (ls : List Literal) (l : Literal) (o : Outcome Run) → runAfter
 unfolding firstRun
 run-after ls l (refuses r) = refl
 run-after ls l (accepts x) = rw (append-assoc ls (l ∷ []) (x .literals))
+
+-- FROM AN OFFSET ON
+module _ (script : List ℕ) (offset : ℕ) where
+  pub from-long : 1048576 < length script → literalsFrom script offset ≡ refuses (refusal scriptTooLong 0 0 0 0)
+  unfolding literalsFrom
+  from-long h = rw (lt-ltb 1048576 (length script) h, literalsFrom)
+
+  pub from-none : length script ≤ 1048576 → noKind ≤ opens script offset → literalsFrom script offset ≡ refuses (refusal noLiteral 0 offset 0 0)
+  unfolding literalsFrom
+  from-none h k = rw (le-ltb 1048576 (length script) h, le-leb noKind (opens script offset) k, literalsFrom)
+
+  pub from-run : length script ≤ 1048576 → opens script offset ≤ 6 → literalsFrom script offset ≡ run script offset
+  unfolding literalsFrom
+  from-run h k = rw (le-ltb 1048576 (length script) h, lt-leb noKind (opens script offset) (omega arith), literalsFrom)

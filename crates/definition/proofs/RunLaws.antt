@@ -42,7 +42,7 @@ sign-in s i e = let h = eqb-true (byte s i) 35 e in byte-in s i (omega arith)
 -- a comment has its sign at least
 pub comment-ahead : (s : List ℕ) (i : ℕ) → isSign (byte s i) ≡ true → i < lineEnd s i
 comment-ahead s i e =
-    let h = eqb-true (byte s i) 35 e in omega (arith, before-next (λ c. c is "\n") s i (sign-in s i e) (rw h))
+    let h = eqb-true (byte s i) 35 e in omega (arith, before-next (λ c. c is "\n") s i 256 (sign-in s i e) (rw h))
 
 -- blanks lead ahead, and stay in the script
 blanks-ahead : (s : List ℕ) {i j : ℕ} → Blanks s i j → (i ≤ j) × (i ≤ length s → j ≤ length s)

@@ -1,0 +1,4 @@
+pub mod Openings
+pub mod Closings
+pub mod Listings
+pub mod Founds

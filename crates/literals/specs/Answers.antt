@@ -1,0 +1,102 @@
+-- What the answers say, in the definition's terms, and what a call over a list buffer leaves.
+use Prim.Native.Nat.{ℕ, _*_, _≤_}
+use mathlib.Core.Path.{_≡_}
+use mathlib.Core.Bool.{Bool, _||_}
+use mathlib.Core.List.{List, [], _∷_}
+use lib.Dec.{eqb}
+use lib.ListN.{length}
+use Rattle.definition.specs.Numbers.{tooLittleListRoom}
+use Rattle.definition.specs.Chars.{if_then_else_, _is_}
+use Rattle.definition.specs.Entry as d
+use Rattle.definition.specs.Entry.{refusal}
+use Rattle.definition.specs.Reading.{Outcome, accepts, refuses, lastEnd, zeros}
+use Rattle.definition.specs.Opening.{noKind, opens}
+use Rattle.definition.specs.Literals as s
+use Rattle.definition.specs.Literals.{flat, ListCall, listNumbers}
+use Rattle.buffers.specs.Over.{over}
+use Rattle.literals.specs.declared.Literal.{Literal}
+use Rattle.literals.specs.declared.Run.{Run}
+use Rattle.literals.specs.declared.Refusal.{Refusal}
+use Rattle.literals.specs.declared.Listing.{Listing}
+use Rattle.literals.specs.declared.Listing.the-variants.{Lists, Refused, Short}
+use Rattle.literals.specs.declared.BodyCase.{BodyCase}
+use Rattle.literals.specs.declared.BodyCase.the-variants.{Over, Takes, Closes, Breaks, Plain}
+use Rattle.literals.specs.declared.Closing.{Closing}
+use Rattle.literals.specs.declared.Closing.the-variants.{Closed, Fails}
+use Rattle.literals.specs.declared.Found.{Found}
+use Rattle.literals.specs.declared.Found.the-variants as found
+use Rattle.literals.specs.declared.BlankCase.{BlankCase}
+use Rattle.literals.specs.declared.BlankCase.the-variants.{Space, Comment, Other}
+use Rattle.literals.specs.declared.Ran.{Ran}
+use Rattle.literals.specs.declared.Ran.the-variants as ran
+
+-- the kind that a letter beside an `r` says
+abbrev pub rawKind : ℕ → ℕ
+rawKind a = if a is "fF" then 4 else if a is "bB" then 5 else noKind
+
+-- what a scan over a body stops at, and its third byte by the literal's quote and flag
+abbrev pub mark : ℕ → ℕ → ℕ → Bool
+mark quote third b = eqb b quote || eqb b 92 || eqb b third
+
+abbrev pub thirdOf : ℕ → ℕ → ℕ
+thirdOf quote flag = if eqb flag 1 then quote else 10
+
+abbrev pub caseOf : BodyCase → s.BodyCase
+caseOf Over = s.over
+caseOf Takes = s.takes
+caseOf Closes = s.closes
+caseOf Breaks = s.breaks
+caseOf Plain = s.plain
+
+abbrev pub closingOf : Closing → s.Closing
+closingOf (Closed at) = s.closed at
+closingOf (Fails number) = s.fails number
+
+-- a literal of a kind opens there, in a script that is not too long
+pub record Within (script : List ℕ) (at kind : ℕ) : Type 0 where
+  pub not-long : length script ≤ 1048576
+  pub is-kind : kind ≡ opens script at
+  pub known : kind ≤ 6
+
+abbrev pub literalOf : Literal → d.Literal
+literalOf l = record { kind = l .kind; triple = l .triple; offset = l .offset; size = l .size; start = l .start; end = l .end }
+
+abbrev pub refusalOf : Refusal → d.Refusal
+refusalOf r = refusal (r .number) 0 (r .place) 0 0
+
+abbrev pub foundOf : Found → Outcome d.Literal
+foundOf (found.Literal l) = accepts (literalOf l)
+foundOf (found.Refused r) = refuses (refusalOf r)
+
+abbrev pub blankOf : BlankCase → s.BlankCase
+blankOf Space = s.space
+blankOf Comment = s.comment
+blankOf Other = s.other
+
+-- a literal's six numbers
+abbrev pub numbersOf : Literal → List ℕ
+numbersOf l = l .kind ∷ l .triple ∷ l .offset ∷ l .size ∷ l .start ∷ l .end ∷ []
+
+-- A run that was written from the front of a buffer on, as far as there is room
+pub record Wrote (o : Outcome s.Run) (buffer buffer′ : List ℕ) (x : Run) : Type 0 where
+  pub literals : List d.Literal
+  pub runs : o ≡ accepts (record { literals = literals; stop = x .stop })
+  pub counted : x .count ≡ length literals
+  pub few : x .count ≤ 1048576
+  pub ends : x .end ≡ lastEnd 0 literals
+  pub wrote : buffer′ ≡ over buffer 0 (flat literals)
+
+abbrev pub RunIs : Outcome s.Run → List ℕ → List ℕ → Ran → Type 0
+RunIs o buffer buffer′ (ran.Done x) = Wrote o buffer buffer′ x
+RunIs o buffer buffer′ (ran.Refused r) = o ≡ refuses (refusalOf r)
+
+-- the paper's numbers of an answer
+abbrev pub says : Listing → List ℕ
+says (Lists x) = 0 ∷ x .count ∷ x .end ∷ x .stop ∷ []
+says (Refused r) = r .number ∷ 0 ∷ r .place ∷ []
+says (Short needed) = tooLittleListRoom ∷ 0 ∷ 0 ∷ 0 ∷ 0 ∷ 0 ∷ 0 ∷ 0 ∷ 0 ∷ needed ∷ []
+
+-- a call of the definition: what is answered, and the list buffer afterwards
+pub record CallIs (call : ListCall) (list : List ℕ) (r : Listing) : Type 0 where
+  pub answer : says r ≡ listNumbers (call .listing)
+  pub left : list ≡ call .list
