@@ -1,10 +1,16 @@
 // The C interface: flat numbers in, twelve numbers out.
+use literals::Listing;
+use literals::list_literals;
 use strings::Outcome;
 use strings::parse_strings;
 ghost use mathlib.Core.Path.{_≡_};
 ghost use Rattle.definition.specs.Reading.{readNumbers};
+ghost use Rattle.definition.specs.Literals.{literalsInto};
 ghost use Rattle.strings.specs.Strings.{says};
-ghost use Rattle.stumpgarret.specs.Twelve.{twelve, CallIs};
+ghost use Rattle.literals.specs.Answers as listing;
+ghost use Rattle.stumpgarret.specs.Twelve.{twelve, CallIs, ListIs};
+
+const TOO_LITTLE_LIST_ROOM: u32 = 53;
 
 // An outcome's numbers, and zeros up to twelve.
 fn twelve(o: Outcome) -> [u32; 12]
@@ -54,4 +60,28 @@ pub extern "C" fn stumpgarret_read(
     ensures { λ _. ⌜ CallIs (readNumbers (now (script .entry)) (now (literals .entry)) (now (words .entry)) (now (text .entry))) (now (answer .exit)) (now (words .exit)) (now (text .exit)) ⌝ }
 {
     *answer = twelve(parse_strings(script, literals, words, text));
+}
+
+// A listing's numbers, and zeros up to twelve.
+fn twelve_listed(l: Listing) -> [u32; 12]
+    ensures { λ r. ⌜ r ≡ twelve (listing.says l) ⌝ }
+{
+    match l {
+        Listing::Lists(x) => [0, x.count, x.end, x.stop, 0, 0, 0, 0, 0, 0, 0, 0],
+        Listing::Refused(r) => [r.number, 0, r.place, 0, 0, 0, 0, 0, 0, 0, 0, 0],
+        Listing::Short(needed) => [TOO_LITTLE_LIST_ROOM, 0, 0, 0, 0, 0, 0, 0, 0, needed, 0, 0],
+    }
+}
+
+// Lists the adjacent literals of a script from an offset on, six numbers for each, and answers in twelve numbers.
+#[no_mangle]
+pub extern "C" fn stumpgarret_literals(
+    script: &[u8],
+    offset: u32,
+    numbers: &mut [u32],
+    answer: &mut [u32; 12],
+)
+    ensures { λ _. ⌜ ListIs (literalsInto (now (script .entry)) offset (now (numbers .entry))) (now (answer .exit)) (now (numbers .exit)) ⌝ }
+{
+    *answer = twelve_listed(list_literals(script, offset, numbers));
 }
