@@ -203,10 +203,7 @@ fn tripled(s: &[u8], at: usize) -> u32
     if byte_at(s, at + 1) != quote {
         return 0;
     }
-    if byte_at(s, at + 2) != quote {
-        return 0;
-    }
-    1
+    if byte_at(s, at + 2) == quote { 1 } else { 0 }
 }
 
 // How many quotes a flag stands for.

@@ -13,9 +13,9 @@ body-case-spec =
     (tie.spec
     (λ c. rw (le-leb _ _ (c .if1 .taken)))  -- returns
     (λ c. search needs)  -- shared-slice-read-b
-    (λ c. rw (lt-leb _ _ (c .before .before .if1 .left), ← byte-is (c .before .before .before .before .args .s .now) (c .before .before .before .before .args .at) (c .before .before .if1 .left), eq-eqb _ 92 (c .if2 .taken)))  -- returns-2
+    (λ c. rw (lt-leb _ _ (c .before .before .if1 .left), ← byte-is (c .before .before .before .before .args .s .now) (c .before .before .before .before .args .at) (c .before .before .if1 .left), eq-eqb _ _ (c .if2 .taken)))  -- returns-2
     (λ c κs. search needs)  -- quotes-at-requires
-    (λ c. rw (lt-leb _ _ (c .before .before .before .before .if1 .left), ← byte-is (c .before .before .before .before .before .before .args .s .now) (c .before .before .before .before .before .before .args .at) (c .before .before .before .before .if1 .left), ne-eqb _ 92 (c .before .before .if2 .left), ← c .before .quotes-at .ensures, c .if3 .taken))  -- returns-3
-    (λ c. rw (lt-leb _ _ (c .before .before .before .before .before .if1 .left), ← byte-is (c .before .before .before .before .before .before .before .args .s .now) (c .before .before .before .before .before .before .before .args .at) (c .before .before .before .before .before .if1 .left), ne-eqb _ 92 (c .before .before .before .if2 .left), ← c .before .before .quotes-at .ensures, c .before .if3 .left, ne-eqb _ 10 (c .if4 .taken)))  -- returns-4
-    (λ c. rw (lt-leb _ _ (c .before .before .before .before .before .before .if1 .left), ← byte-is (c .before .before .before .before .before .before .before .before .args .s .now) (c .before .before .before .before .before .before .before .before .args .at) (c .before .before .before .before .before .before .if1 .left), ne-eqb _ 92 (c .before .before .before .before .if2 .left), ← c .before .before .before .quotes-at .ensures, c .before .before .if3 .left, eq-eqb _ 10 (c .before .if4 .left), eq-eqb _ 1 (c .if5 .taken)))  -- returns-5
-    (λ c. rw (lt-leb _ _ (c .before .before .before .before .before .before .if1 .left), ← byte-is (c .before .before .before .before .before .before .before .before .args .s .now) (c .before .before .before .before .before .before .before .before .args .at) (c .before .before .before .before .before .before .if1 .left), ne-eqb _ 92 (c .before .before .before .before .if2 .left), ← c .before .before .before .quotes-at .ensures, c .before .before .if3 .left, eq-eqb _ 10 (c .before .if4 .left), ne-eqb _ 1 (c .if5 .left))))  -- returns-6
+    (λ c. rw (lt-leb _ _ (c .before .before .before .before .if1 .left), ← byte-is (c .before .before .before .before .before .before .args .s .now) (c .before .before .before .before .before .before .args .at) (c .before .before .before .before .if1 .left), ne-eqb _ _ (c .before .before .if2 .left), ← c .before .quotes-at .ensures, c .if3 .taken))  -- returns-3
+    (λ c. rw (lt-leb _ _ (c .before .before .before .before .before .if1 .left), ← byte-is (c .before .before .before .before .before .before .before .args .s .now) (c .before .before .before .before .before .before .before .args .at) (c .before .before .before .before .before .if1 .left), ne-eqb _ _ (c .before .before .before .if2 .left), ← c .before .before .quotes-at .ensures, c .before .if3 .left, ne-eqb _ _ (c .if4 .taken)))  -- returns-4
+    (λ c. rw (lt-leb _ _ (c .before .before .before .before .before .before .if1 .left), ← byte-is (c .before .before .before .before .before .before .before .before .args .s .now) (c .before .before .before .before .before .before .before .before .args .at) (c .before .before .before .before .before .before .if1 .left), ne-eqb _ _ (c .before .before .before .before .if2 .left), ← c .before .before .before .quotes-at .ensures, c .before .before .if3 .left, eq-eqb _ _ (c .before .if4 .left), eq-eqb _ _ (c .if5 .taken)))  -- returns-5
+    (λ c. rw (lt-leb _ _ (c .before .before .before .before .before .before .if1 .left), ← byte-is (c .before .before .before .before .before .before .before .before .args .s .now) (c .before .before .before .before .before .before .before .before .args .at) (c .before .before .before .before .before .before .if1 .left), ne-eqb _ _ (c .before .before .before .before .if2 .left), ← c .before .before .before .quotes-at .ensures, c .before .before .if3 .left, eq-eqb _ _ (c .before .if4 .left), ne-eqb _ _ (c .if5 .left))))  -- returns-6

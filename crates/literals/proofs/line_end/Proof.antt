@@ -23,8 +23,8 @@ line-end-spec =
     μ-loop
     (λ c. refl)  -- loop-holds
     (λ c. search needs)  -- shared-slice-read
-    (λ c. sym (c .before .before .before .loop .inv ∙ before-here _ _ _ 0 (c .before .before .loop-test .taken) (eq-eqb _ 10 (c .if1 .taken))))  -- returns
+    (λ c. sym (c .before .before .before .loop .inv ∙ before-here _ _ _ 0 (c .before .before .loop-test .taken) (eq-eqb _ _ (c .if1 .taken))))  -- returns
     (λ c. search needs)  -- add-i
     (λ c. search needs)  -- loop-less
-    (λ c. c .before .before .before .loop .inv ∙ before-next _ _ _ 0 (c .before .before .loop-test .taken) (ne-eqb _ 10 (c .if1 .left)))  -- loop-again
+    (λ c. c .before .before .before .loop .inv ∙ before-next _ _ _ 0 (c .before .before .loop-test .taken) (ne-eqb _ _ (c .if1 .left)))  -- loop-again
     (λ c. sym (c .before .loop .inv ∙ before-end _ _ _ 0 (c .loop-test .left))))  -- returns-2

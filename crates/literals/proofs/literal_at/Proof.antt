@@ -21,7 +21,7 @@ literal-at-spec =
     (λ c. quote-in _ _ _ (c .before .before .before .before .before .pre) _ _ _ (c .before .before .before .prefix .ensures) (c .before .before .tripled .ensures) (c .before .quotes .ensures))  -- shared-slice-read-closing-from
     (λ c κs. body-in _ _ _ (c .before .before .before .before .before .pre) _ _ _ (c .before .before .before .prefix .ensures) (c .before .before .tripled .ensures) (c .before .quotes .ensures))  -- closing-from-requires
     (λ c. search needs)  -- enum-known-number
-    (λ c. omega (arith, starts-in _ _ _ (c .before .before .before .before .before .before .before .before .before .pre), c .before .before .before .before .before .before .before .before .before .pre .not-long))  -- cast-t16
+    (λ c. let h = body-in _ _ _ (c .before .before .before .before .before .before .before .before .before .pre) _ _ _ (c .before .before .before .before .before .before .before .prefix .ensures) (c .before .before .before .before .before .before .tripled .ensures) (c .before .before .before .before .before .quotes .ensures) in omega (arith, h, c .before .before .before .before .before .before .before .before .before .pre .not-long))  -- cast-t16
     (λ c. search needs)  -- enum-known-to
     (λ c. let h = body-in _ _ _ (c .before .before .before .before .before .before .before .before .before .pre) _ _ _ (c .before .before .before .before .before .before .before .prefix .ensures) (c .before .before .before .before .before .before .tripled .ensures) (c .before .before .before .before .before .quotes .ensures) in omega (arith, h, c .before .before .before .before .before .before .before .before .before .pre .not-long))  -- cast-t18
     (λ c. let l = closed-in _ _ _ (c .before .before .before .before .before .before .before .before .before .pre) _ _ _ (c .before .before .before .before .before .before .before .prefix .ensures) (c .before .before .before .before .before .before .tripled .ensures) (c .before .before .before .before .before .quotes .ensures) _ (rw (c .before .to .given .1) at (c .before .before .before .closing-from .ensures)) in omega (arith, l .0))  -- sub-t19

@@ -25,9 +25,9 @@ plain-end-spec =
     (λ c. refl)  -- loop-holds
     (λ c. search needs)  -- shared-slice-read-b
     (λ c. sym (c .before .before .before .loop .inv ∙ before-here _ _ _ 0 (c .before .before .loop-test .taken) (rw (eq-eqb _ _ (c .if1 .taken)))))  -- returns
-    (λ c. sym (c .before .before .before .before .loop .inv ∙ before-here _ _ _ 0 (c .before .before .before .loop-test .taken) (rw (ne-eqb _ _ (c .before .if1 .left), eq-eqb _ 92 (c .if2 .taken)))))  -- returns-2
-    (λ c. sym (c .before .before .before .before .before .loop .inv ∙ before-here _ _ _ 0 (c .before .before .before .before .loop-test .taken) (rw (ne-eqb _ _ (c .before .before .if1 .left), ne-eqb _ 92 (c .before .if2 .left), eq-eqb _ _ (c .if3 .taken)))))  -- returns-3
+    (λ c. sym (c .before .before .before .before .loop .inv ∙ before-here _ _ _ 0 (c .before .before .before .loop-test .taken) (rw (ne-eqb _ _ (c .before .if1 .left), eq-eqb _ _ (c .if2 .taken)))))  -- returns-2
+    (λ c. sym (c .before .before .before .before .before .loop .inv ∙ before-here _ _ _ 0 (c .before .before .before .before .loop-test .taken) (rw (ne-eqb _ _ (c .before .before .if1 .left), ne-eqb _ _ (c .before .if2 .left), eq-eqb _ _ (c .if3 .taken)))))  -- returns-3
     (λ c. search needs)  -- add-i
     (λ c. search needs)  -- loop-less
-    (λ c. c .before .before .before .before .before .loop .inv ∙ before-next _ _ _ 0 (c .before .before .before .before .loop-test .taken) (rw (ne-eqb _ _ (c .before .before .if1 .left), ne-eqb _ 92 (c .before .if2 .left), ne-eqb _ _ (c .if3 .left))))  -- loop-again
+    (λ c. c .before .before .before .before .before .loop .inv ∙ before-next _ _ _ 0 (c .before .before .before .before .loop-test .taken) (rw (ne-eqb _ _ (c .before .before .if1 .left), ne-eqb _ _ (c .before .if2 .left), ne-eqb _ _ (c .if3 .left))))  -- loop-again
     (λ c. sym (c .before .loop .inv ∙ before-end _ _ _ 0 (c .loop-test .left))))  -- returns-4

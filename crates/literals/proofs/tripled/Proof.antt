@@ -16,5 +16,5 @@ tripled-spec =
     (λ c. rw (← c .before .before .byte-at .ensures, ← c .before .byte-at2 .ensures, ne-eqb _ _ (c .if1 .taken)))  -- returns
     (λ c. search needs)  -- add-byte-at-2
     (λ c κs. search needs)  -- byte-at-requires-3
-    (λ c. rw (← c .before .before .before .before .byte-at .ensures, ← c .before .before .before .byte-at2 .ensures, ← c .before .byte-at3 .ensures, eq-eqb _ _ (c .before .before .if1 .left), ne-eqb _ _ (c .if2 .taken)))  -- returns-2
-    (λ c. rw (← c .before .before .before .before .byte-at .ensures, ← c .before .before .before .byte-at2 .ensures, ← c .before .byte-at3 .ensures, eq-eqb _ _ (c .before .before .if1 .left), eq-eqb _ _ (c .if2 .left))))  -- returns-3
+    (λ c. rw (← c .before .before .before .before .byte-at .ensures, ← c .before .before .before .byte-at2 .ensures, ← c .before .byte-at3 .ensures, eq-eqb _ _ (c .before .before .if1 .left), eq-eqb _ _ (c .if2 .taken)))  -- returns-2
+    (λ c. rw (← c .before .before .before .before .byte-at .ensures, ← c .before .before .before .byte-at2 .ensures, ← c .before .byte-at3 .ensures, eq-eqb _ _ (c .before .before .if1 .left), ne-eqb _ _ (c .if2 .left))))  -- returns-3
