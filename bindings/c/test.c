@@ -290,6 +290,99 @@ static void reads_marks_and_bytes(void)
     accepted(bytes_answer, bytes_record, "\xff");
 }
 
+/* Lists the literals of so many bytes from an offset on, with so many numbers lent, all filled
+   before. */
+static void list_with(const void *script, size_t length, uint32_t offset, size_t lent)
+{
+    memset(words, FILL, sizeof words);
+    memset(answer, FILL, sizeof answer);
+    stumpgarret_literals((const uint8_t *)script, length, offset, words, lent, answer);
+}
+
+/* A list with these numbers, and nothing else changed. */
+static void listed(const uint32_t *numbers, const uint32_t *literals)
+{
+    size_t used = STUMPGARRET_LITERAL_NUMBERS * (size_t)numbers[STUMPGARRET_LIST_LITERALS];
+    numbers_are("answer", answer, numbers, STUMPGARRET_ANSWER_NUMBERS);
+    numbers_are("number", words, literals, used);
+    filled("byte of the numbers", words, used * sizeof *words, sizeof words, FILL);
+}
+
+/* A refusal at a place, with how many numbers are needed: zeros in what was lent. */
+static void not_listed(uint32_t number, uint32_t place, uint32_t needed, size_t lent)
+{
+    uint32_t expected[STUMPGARRET_ANSWER_NUMBERS] = {0};
+    expected[STUMPGARRET_ANSWER_NUMBER] = number;
+    expected[STUMPGARRET_REFUSAL_PLACE] = place;
+    expected[STUMPGARRET_LIST_NEEDED] = needed;
+    numbers_are("answer", answer, expected, COUNT(expected));
+    filled("byte of the numbers", words, 0, lent * sizeof *words, 0);
+    filled("byte of the numbers", words, lent * sizeof *words, sizeof words, FILL);
+}
+
+/* Two literals with a comment between them are listed, and what is listed is read. */
+static void lists_two(void)
+{
+    static const char script[] = "x = ('VDD ' # it's mV\n\t Rf\"\"\"{mv}\"\"\")";
+    static const uint32_t literals[] = {
+        STUMPGARRET_STRING, 0, 6, 4, 5, 11,
+        STUMPGARRET_RAW_FSTRING, 1, 29, 4, 24, 36,
+    };
+    static const uint32_t both[STUMPGARRET_ANSWER_NUMBERS] = {STUMPGARRET_ACCEPTED, 2, 36, 36};
+    static const uint32_t second[STUMPGARRET_ANSWER_NUMBERS] = {STUMPGARRET_ACCEPTED, 1, 36, 36};
+    size_t length = strlen(script);
+    list_with(script, length, 5, WORDS);
+    listed(both, literals);
+    const uint32_t by_name[] = {
+        answer[STUMPGARRET_ANSWER_NUMBER], answer[STUMPGARRET_LIST_LITERALS],
+        answer[STUMPGARRET_LIST_END], answer[STUMPGARRET_LIST_STOP],
+    };
+    numbers_are("named number", by_name, both, COUNT(by_name));
+    list_with(script, length, 24, WORDS);
+    listed(second, literals + STUMPGARRET_LITERAL_NUMBERS);
+
+    list_with(script, length, 5, COUNT(literals) - 1);
+    not_listed(STUMPGARRET_TOO_LITTLE_LIST_ROOM, 0, COUNT(literals), COUNT(literals) - 1);
+    list_with(script, length, 5, answer[STUMPGARRET_LIST_NEEDED]);
+    listed(both, literals);
+
+    uint32_t list[COUNT(literals)];
+    memcpy(list, words, sizeof list);
+    read_with(script, list, COUNT(list), WORDS, TEXT);
+    static const uint32_t read[] = {STUMPGARRET_ACCEPTED, STUMPGARRET_JOINED, 0, 5, 36, 2, 6};
+    numbers_are("answer", answer, read, COUNT(read));
+}
+
+/* What is refused, each by its name, and how long a script may be. */
+static void refuses_scripts(void)
+{
+    static const struct {
+        const char *script;
+        uint32_t offset, number, place;
+    } rows[] = {
+        {"'a' f'b\\", 0, STUMPGARRET_NEVER_CLOSED, 4},
+        {"'''a''", 0, STUMPGARRET_NEVER_CLOSED, 0},
+        {"'a' u'b\n'", 0, STUMPGARRET_NEWLINE_IN_LITERAL, 4},
+        {"ur'a'", 0, STUMPGARRET_NO_LITERAL, 0},
+        {"'a'", 3, STUMPGARRET_NO_LITERAL, 3},
+        {"'a'", UINT32_MAX, STUMPGARRET_NO_LITERAL, UINT32_MAX},
+    };
+    for (size_t i = 0; i < COUNT(rows); i++) {
+        list_with(rows[i].script, strlen(rows[i].script), rows[i].offset, 12);
+        not_listed(rows[i].number, rows[i].place, 0, 12);
+    }
+    enum { MOST = STUMPGARRET_MOST_SCRIPT_BYTES };
+    static char script[MOST + 1];
+    static const uint32_t one[STUMPGARRET_ANSWER_NUMBERS] = {STUMPGARRET_ACCEPTED, 1, MOST, MOST};
+    static const uint32_t literal[] = {STUMPGARRET_STRING, 0, 1, MOST - 2, 0, MOST};
+    memset(script, 'a', sizeof script);
+    script[0] = script[MOST - 1] = '\'';
+    list_with(script, MOST, 0, WORDS);
+    listed(one, literal);
+    list_with(script, MOST + 1, 0, 3);
+    not_listed(STUMPGARRET_SCRIPT_TOO_LONG, 0, 0, 3);
+}
+
 int main(void)
 {
     reads_two();
@@ -299,6 +392,8 @@ int main(void)
     refuses_bodies();
     refuses_lists();
     reads_marks_and_bytes();
+    lists_two();
+    refuses_scripts();
     printf("bindings/c: %d checks passed\n", checks);
     return 0;
 }

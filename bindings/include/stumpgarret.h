@@ -1,4 +1,5 @@
-/* Reads runs of Python string literals to records: texts, formatted fields, format specs.
+/* Reads runs of Python string literals to records: texts, formatted fields, format specs; and lists
+   the literals of a script from an offset on.
    For C99 and C++11 on x86-64 Linux:
 
        cc -I bindings/include program.c target/staticlib/libstumpgarret.a
@@ -40,7 +41,8 @@ enum stumpgarret_kind {
 /* What one call takes at most. */
 enum stumpgarret_limit {
     STUMPGARRET_MOST_LITERALS = 1024,
-    STUMPGARRET_MOST_BODY_BYTES = 1048576 /* all bodies together */
+    STUMPGARRET_MOST_BODY_BYTES = 1048576, /* all bodies together */
+    STUMPGARRET_MOST_SCRIPT_BYTES = 1048576 /* of stumpgarret_literals */
 };
 
 /* A record is eight words, at these indexes. A word that a kind has no use for is 0.
@@ -149,7 +151,16 @@ enum stumpgarret_refusal {
                                              there; place: after the last character taken */
     STUMPGARRET_TOO_MANY_BRACKETS = 28, /* a field's 65th open bracket; place: after it */
     STUMPGARRET_TOO_FEW_RECORD_PLACES = 30, /* details: the records and the text bytes needed */
-    STUMPGARRET_TOO_LITTLE_TEXT_ROOM = 31   /* details: the same */
+    STUMPGARRET_TOO_LITTLE_TEXT_ROOM = 31,  /* details: the same */
+
+    /* Of stumpgarret_literals, with no literal and no details: 49 before all else, then the first
+       that is met, and 53 only for what is otherwise accepted. */
+    STUMPGARRET_SCRIPT_TOO_LONG = 49,
+    STUMPGARRET_NEVER_CLOSED = 50,      /* place: where the literal starts */
+    STUMPGARRET_NEWLINE_IN_LITERAL = 51, /* a byte 10 in a literal of one quote; place: where the
+                                            literal starts */
+    STUMPGARRET_NO_LITERAL = 52,        /* at the offset, which is the place */
+    STUMPGARRET_TOO_LITTLE_LIST_ROOM = 53 /* see STUMPGARRET_LIST_NEEDED */
 };
 
 /* Why an opening brace counts as unclosed: the first detail of STUMPGARRET_UNCLOSED_LBRACE. */
@@ -184,6 +195,31 @@ void stumpgarret_read(const uint8_t *script, size_t script_length,
                       uint32_t *words, size_t words_length,
                       uint8_t *text, size_t text_length,
                       uint32_t answer[STUMPGARRET_ANSWER_NUMBERS]);
+
+/* The answer of stumpgarret_literals. */
+enum stumpgarret_list_answer {
+    STUMPGARRET_LIST_LITERALS = 1,  /* how many literals were listed */
+    STUMPGARRET_LIST_END,           /* where the last one ends */
+    STUMPGARRET_LIST_STOP,          /* where the run stopped: at the first thing that is no literal */
+
+    STUMPGARRET_LIST_NEEDED = 9     /* of 53: how many numbers the list needs */
+};
+
+/* Lists the literals that stand side by side in the script from the offset on, six numbers for
+   each: offsets, starts and ends are those of the script. stumpgarret_read takes the list as it is.
+
+   A literal is a prefix (r, u, b, f, br, rb, fr, rf, each letter in either case, or none), one or
+   three quotes of either sort, a body, the same quotes. A backslash takes the next byte with it, in
+   raw literals too. Between literals spaces, tabs, newlines (byte 10) and comments are passed over.
+
+   Afterwards: on acceptance the list stands in front in `numbers`, and what follows is unchanged. On
+   refusal every one of `numbers` is 0. `answer` always gets twelve numbers.
+
+   The caller sees to the same as for stumpgarret_read: `numbers` and `answer` overlap nothing else
+   that is passed. Any bytes, any offset and any length get an answer. */
+void stumpgarret_literals(const uint8_t *script, size_t script_length, uint32_t offset,
+                          uint32_t *numbers, size_t numbers_length,
+                          uint32_t answer[STUMPGARRET_ANSWER_NUMBERS]);
 
 #ifdef __cplusplus
 }

@@ -17,6 +17,14 @@ extern "C" {
         text_length: usize,
         answer: *mut u32,
     );
+    fn stumpgarret_literals(
+        script: *const u8,
+        script_length: usize,
+        offset: u32,
+        numbers: *mut u32,
+        numbers_length: usize,
+        answer: *mut u32,
+    );
 }
 
 pub(crate) fn read(
@@ -38,6 +46,22 @@ pub(crate) fn read(
             words.len(),
             text.as_mut_ptr(),
             text.len(),
+            answer.as_mut_ptr(),
+        );
+    }
+    answer
+}
+
+pub(crate) fn literals(script: &[u8], offset: u32, numbers: &mut [u32]) -> [u32; ANSWER] {
+    let mut answer = [0; ANSWER];
+    // SAFETY: as above.
+    unsafe {
+        stumpgarret_literals(
+            script.as_ptr(),
+            script.len(),
+            offset,
+            numbers.as_mut_ptr(),
+            numbers.len(),
             answer.as_mut_ptr(),
         );
     }

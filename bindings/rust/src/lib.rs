@@ -47,15 +47,20 @@
 //!             opened at place 13)";
 //! assert_eq!(refusal.to_string(), text);
 //! ```
+//!
+//! [`literals_at`] finds the literals in a script, so that none is cut out by hand, and [`read_at`]
+//! reads what it finds.
 
 mod answer;
 mod call;
 mod literal;
 mod refusal;
+mod run;
 
 pub use answer::{Answer, ConversionFlag, Field, Record, Records, Sort, Spec};
 pub use literal::{Literal, StringKind};
 pub use refusal::{Reason, Refusal, Unclosed};
+pub use run::{literals_at, read_at, Run};
 
 use std::borrow::Cow;
 
@@ -63,6 +68,8 @@ use std::borrow::Cow;
 pub const MOST_LITERALS: usize = 1_024;
 /// The most bytes that all bodies of a call have together.
 pub const MOST_BODY_BYTES: usize = 1_048_576;
+/// The most bytes of a script that literals are listed from.
+pub const MOST_SCRIPT_BYTES: usize = 1_048_576;
 
 /// Reads literals that stand side by side in a script.
 pub fn parse_strings(

@@ -21,6 +21,17 @@ pub enum StringKind {
 }
 
 impl StringKind {
+    /// By their numbers.
+    const ALL: [StringKind; 7] = [
+        Self::String,
+        Self::FString,
+        Self::Bytes,
+        Self::RawString,
+        Self::RawFString,
+        Self::RawBytes,
+        Self::Unicode,
+    ];
+
     /// Whether escapes are kept as they stand.
     pub fn is_raw(self) -> bool {
         matches!(self, Self::RawString | Self::RawFString | Self::RawBytes)
@@ -84,6 +95,15 @@ impl Literal {
         Literal { kind, triple_quoted, body, start: range.start, end: range.end }
     }
 
+    /// What six numbers describe, if they describe a literal.
+    fn of([kind, triple, offset, size, start, end]: [u32; call::LITERAL]) -> Option<Literal> {
+        let kind = *StringKind::ALL.get(kind as usize)?;
+        let offset = offset as usize;
+        let body = offset..offset.checked_add(size as usize)?;
+        let (start, end) = (start as usize, end as usize);
+        (triple <= 1).then_some(Literal { kind, triple_quoted: triple == 1, body, start, end })
+    }
+
     /// The six numbers, if there are such.
     fn described(&self) -> Option<[u32; call::LITERAL]> {
         let length = self.body.end.checked_sub(self.body.start)?;
@@ -105,4 +125,9 @@ pub(crate) fn numbers(literals: &[Literal]) -> Vec<u32> {
         .iter()
         .flat_map(|literal| literal.described().unwrap_or([u32::MAX; call::LITERAL]))
         .collect()
+}
+
+/// The literals that numbers describe, six for each, if they do.
+pub(crate) fn literals(numbers: &[u32]) -> Option<Vec<Literal>> {
+    numbers.chunks(call::LITERAL).map(|six| Literal::of(six.try_into().ok()?)).collect()
 }

@@ -53,6 +53,19 @@ pub enum Reason {
         records: usize,
         text: usize,
     },
+    /// The script has more than 1,048,576 bytes.
+    ScriptTooLong,
+    /// The quotes of a literal are never closed.
+    NeverClosed,
+    /// A newline in a literal of one quote.
+    NewlineInLiteral,
+    /// No literal stands at the offset.
+    NoLiteral,
+    /// The list buffer lent is too small; six numbers describe a literal. What the list needs is
+    /// given.
+    TooLittleListRoom {
+        numbers: usize,
+    },
     /// An answer that this crate cannot read, so the library linked is not the one it is for.
     UnknownAnswer,
 }
@@ -89,6 +102,13 @@ impl fmt::Display for Reason {
             Self::TooManyBrackets => "a field has more than 64 brackets open at once",
             Self::TooFewRecordPlaces { records, text } => return room(f, "words", *records, *text),
             Self::TooLittleTextRoom { records, text } => return room(f, "text", *records, *text),
+            Self::ScriptTooLong => "the script has more than 1,048,576 bytes",
+            Self::NeverClosed => "a literal's quotes are never closed",
+            Self::NewlineInLiteral => "a newline stands in a literal of one quote",
+            Self::NoLiteral => "no literal stands there",
+            Self::TooLittleListRoom { numbers } => {
+                return write!(f, "the list buffer is too small: {} numbers are needed", numbers)
+            }
             Self::UnknownAnswer => "the library linked gives answers that this crate does not know",
         })
     }
@@ -207,13 +227,23 @@ impl Refusal {
         Refusal { number, reason, literal, place, opened, line, column, chars }
     }
 
+    /// Of the literals from an offset on: what is refused there has it as its place, over 32 bits
+    /// too.
+    pub(crate) fn at_offset(answer: [u32; call::ANSWER], offset: usize) -> Refusal {
+        let mut refusal = Refusal::new(answer);
+        if refusal.reason == Reason::NoLiteral {
+            refusal.place = offset;
+        }
+        refusal
+    }
+
     pub(crate) fn unknown() -> Refusal {
         let reason = Reason::UnknownAnswer;
         Refusal { number: 0, reason, literal: 0, place: 0, opened: 0, line: 0, column: 0, chars: 0 }
     }
 }
 
-fn reason([number, _, _, a, b, ..]: [u32; call::ANSWER]) -> Option<Reason> {
+fn reason([number, _, _, a, b, .., needed, _, _]: [u32; call::ANSWER]) -> Option<Reason> {
     let (records, text) = (a as usize, b as usize);
     Some(match number {
         1 => Reason::EmptyList,
@@ -238,6 +268,11 @@ fn reason([number, _, _, a, b, ..]: [u32; call::ANSWER]) -> Option<Reason> {
         28 => Reason::TooManyBrackets,
         30 => Reason::TooFewRecordPlaces { records, text },
         31 => Reason::TooLittleTextRoom { records, text },
+        49 => Reason::ScriptTooLong,
+        50 => Reason::NeverClosed,
+        51 => Reason::NewlineInLiteral,
+        52 => Reason::NoLiteral,
+        53 => Reason::TooLittleListRoom { numbers: needed as usize },
         _ => return None,
     })
 }
