@@ -8,7 +8,8 @@ prints a line for each field: path:line:column, the expression, the conversion w
 standard error, and the exit status is then 1.
 
 In a program, `fields` gives the same list, or raises `Incomplete`. `runs` cuts a script into runs of adjacent
-literals, and `read` is the library's call: it reads one run.
+literals, and `read` is the library's call: it reads one run. `literals` is the library's other call: it lists the
+adjacent literals of a script from an offset on.
 
 The shared library is the one that the variable STUMPGARRET_LIBRARY names, else libstumpgarret.so beside this file,
 else the one under target/python of the clone, where `bindings/python/build` puts it.
@@ -67,6 +68,15 @@ class Literal:
     length: int
     start: int
     end: int
+
+
+@dataclass(frozen=True)
+class Listing:
+    """The adjacent literals of a script from an offset on; all their numbers count from the script's beginning. `stop`
+    is where the first thing stands that is no literal, after what was passed over."""
+
+    literals: tuple[Literal, ...]
+    stop: int
 
 
 @dataclass(frozen=True)
@@ -140,8 +150,15 @@ REFUSALS = {
     28: ("65th bracket open at once in a field", ""),
     30: ("too few record places", "{0} records and {1} text bytes are needed"),
     31: ("too little text room", "{0} records and {1} text bytes are needed"),
+    49: ("script over 1,048,576 bytes", ""),
+    50: ("quote never closed", ""),
+    51: ("newline in a literal of one quote", ""),
+    52: ("no literal at the offset", ""),
+    53: ("list buffer too short", ""),
 }
+NO_LIST_ROOM = 53
 IN_A_BODY = range(10, 29)
+OF_A_LIST = range(49, 54)
 
 # Why a brace counts as unclosed, by the first detail of 20.
 UNCLOSED = {
@@ -210,7 +227,9 @@ class Unavailable(Exception):
 SHARED_LIBRARY = "libstumpgarret.so"
 ELF_MACHINES = {62: "x86_64", 183: "aarch64"}
 WORDS_OF_A_RECORD = 8
+NUMBERS_OF_A_LITERAL = 6
 MOST_BODY_BYTES = 1_048_576
+FIRST_LITERALS = 16
 
 
 def read(script: bytes | str, literals: Iterable[Literal]) -> Answer:
@@ -226,6 +245,29 @@ def read(script: bytes | str, literals: Iterable[Literal]) -> Answer:
     _, sort, u_mark, start, end, _, _, _, chars, *_ = answer
     records = (words[at : at + WORDS_OF_A_RECORD] for at in range(0, len(words), WORDS_OF_A_RECORD))
     return Answer(Sort(sort), bool(u_mark), start, end, tuple(_record(own, records, text) for own in records), chars)
+
+
+def literals(script: bytes | str, offset: int) -> Listing:
+    """The literals that stand side by side in a script from an offset on; a str stands for its UTF-8 bytes, and the
+    offset counts bytes. Between literals spaces, tabs, newlines and comments are passed over, as inside parentheses.
+    `read` takes the script and what is listed.
+
+    Raises `Refusal` if the library refuses it, and ValueError for an offset that does not fit into 32 bits."""
+    script = _encoded(script) if isinstance(script, str) else bytes(script)
+    if not 0 <= offset < 2**32:
+        raise ValueError(f"the offset is {offset}, which is no number of 32 bits")
+    answer, numbers = _list_call(script, offset, FIRST_LITERALS * NUMBERS_OF_A_LITERAL)
+    if answer[0] == NO_LIST_ROOM:
+        answer, numbers = _list_call(script, offset, answer[9])
+    if answer[0]:
+        raise Refusal(*answer[:3], tuple(answer[3:5]))
+    _, count, _, stop, *_ = answer
+    starts = range(0, count * NUMBERS_OF_A_LITERAL, NUMBERS_OF_A_LITERAL)
+    return Listing(tuple(_listed(*numbers[at : at + NUMBERS_OF_A_LITERAL]) for at in starts), stop)
+
+
+def _listed(kind: int, triple: int, *rest: int) -> Literal:
+    return Literal(Kind(kind), bool(triple), *rest)
 
 
 def _encoded(text: str) -> bytes:
@@ -246,8 +288,8 @@ def _numbers(literals: Iterable[Literal]) -> list[int]:
 def _room(numbers: list[int]) -> tuple[int, int]:
     """Records and text bytes that are enough for any literals of such bodies. More bytes than one call takes are refused,
     whatever the room."""
-    body_bytes = sum(numbers[3::6])
-    return (body_bytes + len(numbers) // 6, 2 * body_bytes) if body_bytes <= MOST_BODY_BYTES else (0, 0)
+    body_bytes = sum(numbers[3::NUMBERS_OF_A_LITERAL])
+    return (body_bytes + len(numbers) // NUMBERS_OF_A_LITERAL, 2 * body_bytes) if body_bytes <= MOST_BODY_BYTES else (0, 0)
 
 
 def _call(script: bytes, numbers: list[int]) -> tuple[list[int], list[int], bytes]:
@@ -261,6 +303,14 @@ def _call(script: bytes, numbers: list[int]) -> tuple[list[int], list[int], byte
     if answer[0]:
         return list(answer), [], b""
     return list(answer), words[: answer[5] * WORDS_OF_A_RECORD], text[: answer[6]]
+
+
+def _list_call(script: bytes, offset: int, room: int) -> tuple[list[int], list[int]]:
+    """One call with room for so many numbers: answer and list."""
+    numbers = (ctypes.c_uint32 * room)()
+    answer = (ctypes.c_uint32 * 12)()
+    _list_function()(script, len(script), offset, numbers, len(numbers), answer)
+    return list(answer), numbers[:]
 
 
 def _record(own: list[int], following: Iterator[list[int]], text: bytes) -> Text | Field | Bytes:
@@ -278,19 +328,32 @@ def _record(own: list[int], following: Iterator[list[int]], text: bytes) -> Text
     return Field(own_text.decode(), chr(mark) if mark else None, spec, start, end, place)
 
 
+TEXT, NUMBERS, LENGTH = ctypes.c_char_p, ctypes.POINTER(ctypes.c_uint32), ctypes.c_size_t
+
+
 @functools.cache
 def _function() -> Callable[..., None]:
     """The library's function; its nine arguments are those of the C call."""
+    return _loaded("stumpgarret_read", [TEXT, LENGTH, NUMBERS, LENGTH, NUMBERS, LENGTH, TEXT, LENGTH, NUMBERS])
+
+
+@functools.cache
+def _list_function() -> Callable[..., None]:
+    """The library's function for literals; its six arguments are those of the C call."""
+    return _loaded("stumpgarret_literals", [TEXT, LENGTH, ctypes.c_uint32, NUMBERS, LENGTH, NUMBERS])
+
+
+def _loaded(name: str, arguments: list[type]) -> Callable[..., None]:
+    """A function of the library, by its name and the types of its arguments."""
     path = _library_path()
     machine = _machine_of(path)
     if machine != platform.machine():
         raise Unavailable(f"{path} is for {machine}, and this Python runs on {platform.machine()}")
     try:
-        function = ctypes.CDLL(path).stumpgarret_read
+        function = getattr(ctypes.CDLL(path), name)
     except (OSError, AttributeError) as error:
         raise Unavailable(f"{path} cannot be used: {error}") from error
-    text, numbers, length = ctypes.c_char_p, ctypes.POINTER(ctypes.c_uint32), ctypes.c_size_t
-    function.argtypes = [text, length, numbers, length, numbers, length, text, length, numbers]
+    function.argtypes = arguments
     function.restype = None
     return function
 

@@ -1,4 +1,4 @@
-"""What the tests share: the module, and a stand-in for the library's function.
+"""What the tests share: the module, and a stand-in for the library's functions.
 
 Where this Python cannot load the library, the variable STUMPGARRET_SERVER has the command of a program that has it
 (oracle/src/compare/server.c, which says what goes over the pipe). All but the call by ctypes is then tested.
@@ -35,16 +35,22 @@ def load(path):
 
 
 class Server:
-    """The library's function, in another process."""
+    """The library's functions, in another process."""
 
     def __init__(self, command):
         self.process = subprocess.Popen(command, stdin=subprocess.PIPE, stdout=subprocess.PIPE)
 
-    def __call__(self, script, script_length, numbers, numbers_length, words, words_length, text, text_length, answer):
+    def read(self, script, script_length, numbers, numbers_length, words, words_length, text, text_length, answer):
         head = struct.pack("<4I", numbers_length, script_length, words_length, text_length)
-        self.process.stdin.write(head + bytes(numbers) + script[:script_length] + bytes(words) + bytes(text))
+        self.ask(head + bytes(numbers) + script[:script_length] + bytes(words) + bytes(text), answer, words, text)
+
+    def literals(self, script, script_length, offset, numbers, numbers_length, answer):
+        head = struct.pack("<4I", 2**32 - 1, script_length, numbers_length, offset)
+        self.ask(head + script[:script_length] + bytes(numbers), answer, numbers)
+
+    def ask(self, request, *written):
+        self.process.stdin.write(request)
         self.process.stdin.flush()
-        written = answer, words, text
         got = self.process.stdout.read(sum(map(ctypes.sizeof, written)))
         for buffer in written:
             size = ctypes.sizeof(buffer)
@@ -59,4 +65,5 @@ command = os.environ.get("STUMPGARRET_SERVER")
 HAS_STANDIN = command is not None
 if HAS_STANDIN:
     server = Server(command.split())
-    stumpgarret._function = lambda: server
+    stumpgarret._function = lambda: server.read
+    stumpgarret._list_function = lambda: server.literals

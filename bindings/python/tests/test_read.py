@@ -80,7 +80,7 @@ class Rows(unittest.TestCase):
             with self.subTest(numbers=numbers[:12]):
                 met.add(answer[0])
                 self.compare(script_of(pieces), literals, answer, words, text)
-        self.assertEqual(met, {0, *stumpgarret.REFUSALS} - {2, *NO_ROOM})
+        self.assertEqual(met, {0, *stumpgarret.REFUSALS} - {2, *NO_ROOM, *stumpgarret.OF_A_LIST})
 
     def compare(self, script, literals, answer, words, text):
         if answer[0] == 0:
@@ -95,7 +95,7 @@ class Rows(unittest.TestCase):
         self.assertEqual(numbers, answer)
 
     def test_numbers(self):
-        self.assertEqual(set(stumpgarret.REFUSALS), expected.NUMBERS)
+        self.assertEqual(set(stumpgarret.REFUSALS) - set(stumpgarret.OF_A_LIST), expected.NUMBERS)
 
 
 class Answers(unittest.TestCase):

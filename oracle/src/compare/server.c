@@ -4,8 +4,13 @@
 
    Request: u32 list length, u32 script bytes, u32 words lent, u32 text bytes lent,
    the list, the script, the words and the text as they are before the call.
-   Answer: 12 u32, the words, the text after the call. Requests may come together; what was
-   answered goes out before more is waited for. */
+   Answer: 12 u32, the words, the text after the call.
+
+   Request for the literals of a script: u32 FFFFFFFF, u32 script bytes, u32 numbers lent,
+   u32 offset, the script, the numbers as they are before the call.
+   Answer: 12 u32, the numbers after the call.
+
+   Requests may come together; what was answered goes out before more is waited for. */
 #include <stdint.h>
 #include <stdio.h>
 #include <stdlib.h>
@@ -15,6 +20,7 @@
 #include "stumpgarret.h"
 
 enum { GUARD = 16, FILL = 0x5A };
+static const uint32_t LITERALS = UINT32_MAX;
 
 static void *lend(size_t size)
 {
@@ -86,37 +92,66 @@ static void unchanged(const void *now, const void *before, size_t size, const ch
     }
 }
 
+static void answer_reading(const uint32_t size[4])
+{
+    size_t list_size = 4 * (size_t)size[0], words_size = 4 * (size_t)size[2];
+    uint32_t *list = lend(list_size), *words = lend(words_size);
+    uint8_t *script = lend(size[1]), *text = lend(size[3]);
+    take(list, list_size);
+    take(script, size[1]);
+    take(words, words_size);
+    take(text, size[3]);
+    void *list_before = lend(list_size), *script_before = lend(size[1]);
+    memcpy(list_before, list, list_size);
+    memcpy(script_before, script, size[1]);
+    uint32_t *answer = lend(48);
+    memset(answer, 0xFF, 48);
+    stumpgarret_read(script, size[1], list, size[0], words, size[2], text, size[3], answer);
+    put(answer, 48);
+    put(words, words_size);
+    put(text, size[3]);
+    unchanged(list, list_before, list_size, "the list");
+    unchanged(script, script_before, size[1], "the script");
+    give_back(list_before, list_size, "a copy of the list");
+    give_back(script_before, size[1], "a copy of the script");
+    give_back(answer, 48, "the answer");
+    give_back(text, size[3], "the text");
+    give_back(words, words_size, "the words");
+    give_back(script, size[1], "the script");
+    give_back(list, list_size, "the list");
+}
+
+static void answer_literals(const uint32_t size[4])
+{
+    size_t numbers_size = 4 * (size_t)size[2];
+    uint8_t *script = lend(size[1]);
+    uint32_t *numbers = lend(numbers_size);
+    take(script, size[1]);
+    take(numbers, numbers_size);
+    void *script_before = lend(size[1]);
+    memcpy(script_before, script, size[1]);
+    uint32_t *answer = lend(48);
+    memset(answer, 0xFF, 48);
+    stumpgarret_literals(script, size[1], size[3], numbers, size[2], answer);
+    put(answer, 48);
+    put(numbers, numbers_size);
+    unchanged(script, script_before, size[1], "the script");
+    give_back(script_before, size[1], "a copy of the script");
+    give_back(answer, 48, "the answer");
+    give_back(numbers, numbers_size, "the numbers");
+    give_back(script, size[1], "the script");
+}
+
 int main(void)
 {
     setvbuf(stdout, NULL, _IOFBF, 1 << 20);
     while (more()) {
         uint32_t size[4];
         take(size, sizeof size);
-        size_t list_size = 4 * (size_t)size[0], words_size = 4 * (size_t)size[2];
-        uint32_t *list = lend(list_size), *words = lend(words_size);
-        uint8_t *script = lend(size[1]), *text = lend(size[3]);
-        take(list, list_size);
-        take(script, size[1]);
-        take(words, words_size);
-        take(text, size[3]);
-        void *list_before = lend(list_size), *script_before = lend(size[1]);
-        memcpy(list_before, list, list_size);
-        memcpy(script_before, script, size[1]);
-        uint32_t *answer = lend(48);
-        memset(answer, 0xFF, 48);
-        stumpgarret_read(script, size[1], list, size[0], words, size[2], text, size[3], answer);
-        put(answer, 48);
-        put(words, words_size);
-        put(text, size[3]);
-        unchanged(list, list_before, list_size, "the list");
-        unchanged(script, script_before, size[1], "the script");
-        give_back(list_before, list_size, "a copy of the list");
-        give_back(script_before, size[1], "a copy of the script");
-        give_back(answer, 48, "the answer");
-        give_back(text, size[3], "the text");
-        give_back(words, words_size, "the words");
-        give_back(script, size[1], "the script");
-        give_back(list, list_size, "the list");
+        if (size[0] == LITERALS)
+            answer_literals(size);
+        else
+            answer_reading(size);
     }
     return 0;
 }
