@@ -1,14 +1,15 @@
 //! Times the library and the published Rust on the same inputs, in one process.
 //!
-//!   bench LIBRARY_RUNS
+//!   bench LIBRARY_RUNS LIBRARY_SCRIPTS
 //!
-//! LIBRARY_RUNS has runs of literals, as crates/try_readings takes them. Where the Rust's source was not at hand,
-//! the library is timed alone.
+//! LIBRARY_RUNS has runs of literals, as crates/try_readings takes them. LIBRARY_SCRIPTS has scripts, as
+//! bench/library-scripts writes them. Where the Rust's source was not at hand, the library is timed alone.
 
 #[allow(dead_code)]
 #[path = "../../bindings/rust/src/call.rs"]
 mod call;
 mod inputs;
+mod listing;
 mod reference {
     include!(env!("STUMPGARRET_REFERENCE_RS"));
 }
@@ -46,7 +47,9 @@ struct Times {
 }
 
 fn main() {
-    let runs = std::env::args().nth(1).expect("usage: bench LIBRARY_RUNS");
+    let usage = "usage: bench LIBRARY_RUNS LIBRARY_SCRIPTS";
+    let runs = std::env::args().nth(1).expect(usage);
+    let scripts = std::env::args().nth(2).expect(usage);
     let mut buffers = Buffers { words: vec![0; 8 << 20], text: vec![0; 4 << 20] };
     println!("{}", reference::WHAT);
     println!("input        calls      bytes   ours ns/byte  noise %   Rust ns/byte");
@@ -63,6 +66,7 @@ fn main() {
         let times = measure(&input, &mut buffers);
         println!("bytes {:>8}: {:.3} ns/byte", size, per_byte(times.ours, &input));
     }
+    listing::measure(&std::fs::read(scripts).expect("the scripts can be read"));
 }
 
 fn measure(input: &Input, buffers: &mut Buffers) -> Times {
