@@ -38,4 +38,5 @@ pub mod LiteralFound
 pub mod RunLaws
 pub mod LiteralSteps
 pub mod ListLaw
+pub mod ListOne
 pub mod ListShown

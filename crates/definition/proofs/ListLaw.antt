@@ -15,7 +15,7 @@ use Rattle.definition.specs.Entry.{Literal, sixes, oneMore, Refusal, ref
 use Rattle.definition.specs.Reading.{Outcome, accepts, refuses}
 use Rattle.definition.specs.Opening.{noKind, opens}
 use Rattle.definition.specs.IsRun.{nextPlace, Adjacent, IsRun, NoRun, bytesTo}
-use Rattle.definition.specs.Literals.{Run, run, literalsFrom, flat, Listing, lists, refused, short, listed, listAfter, listInto, literalsInto}
+use Rattle.definition.specs.Literals.{Run, run, literalsFrom, flat, lists, short, listed, listAfter, listInto, literalsInto}
 use Rattle.definition.proofs.Adds.{part-split}
 use Rattle.definition.proofs.LiteralLaws.{opens-in}
 use Rattle.definition.proofs.LiteralFound.{literal-lies, literal-good}

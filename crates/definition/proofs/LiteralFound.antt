@@ -2,15 +2,15 @@
 use mathlib.Core.Path.{_≡_, refl, sym, subst, _∙_, ap, ap₂}
 use mathlib.Core.Bool.{true, false, _&&_}
 use mathlib.Core.List.{List}
-use Prim.Native.Nat.{ℕ, suc, _+_, _-_, _≤_, _<_}
+use Prim.Native.Nat.{ℕ, suc, _+_, _-_, _≤_}
 use native.Mathlib.Nat.{add-assoc}
 use native.Mathlib.Omega.{arith}
 use borrow.Author.Tests.{le-ltb}
 use lib.Dec.{eqb, lit≤}
 use lib.ListN.{length}
 use Rattle.definition.specs.Numbers.{prefix}
-use Rattle.definition.specs.Chars.{if_then_else_, byte}
-use Rattle.definition.specs.Entry.{Literal, opening, placeOf, Refusal, refusal, bad}
+use Rattle.definition.specs.Chars.{byte}
+use Rattle.definition.specs.Entry.{Literal, opening, placeOf, refusal, bad}
 use Rattle.definition.specs.Reading.{Outcome, accepts, refuses}
 use Rattle.definition.specs.Opening.{opens, quotesOf, tripled, quotes, quotesAt, quoteOf, flagOf, bodyOf}
 use Rattle.definition.specs.IsRun.{Units, bodyEnd, IsLiteral, NeverCloses}

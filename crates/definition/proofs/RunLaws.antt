@@ -11,7 +11,7 @@ use Rattle.definition.specs.Chars.{if_then_else_, _is_, byte}
 use Rattle.definition.specs.Entry.{Literal, Refusal, refusal}
 use Rattle.definition.specs.Reading.{Outcome, accepts, refuses}
 use Rattle.definition.specs.Opening.{noKind, opens, isSpace, isSign, lineEnd}
-use Rattle.definition.specs.IsRun.{IsLiteral, Blanks, none, space, comment, Passed, nextPlace, Adjacent, IsRun, NoRun}
+use Rattle.definition.specs.IsRun.{Blanks, none, space, comment, Passed, nextPlace, IsRun, NoRun}
 use Rattle.definition.specs.Literals.{literalAt, BlankCase, space as spaceCase, comment as commentCase, other, blankCase, passedN, passed, Run, firstRun, runN}
 use Rattle.definition.proofs.CharLaws.{no, either, before-in, before-next, byte-in}
 use Rattle.definition.proofs.LiteralFound.{LiteralAt, literal-at, literal-is, literal-lies}

@@ -9,13 +9,12 @@ use lib.Dec.{eqb}
 use lib.ListN.{length, getD}
 use Rattle.definition.specs.Numbers.{prefix}
 use Rattle.definition.specs.Chars.{if_then_else_, byte}
-use Rattle.definition.specs.Entry.{Literal}
 use Rattle.definition.specs.Reading.{accepts}
-use Rattle.definition.specs.Opening.{isQuote, opens, quotesOf, tripled, quotes, quotesAt, quoteOf, flagOf}
+use Rattle.definition.specs.Opening.{isQuote, opens, quotesOf, tripled, quotes, quotesAt}
 use Rattle.definition.specs.Literals.{Closing, closed, closing, closedAt, literalAt}
 use Rattle.definition.proofs.CharLaws.{byte-is, byte-in}
 use Rattle.definition.proofs.LiteralLaws.{quote-within, quote-of, opens-in, quotes-in}
-use Rattle.definition.proofs.LiteralFound.{LiteralAt, literal-at, literal-lies}
+use Rattle.definition.proofs.LiteralFound.{literal-at, literal-lies}
 use Rattle.literals.specs.Answers.{Within}
 
 -- the quotes that a flag counts stand there

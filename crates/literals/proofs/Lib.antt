@@ -2,3 +2,4 @@ pub mod Openings
 pub mod Closings
 pub mod Listings
 pub mod Founds
+pub mod One

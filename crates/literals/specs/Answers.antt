@@ -1,5 +1,5 @@
 -- What the answers say, in the definition's terms, and what a call over a list buffer leaves.
-use Prim.Native.Nat.{ℕ, _*_, _≤_}
+use Prim.Native.Nat.{ℕ, _≤_}
 use mathlib.Core.Path.{_≡_}
 use mathlib.Core.Bool.{Bool, _||_}
 use mathlib.Core.List.{List, [], _∷_}
@@ -9,7 +9,7 @@ use Rattle.definition.specs.Numbers.{tooLittleListRoom}
 use Rattle.definition.specs.Chars.{if_then_else_, _is_}
 use Rattle.definition.specs.Entry as d
 use Rattle.definition.specs.Entry.{refusal}
-use Rattle.definition.specs.Reading.{Outcome, accepts, refuses, lastEnd, zeros}
+use Rattle.definition.specs.Reading.{Outcome, accepts, refuses, lastEnd}
 use Rattle.definition.specs.Opening.{noKind, opens}
 use Rattle.definition.specs.Literals as s
 use Rattle.definition.specs.Literals.{flat, ListCall, listNumbers}

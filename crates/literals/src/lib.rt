@@ -5,7 +5,7 @@ ghost use Prim.Native.Nat.{ℕ, _+_, _*_, _≤_, _<_, _^_};
 ghost use lib.ListN.{length, drop};
 ghost use Rattle.definition.specs.Numbers.{prefix};
 ghost use Rattle.definition.specs.Chars.{_is_, byte, before};
-ghost use Rattle.definition.specs.Opening.{isQuote, isSpace, oneLetter, twoLetters, opens, tripled, quotes, quoteOf, quotesAt, lineEnd};
+ghost use Rattle.definition.specs.Opening.{isQuote, oneLetter, twoLetters, opens, tripled, quotes, quotesAt, lineEnd};
 ghost use Rattle.definition.specs.Reading.{Outcome, zeros};
 ghost use Rattle.definition.specs.Literals as s;
 ghost use Rattle.definition.specs.Literals.{bodyCase, closing, literalAt, blankCase, passed, run, listed, listInto, literalsInto};

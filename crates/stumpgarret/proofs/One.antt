@@ -1,12 +1,14 @@
--- Two calls that leave the same twelve numbers, words and text have one outcome. Assumes nothing.
+-- Two calls that leave the same twelve numbers, words and text have one outcome; and so have two that leave the same list. Assumes nothing.
 use mathlib.Core.Path.{_≡_, refl, sym, _∙_, ap}
 use mathlib.Core.List.{List, [], _∷_, _++_}
 use Prim.Native.Nat.{ℕ, zero, suc, _-_}
 use lib.ListN.{length, replicate}
 use Rattle.definition.specs.Reading.{numbers, Call, readNumbers}
 use Rattle.definition.specs.Words.{word}
+use Rattle.definition.specs.Literals.{literalsInto, listNumbers}
 use Rattle.definition.proofs.Held.{numbers-one}
-use Rattle.stumpgarret.specs.Twelve.{twelve, CallIs}
+use Rattle.definition.proofs.ListOne.{list-one}
+use Rattle.stumpgarret.specs.Twelve.{twelve, CallIs, ListIs}
 
 zeros-word : (n k : ℕ) → word (replicate n 0) k ≡ 0
 zeros-word zero k = refl
@@ -33,3 +35,13 @@ calls-one script ns words text script′ ns′ words′ text′ answer left-word
       sym (c .words-left) ∙ c′ .words-left,
       sym (c .text-left) ∙ c′ .text-left,
     )
+
+pub lists-one : (script : List ℕ) (offset : ℕ) (buffer script′ : List ℕ) (offset′ : ℕ) (buffer′ answer left : List ℕ)
+    → ListIs (literalsInto script offset buffer) answer left → ListIs (literalsInto script′ offset′ buffer′) answer left
+    → literalsInto script offset buffer .listing ≡ literalsInto script′ offset′ buffer′ .listing
+lists-one script offset buffer script′ offset′ buffer′ answer left c c′ =
+    list-one script offset buffer script′ offset′ buffer′
+    (λ k. sym (twelve-word (listNumbers (literalsInto script offset buffer .listing)) k)
+    ∙ ap (λ l. word l k) (sym (c .numbered) ∙ c′ .numbered)
+    ∙ twelve-word (listNumbers (literalsInto script′ offset′ buffer′ .listing)) k)
+    (sym (c .list-left) ∙ c′ .list-left)

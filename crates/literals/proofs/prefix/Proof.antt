@@ -1,6 +1,4 @@
 -- `literals::prefix` meets its contract. Assumes nothing.
-use borrow.Author.Tests.{ne-eqb}
-use mathlib.Core.Path.{refl}
 use Rattle.definition.specs.Numbers.{prefix}
 use Rattle.literals.proofs.Openings.{prefix-none}
 use Rattle.literals.proofs.prefix.Statement.{statement}
