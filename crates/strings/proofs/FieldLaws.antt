@@ -9,8 +9,8 @@ use native.Mathlib.Numerals.{add-one, sub-one}
 use native.Mathlib.Omega.{arith}
 use borrow.Author.Tests.{ltb-true, ltb-false, lt-ltb, le-ltb, le-leb, lt-leb, eq-eqb, ne-eqb, eqb-true}
 use lib.Dec.{ltb, eqb}
-use lib.ListN.{length, getD, set, drop, drop-of-length-le, length-take, length-drop}
-use lib.Seq.{take-add, drop-drop, drop-cons, getD-set-same, getD-set-other}
+use lib.ListN.{length, getD, set, drop, length-take, length-drop}
+use lib.Seq.{take-add, drop-drop, getD-set-same, getD-set-other}
 use Rattle.definition.specs.Numbers.{unclosedLbrace, invalidConversionFlag, emptyExpression, unmatched, unterminatedString, tooManyBrackets, afterBang, afterConversion, afterEquals, inField}
 use Rattle.definition.specs.Chars.{if_then_else_, _is_, byte, part, code, next, char, before}
 use Rattle.definition.specs.Escapes.{fault, detail}
@@ -38,20 +38,6 @@ and-true false = refl
 -- the cursor after a character is past it, and in the body
 pub ahead : {s : List ℕ} {i c : ℕ} {k : Cursor} → Stepped s i c k → (i < k .at) × (k .at ≤ length s)
 ahead {s} {i} h = (rw (h .next-is) at (next-past s i (h .there)), rw (h .next-is) at (next-in s i (omega (arith, h .there))))
-
--- A RUN up to the first byte that passes a test
-module _ (test : ℕ → Bool) (s : List ℕ) (i : ℕ) where
-  pub before-end : length s ≤ i → i + before test (drop i s) ≡ i
-  unfolding before
-  before-end h = rw (drop-of-length-le s h) (omega arith)
-
-  pub before-here : i < length s → test (getD s i 0) ≡ true → i + before test (drop i s) ≡ i
-  unfolding before
-  before-here h t = rw (drop-cons s i 0 h) (rw (t, before) (omega arith))
-
-  pub before-next : i < length s → test (getD s i 0) ≡ false → i + before test (drop i s) ≡ i + 1 + before test (drop (i + 1) s)
-  unfolding before
-  before-next h t = rw (drop-cons s i 0 h) (rw (t, before, add-one i) (omega arith))
 
 -- PARTS of the body: two that touch, none, and the length
 part-join : (s : List ℕ) (i j k : ℕ) → i ≤ j → j ≤ k → part s i j ++ part s j k ≡ part s i k

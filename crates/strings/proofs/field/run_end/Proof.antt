@@ -6,7 +6,7 @@ use borrow.Author.Tests.{eq-eqb, ne-eqb}
 use lib.Dec.{eqb}
 use lib.ListN.{length, drop}
 use Rattle.definition.specs.Chars.{before}
-use Rattle.strings.proofs.FieldLaws.{before-end, before-here, before-next}
+use Rattle.definition.proofs.CharLaws.{before-end, before-here, before-next}
 use Rattle.strings.proofs.field.run_end.Statement.{statement}
 use Rattle.strings.proofs.field.run_end.Tie as tie
 
@@ -27,6 +27,6 @@ run-end-spec =
     (λ c κs. search needs)  -- wide-requires
     (λ c. search needs)  -- add-i
     (λ c. search needs)  -- run-less
-    (λ c. (search needs, c .before .before .before .before .run .inv .1 ∙ before-next _ _ _ (c .before .before .before .if1 .left) (rw (c .before .wide .ensures) at (ne-eqb _ _ (c .if2 .left)))))  -- run-again
-    (λ c. sym (c .before .run .inv .1 ∙ before-end _ _ _ (c .if1 .taken)))  -- returns
-    (λ c. sym (c .before .before .before .before .run .inv .1 ∙ before-here _ _ _ (c .before .before .before .if1 .left) (rw (c .before .wide .ensures) at (eq-eqb _ _ (c .if2 .taken))))))  -- returns-2
+    (λ c. (search needs, c .before .before .before .before .run .inv .1 ∙ before-next _ _ _ 0 (c .before .before .before .if1 .left) (rw (c .before .wide .ensures) at (ne-eqb _ _ (c .if2 .left)))))  -- run-again
+    (λ c. sym (c .before .run .inv .1 ∙ before-end _ _ _ 0 (c .if1 .taken)))  -- returns
+    (λ c. sym (c .before .before .before .before .run .inv .1 ∙ before-here _ _ _ 0 (c .before .before .before .if1 .left) (rw (c .before .wide .ensures) at (eq-eqb _ _ (c .if2 .taken))))))  -- returns-2
