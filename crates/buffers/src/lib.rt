@@ -1,7 +1,7 @@
 // Writes into lent buffers: what would stand past the end is left out.
 ghost use mathlib.Core.Path.{_≡_};
 ghost use mathlib.Core.List.{[], _∷_};
-ghost use Prim.Native.Nat.{_+_, _-_, _*_, _%_, min};
+ghost use Prim.Native.Nat.{_+_, _-_, _*_, _%_, _≤_, min};
 ghost use lib.ListN.{length, replicate};
 ghost use Rattle.definition.specs.Chars.{part, utf8};
 ghost use Rattle.buffers.specs.Over.{over};
@@ -51,10 +51,29 @@ pub struct Record {
     pub place: u32,
 }
 
+// Writes a record's words to the front of eight or more.
+fn put_eight(words: &mut [u32], r: Record)
+    requires { ⌜ 8 ≤ length (now words) ⌝ }
+    ensures { λ _. ⌜ now (words .exit) ≡ over (now (words .entry)) 0 (wordsOf r) ⌝ }
+{
+    words[0] = r.kind;
+    words[1] = r.offset;
+    words[2] = r.length;
+    words[3] = r.start;
+    words[4] = r.end;
+    words[5] = r.conversion;
+    words[6] = r.parts;
+    words[7] = r.place;
+}
+
 // Writes a record's words from the front on.
 fn put_words(words: &mut [u32], r: Record)
     ensures { λ _. ⌜ now (words .exit) ≡ over (now (words .entry)) 0 (wordsOf r) ⌝ }
 {
+    if 8 <= words.len() {
+        put_eight(words, r);
+        return;
+    }
     put_word(words, 0, r.kind);
     put_word(words, 1, r.offset);
     put_word(words, 2, r.length);

@@ -2,7 +2,7 @@
 ghost use mathlib.Core.Path.{_≡_};
 ghost use mathlib.Core.Bool.{true, false, _&&_};
 ghost use lib.Dec.{leb};
-ghost use Prim.Native.Nat.{_+_, _-_, _<_, _≤_, max, min};
+ghost use Prim.Native.Nat.{_+_, _-_, _<_, _≤_, max};
 ghost use lib.ListN.{length};
 ghost use Rattle.definition.specs.Chars.{byte, follow, width, decoded, code, wellFormed};
 ghost use Rattle.definition.specs.Counts.{more, counted};
@@ -242,15 +242,15 @@ fn is_ascii(s: &[u8], from: usize, to: usize) -> bool
     most < 0x80
 }
 
-// So far from an index on whole blocks of 64 bytes are ASCII.
-fn ascii_blocks(s: &[u8], at: usize) -> usize
-    requires { ⌜ at ≤ length (now s) ⌝ }
+// So far from an index on whole blocks of a size are ASCII.
+fn ascii_blocks(s: &[u8], at: usize, size: usize) -> usize
+    requires { ⌜ (at ≤ length (now s)) × (0 < size) ⌝ }
     ensures { λ r. ⌜ Ascii (now (s .entry)) at r ⌝ }
 {
     let mut i = at;
-    while 64 <= s.len() - i {
-        if is_ascii(s, i, i + 64) {
-            i += 64;
+    while size <= s.len() - i {
+        if is_ascii(s, i, i + size) {
+            i += size;
         } else {
             return i;
         }
@@ -273,28 +273,34 @@ fn ascii_bytes(s: &[u8], from: usize, to: usize) -> usize
     i
 }
 
-// The index 16 bytes further, or the end where that is nearer.
-fn near(at: usize, len: usize) -> usize
-    ensures { λ r. ⌜ r ≡ min (at + 16) len ⌝ }
+// So far from an index on bytes are ASCII, by blocks: the last eight may be looked at twice.
+fn ascii_far(s: &[u8], at: usize) -> usize
+    requires { ⌜ (8 ≤ at) × (at ≤ length (now s)) ⌝ }
+    ensures { λ r. ⌜ Ascii (now (s .entry)) at r ⌝ }
 {
-    if len < 16 {
-        return len;
+    let n = s.len();
+    let i = ascii_blocks(s, at, 64);
+    let j = ascii_blocks(s, i, 8);
+    if n - j < 8 {
+        if is_ascii(s, n - 8, n) {
+            return n;
+        }
     }
-    if at < len - 16 { at + 16 } else { len }
+    ascii_bytes(s, j, n)
 }
 
-// So far from an index on bytes are ASCII: byte by byte at first, then by blocks.
+// So far from an index on bytes are ASCII: by blocks if the first eight are.
 fn ascii_end(s: &[u8], at: usize) -> usize
     requires { ⌜ at ≤ length (now s) ⌝ }
     ensures { λ r. ⌜ Ascii (now (s .entry)) at r ⌝ }
 {
-    let to = near(at, s.len());
-    let i = ascii_bytes(s, at, to);
-    if i < to {
-        return i;
+    let n = s.len();
+    if 8 <= n - at {
+        if is_ascii(s, at, at + 8) {
+            return ascii_far(s, at + 8);
+        }
     }
-    let j = ascii_blocks(s, i);
-    ascii_bytes(s, j, s.len())
+    ascii_bytes(s, at, n)
 }
 
 // Whether the byte at an index is within low to high.

@@ -9,6 +9,9 @@ unfolding over
 put-words-spec =
     tie.close
     (tie.spec
+    (λ c κs. search needs)  -- put-eight-requires
+    (λ c. search needs)  -- same-length
+    (λ c. search needs)  -- returns
     (λ c κs. search needs)  -- put-word-requires
     (λ c κs. search needs)  -- put-word-requires-2
     (λ c κs. search needs)  -- put-word-requires-3
@@ -17,7 +20,7 @@ put-words-spec =
     (λ c κs. search needs)  -- put-word-requires-6
     (λ c κs. search needs)  -- put-word-requires-7
     (λ c κs. search needs)  -- put-word-requires-8
-    (λ c. search needs)  -- same-length
+    (λ c. search needs)  -- same-length-2
     (λ c.
     let w8 = c .before .before in
     let w7 = w8 .before .before .before .before in
@@ -27,4 +30,4 @@ put-words-spec =
     let w3 = w4 .before .before .before .before in
     let w2 = w3 .before .before .before .before in
     let w1 = w2 .before .before .before .before in
-    rw (w8 .put-word8 .ensures, w7 .put-word7 .ensures, w6 .put-word6 .ensures, w5 .put-word5 .ensures, w4 .put-word4 .ensures, w3 .put-word3 .ensures, w2 .put-word2 .ensures, w1 .put-word .ensures)))  -- returns
+    rw (w8 .put-word8 .ensures, w7 .put-word7 .ensures, w6 .put-word6 .ensures, w5 .put-word5 .ensures, w4 .put-word4 .ensures, w3 .put-word3 .ensures, w2 .put-word2 .ensures, w1 .put-word .ensures)))  -- returns-2

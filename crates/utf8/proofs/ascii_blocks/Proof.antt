@@ -9,10 +9,10 @@ use Rattle.utf8.proofs.ascii_blocks.Statement.{statement}
 use Rattle.utf8.proofs.ascii_blocks.Tie as tie
 
 abbrev Inv-loop : tie.InvT-loop
-Inv-loop s at i₀ i = Ascii s at i
+Inv-loop s at size i₀ i = Ascii s at i
 
 abbrev μ-loop : tie.MeasureT-loop
-μ-loop s at i₀ i = length s - i
+μ-loop s at size i₀ i = length s - i
 
 pub ascii-blocks-spec : {M : Type 1} → statement M
 ascii-blocks-spec =

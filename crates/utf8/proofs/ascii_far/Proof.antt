@@ -1,0 +1,22 @@
+-- `utf8::ascii_far` meets its contract. Assumes nothing.
+use borrow.Author.Needs.{needs}
+use native.Mathlib.Omega.{arith}
+use Rattle.utf8.proofs.Runs.{ascii-append, ascii-on}
+use Rattle.utf8.proofs.ascii_far.Statement.{statement}
+use Rattle.utf8.proofs.ascii_far.Tie as tie
+
+pub ascii-far-spec : {M : Type 1} → statement M
+ascii-far-spec =
+    tie.close
+    (tie.spec
+    (λ c κs. search needs)  -- ascii-blocks-requires
+    (λ c κs. (c .ascii-blocks .ensures .within, omega arith))  -- ascii-blocks-requires-2
+    (λ c. omega (arith, c .ascii-blocks2 .ensures .within))  -- sub-if1
+    (λ c. search needs)  -- sub-is-ascii
+    (λ c κs. omega arith)  -- is-ascii-requires
+    (λ c.
+    let p = c .before .before .before .before .ascii-blocks .ensures in
+    let q = c .before .before .before .ascii-blocks2 .ensures in
+    ascii-on _ _ _ _ (ascii-append _ _ _ _ p q) (λ k h l. c .before .is-ascii .ensures (c .if2 .taken) k (omega (arith, c .before .before .if1 .taken)) l) (q .within) (omega arith))  -- returns
+    (λ c κs. search needs)  -- ascii-bytes-requires
+    (λ c. ascii-append _ _ _ _ (ascii-append _ _ _ _ (c .before .before .before .ascii-blocks .ensures) (c .before .before .ascii-blocks2 .ensures)) (c .ascii-bytes .ensures)))  -- returns-2
