@@ -379,10 +379,13 @@ fn read_turn(s: &[u8], f: State, text: &mut [u8], places: &mut [u32; 64]) -> Tur
     }
 }
 
-// Whether a byte has no rule of its own in a field: * to 9, ? to Z and ^ to z have none.
+// Whether a byte has no rule of its own in a field: ^ to z, * to 9 and ? to Z have none.
 fn is_passing(b: u8) -> bool
     ensures { λ r. ⌜ (r ≡ true → passing b ≡ true) ⌝ }
 {
+    if 94 <= b {
+        return b <= 122;
+    }
     if b < 42 {
         return false;
     }
@@ -392,13 +395,7 @@ fn is_passing(b: u8) -> bool
     if b < 63 {
         return false;
     }
-    if b <= 90 {
-        return true;
-    }
-    if b < 94 {
-        return false;
-    }
-    b <= 122
+    b <= 90
 }
 
 // How far from an index on bytes have no rule of their own.

@@ -12,14 +12,15 @@ use utf8::Cursor;
 use utf8::Step;
 use utf8::greater;
 ghost use mathlib.Core.Path.{_≡_};
-ghost use mathlib.Core.Bool.{_&&_, not, true};
+ghost use mathlib.Core.Bool.{_&&_, not, true, false};
 ghost use mathlib.Core.List.{[]};
 ghost use Prim.Native.Nat.{ℕ, _+_, _≤_, _<_, _^_};
 ghost use lib.ListN.{length};
 ghost use Rattle.definition.specs.Numbers.{isRaw};
-ghost use Rattle.definition.specs.Chars.{_is_, part, code, next};
+ghost use Rattle.definition.specs.Chars.{_is_, byte, part, code, next};
 ghost use Rattle.definition.specs.Escapes.{fault, encode, escape};
 ghost use Rattle.definition.specs.Body.{goes, withEscape, stringMove, stringN, textMove, enough};
+ghost use Rattle.marks.specs.Marks.{special};
 ghost use Rattle.buffers.specs.Over.{over};
 ghost use Rattle.strings.specs.Text.{Room, Taken, refusal, plainEnd, PlainTo, AllPlain, PlainIs, Does, StringIs, RunIs};
 
@@ -333,6 +334,16 @@ fn plain_text(s: &[u8], from: Cursor, kind: u32, text: &mut [u8], used: usize) -
     }
 }
 
+// Whether a plain byte stands at an index.
+fn is_plain_at(s: &[u8], at: usize, kind: u32) -> bool
+    ensures { λ r. ⌜ (r ≡ true → (at < length (now (s .entry))) × (special kind (byte (now (s .entry)) at) ≡ false)) ⌝ }
+{
+    if s.len() <= at {
+        return false;
+    }
+    !is_special(s[at], kind)
+}
+
 // A string's or bytes' body: its text, at the used length.
 pub(crate) fn parse_string(s: &[u8], kind: u32, text: &mut [u8], used: usize) -> Text
     requires { ⌜ (length (now s) ≤ 1048576) × (used ≤ 2 ^ 32) ⌝ }
@@ -341,15 +352,20 @@ pub(crate) fn parse_string(s: &[u8], kind: u32, text: &mut [u8], used: usize) ->
     let mut cursor = Cursor { at: 0 };
     let mut end = used;
     loop {
-        let run = plain_text(s, cursor, kind, text, end);
-        let piece = string_piece(s, run.cursor, kind, text, run.used);
+        if is_plain_at(s, cursor.at, kind) {
+            let run = plain_text(s, cursor, kind, text, end);
+            cursor = run.cursor;
+            end = run.used;
+            continue;
+        }
+        let piece = string_piece(s, cursor, kind, text, end);
         match piece {
             Piece::On(after, length) => {
                 cursor = after;
                 end = length;
             }
             Piece::Refused(r) => return Text::Refused(r),
-            _ => return Text::Done(run.used),
+            _ => return Text::Done(end),
         }
     }
 }
@@ -369,16 +385,20 @@ pub(crate) fn text_run(
     let mut cursor = at;
     let mut end = used;
     loop {
-        let run = plain_text(s, cursor, kind, text, end);
-        let here = run.cursor;
-        let piece = text_piece(s, here, nested, kind, text, run.used);
+        if is_plain_at(s, cursor.at, kind) {
+            let run = plain_text(s, cursor, kind, text, end);
+            cursor = run.cursor;
+            end = run.used;
+            continue;
+        }
+        let piece = text_piece(s, cursor, nested, kind, text, end);
         match piece {
             Piece::On(after, length) => {
                 cursor = after;
                 end = length;
             }
-            Piece::Field(after) => return Run::Field(after, run.used),
-            Piece::Over => return Run::Over(here, run.used),
+            Piece::Field(after) => return Run::Field(after, end),
+            Piece::Over => return Run::Over(cursor, end),
             Piece::Refused(r) => return Run::Refused(r),
         }
     }

@@ -1,6 +1,6 @@
 -- Runs of plain bytes: their characters go into the text one after the other. Assumes nothing.
 use mathlib.Core.Path.{_≡_, refl, sym, _∙_}
-use mathlib.Core.Bool.{Bool, true, false, _&&_, _||_}
+use mathlib.Core.Bool.{Bool, true, false, _&&_, _||_, not}
 use mathlib.Core.List.{List, _++_, append-nil, append-assoc}
 use Prim.Native.Nat.{ℕ, zero, suc, _+_, _-_, _≤_, _<_}
 use native.Mathlib.Nat.{add-zero}
@@ -25,6 +25,10 @@ use Rattle.strings.proofs.text.Laws.{StringFrom}
 either : (a b : Bool) → (a || b) ≡ false → (a ≡ false) × (b ≡ false)
 either true b h = no (sym h)
 either false b h = (refl, h)
+
+pub not-true : (b : Bool) → not b ≡ true → b ≡ false
+not-true true e = no e
+not-true false e = refl
 
 -- what a plain byte is not
 record Plain (kind b : ℕ) : Type 0 where
@@ -66,6 +70,9 @@ module _ (kind : ℕ) (s : List ℕ) where
 
     pub end-plain : i < length s → special kind (byte s i) ≡ false → plainEnd kind s i ≡ plainEnd kind s (i + 1)
     end-plain h e = omega (arith, before-plain h e)
+
+    pub end-later : i < length s → special kind (byte s i) ≡ false → i < plainEnd kind s i
+    end-later h e = omega (arith, before-plain h e)
 
   -- several plain bytes
   end-skip : (i n : ℕ) → i + n ≤ length s → ((j : ℕ) → i ≤ j → j < i + n → special kind (byte s j) ≡ false) → plainEnd kind s i ≡ plainEnd kind s (i + n)

@@ -10,9 +10,8 @@ pub is-passing-spec : {M : Type 1} → statement M
 is-passing-spec =
     tie.close
     (tie.spec
-    (λ c e. absurd (false≢true e))  -- returns
-    (λ c e. let b = c .before .before .args .b in rw (inside-yes 42 57 b (c .before .if1 .left) (c .if2 .taken)))  -- returns-2
-    (λ c e. absurd (false≢true e))  -- returns-3
-    (λ c e. let b = c .before .before .before .before .args .b in rw (inside-not 42 57 b (λ p q. omega (arith, c .before .before .if2 .left)), inside-yes 63 90 b (c .before .if3 .left) (c .if4 .taken)))  -- returns-4
-    (λ c e. absurd (false≢true e))  -- returns-5
-    (λ c e. let b = c .before .before .before .before .before .args .b in rw (inside-not 42 57 b (λ p q. omega (arith, c .before .before .before .if2 .left)), inside-not 63 90 b (λ p q. omega (arith, c .before .if4 .left)), inside-yes 94 122 b (c .if5 .left) (leb-true b 122 e))))  -- returns-6
+    (λ c e. let b = c .before .args .b in rw (inside-not 42 57 b (λ p q. omega (arith, c .if1 .taken)), inside-not 63 90 b (λ p q. omega (arith, c .if1 .taken)), inside-yes 94 122 b (c .if1 .taken) (leb-true b 122 e)))  -- returns
+    (λ c e. absurd (false≢true e))  -- returns-2
+    (λ c e. let b = c .before .before .before .args .b in rw (inside-yes 42 57 b (c .before .if2 .left) (c .if3 .taken)))  -- returns-3
+    (λ c e. absurd (false≢true e))  -- returns-4
+    (λ c e. let b = c .before .before .before .before .args .b in rw (inside-not 42 57 b (λ p q. omega (arith, c .before .if3 .left)), inside-yes 63 90 b (c .if4 .left) (leb-true b 90 e))))  -- returns-5

@@ -11,6 +11,7 @@ use Rattle.definition.specs.Numbers.{isBytes}
 use Rattle.definition.specs.Chars.{byte}
 use Rattle.definition.proofs.CharLaws.{cases, byte-is}
 use Rattle.marks.specs.Marks.{special}
+use Rattle.strings.proofs.text.Plain.{not-true}
 use Rattle.strings.proofs.text.is_plain.Statement.{statement}
 use Rattle.strings.proofs.text.is_plain.Tie as tie
 
@@ -32,10 +33,6 @@ one-more s i j m l r b m′ l′ r′ b′ m≤ l≤ r≤ b≤ new p k a c =
     let q = p k a (ltb-true k j t) in
     record { below = omega (arith, q .below); lefts = λ e. omega (arith, q .lefts e); rights = λ e. omega (arith, q .rights e); backslashes = λ e. omega (arith, q .backslashes e) })
     (λ t. let e : j ≡ k = omega (arith, ltb-false k j t) in subst (λ (n : ℕ). Marked (byte s n) m′ l′ r′ b′) e new)
-
-not-true : (b : Bool) → not b ≡ true → b ≡ false
-not-true true e = absurd (false≢true e)
-not-true false e = refl
 
 -- no mark was set, and the greatest byte may stand there
 not-special : (kind b m : ℕ) → Marked b m 0 0 0 → (isBytes kind && leb 0x80 m) ≡ false → special kind b ≡ false

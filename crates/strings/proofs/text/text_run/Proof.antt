@@ -6,7 +6,7 @@ use Prim.Native.Nat.{_-_}
 use lib.ListN.{length}
 use Rattle.strings.specs.Text.{Upto, TextFrom}
 use Rattle.strings.proofs.text.Laws.{start, long, text-more, text-opens, text-over, text-refused}
-use Rattle.strings.proofs.text.Plain.{text-run}
+use Rattle.strings.proofs.text.Plain.{end-later, text-run}
 use Rattle.strings.proofs.text.text_run.Statement.{statement}
 use Rattle.strings.proofs.text.text_run.Tie as tie
 
@@ -17,10 +17,6 @@ Inv-loop s nested kind text₀ used cursor₀ end₀ text cursor end =
 abbrev μ-loop : tie.MeasureT-loop
 μ-loop s nested kind text₀ used cursor₀ end₀ text cursor end = length s - cursor .at
 
--- after the plain bytes
-upto : (c : tie.After-plain-text Inv-loop μ-loop) → let a = c .before .before .before .before .before .args in let r = c .plain-text .result in Upto (TextFrom (a .kind) (a .s .now) (a .nested) (a .at .at)) (a .s .now) (a .at .at) (a .used) (a .text .now) (c .plain-text .last .1 .1 .1 .0) (r .cursor .at) (r .used)
-upto c = text-run _ _ _ _ _ _ _ _ _ (omega arith) (c .before .before .loop .inv) _ (c .plain-text .result) (c .plain-text .ensures)
-
 pub text-run-spec : {M : Type 1} → statement M
 text-run-spec =
     tie.close
@@ -28,17 +24,23 @@ text-run-spec =
     Inv-loop
     μ-loop
     (λ c. start _ _ _ _ _ (λ ps. refl) (c .before .before .pre .0))  -- loop-holds
-    (λ c κs. search needs)  -- plain-text-requires
-    (λ c κs. let u = upto (c .before .before .before .before) in search needs)  -- text-piece-requires
+    (λ c κs. search needs)  -- is-plain-at-requires
+    (λ c κs. let u = c .before .before .before .loop .inv in search needs)  -- plain-text-requires
+    (λ c.
+    let a = c .before .before .before .before .before .before .before .before .before .before .args in
+    let p = c .before .before .before .before .before .before .is-plain-at .ensures (c .before .before .before .before .before .if1 .taken) in
+    omega (arith, p .0, c .before .before .before .plain-text .ensures .0, end-later (a .kind) (a .s .now) _ (p .0) (p .1)))  -- loop-less
+    (λ c. text-run _ _ _ _ _ _ _ _ _ (omega (arith, c .before .before .before .before .before .before .before .before .before .before .pre)) (c .before .before .before .before .before .before .before .loop .inv) _ (c .before .before .before .plain-text .result) (c .before .before .before .plain-text .ensures))  -- loop-again
+    (λ c κs. let u = c .before .before .before .loop .inv in search needs)  -- text-piece-requires
     (λ c. search needs)  -- enum-known-piece
-    (λ c. let u = upto (c .before .before .before .before .before .before .before .before .before .before) in let m = text-more _ _ _ _ _ _ _ _ _ u _ _ (c .before .before .before .before .before .text-piece .ensures) _ _ (c .before .piece .given .1) in omega arith)  -- loop-less
-    (λ c. text-more _ _ _ _ _ _ _ _ _ (upto (c .before .before .before .before .before .before .before .before .before .before)) _ _ (c .before .before .before .before .before .text-piece .ensures) _ _ (c .before .piece .given .1) .1)  -- loop-again
+    (λ c. let m = text-more _ _ _ _ _ _ _ _ _ (c .before .before .before .before .before .before .before .before .before .loop .inv) _ _ (c .before .before .before .before .before .text-piece .ensures) _ _ (c .before .piece .given .1) in omega arith)  -- loop-less-2
+    (λ c. text-more _ _ _ _ _ _ _ _ _ (c .before .before .before .before .before .before .before .before .before .loop .inv) _ _ (c .before .before .before .before .before .text-piece .ensures) _ _ (c .before .piece .given .1) .1)  -- loop-again-2
     (λ c. search needs)  -- enum-known-piece-2
-    (λ c. let l = long _ _ _ _ _ _ _ _ (upto (c .before .before .before .before .before .before .before .before .before .before)) in search needs)  -- same-length
-    (λ c. text-opens _ _ _ _ _ _ _ _ _ (upto (c .before .before .before .before .before .before .before .before .before .before)) _ _ (c .before .before .before .before .before .text-piece .ensures) _ (c .before .piece2 .given .1))  -- returns
+    (λ c. let l = long _ _ _ _ _ _ _ _ (c .before .before .before .before .before .before .before .before .before .loop .inv) in search needs)  -- same-length
+    (λ c. text-opens _ _ _ _ _ _ _ _ _ (c .before .before .before .before .before .before .before .before .before .loop .inv) _ _ (c .before .before .before .before .before .text-piece .ensures) _ (c .before .piece2 .given .1))  -- returns
     (λ c. search needs)  -- enum-told
-    (λ c. let l = long _ _ _ _ _ _ _ _ (upto (c .before .before .before .before .before .before .before .before .before)) in search needs)  -- same-length-2
-    (λ c. text-over _ _ _ _ _ _ _ _ _ (upto (c .before .before .before .before .before .before .before .before .before)) _ _ (c .before .before .before .before .text-piece .ensures) (c .enum-told .given .1))  -- returns-2
+    (λ c. let l = long _ _ _ _ _ _ _ _ (c .before .before .before .before .before .before .before .before .loop .inv) in search needs)  -- same-length-2
+    (λ c. text-over _ _ _ _ _ _ _ _ _ (c .before .before .before .before .before .before .before .before .loop .inv) _ _ (c .before .before .before .before .text-piece .ensures) (c .enum-told .given .1))  -- returns-2
     (λ c. search needs)  -- enum-known-piece-3
-    (λ c. let l = long _ _ _ _ _ _ _ _ (upto (c .before .before .before .before .before .before .before .before .before .before)) in search needs)  -- same-length-3
-    (λ c. text-refused _ _ _ _ _ _ _ _ _ (upto (c .before .before .before .before .before .before .before .before .before .before)) _ _ (c .before .before .before .before .before .text-piece .ensures) _ (c .before .piece3 .given .1)))  -- returns-3
+    (λ c. let l = long _ _ _ _ _ _ _ _ (c .before .before .before .before .before .before .before .before .before .loop .inv) in search needs)  -- same-length-3
+    (λ c. text-refused _ _ _ _ _ _ _ _ _ (c .before .before .before .before .before .before .before .before .before .loop .inv) _ _ (c .before .before .before .before .before .text-piece .ensures) _ (c .before .piece3 .given .1)))  -- returns-3
