@@ -65,9 +65,6 @@ const TOO_FEW_RECORD_PLACES: u32 = 30;
 
 const TOO_LITTLE_TEXT_ROOM: u32 = 31;
 
-// By kind: the length of the prefix.
-const PREFIX: [u8; 7] = [0, 1, 1, 1, 2, 2, 1];
-
 // The number at an index; 0 where the numbers end.
 fn number_at(numbers: &[u32], at: usize) -> u32
     ensures { λ r. ⌜ r ≡ getD (now (numbers .entry)) at 0 ⌝ }
@@ -80,6 +77,16 @@ pub fn literal_at(numbers: &[u32], i: u32) -> Descriptor
     ensures { λ r. ⌜ described r ≡ literalAt (now (numbers .entry)) i ⌝ }
 {
     let at = i as usize * 6;
+    if at + 6 <= numbers.len() {
+        return Descriptor {
+            kind: numbers[at],
+            triple: numbers[at + 1],
+            offset: numbers[at + 2],
+            size: numbers[at + 3],
+            start: numbers[at + 4],
+            end: numbers[at + 5],
+        };
+    }
     Descriptor {
         kind: number_at(numbers, at),
         triple: number_at(numbers, at + 1),
@@ -94,7 +101,15 @@ pub fn literal_at(numbers: &[u32], i: u32) -> Descriptor
 fn prefix(kind: u32) -> u8
     ensures { λ r. ⌜ r ≡ prefix kind ⌝ }
 {
-    if kind < 7 { PREFIX[kind as usize] } else { 0 }
+    if 6 < kind {
+        return 0;
+    }
+    match kind {
+        0 => 0,
+        4 => 2,
+        5 => 2,
+        _ => 1,
+    }
 }
 
 // The length of a literal's opening: the prefix plus 3 quotes if the flag is 1, else 1.

@@ -1,5 +1,6 @@
 -- `entry::literal_at` meets its contract. Assumes nothing.
 use borrow.Author.Needs.{needs}
+use mathlib.Core.Path.{refl}
 use Rattle.entry.specs.Answers.{described}
 use Rattle.entry.specs.Literals.{literalAt}
 use Rattle.entry.proofs.literal_at.Statement.{statement}
@@ -11,6 +12,25 @@ literal-at-spec =
     tie.close
     (tie.spec
     (λ c. search needs)  -- mul-at
+    (λ c. search needs)  -- add-if1
+    (λ c. search needs)  -- mul-t7
+    (λ c. search needs)  -- shared-slice-read-t9
+    (λ c. search needs)  -- add-t10
+    (λ c. search needs)  -- mul-t11
+    (λ c. search needs)  -- shared-slice-read-t13
+    (λ c. search needs)  -- add-t14
+    (λ c. search needs)  -- mul-t15
+    (λ c. search needs)  -- shared-slice-read-t17
+    (λ c. search needs)  -- add-t18
+    (λ c. search needs)  -- mul-t19
+    (λ c. search needs)  -- shared-slice-read-t21
+    (λ c. search needs)  -- add-t22
+    (λ c. search needs)  -- mul-t23
+    (λ c. search needs)  -- shared-slice-read-t25
+    (λ c. search needs)  -- add-t26
+    (λ c. search needs)  -- mul-t27
+    (λ c. search needs)  -- shared-slice-read-t29
+    (λ c. refl)  -- returns
     (λ c κs. search needs)  -- number-at-requires
     (λ c. search needs)  -- add-number-at
     (λ c κs. search needs)  -- number-at-requires-2
@@ -22,4 +42,4 @@ literal-at-spec =
     (λ c κs. search needs)  -- number-at-requires-5
     (λ c. search needs)  -- add-number-at-5
     (λ c κs. search needs)  -- number-at-requires-6
-    (λ c. rw (c .number-at6 .ensures, c .before .number-at5 .ensures, c .before .before .number-at4 .ensures, c .before .before .before .number-at3 .ensures, c .before .before .before .before .number-at2 .ensures, c .before .before .before .before .before .number-at .ensures)))  -- returns
+    (λ c. rw (c .number-at6 .ensures, c .before .number-at5 .ensures, c .before .before .number-at4 .ensures, c .before .before .before .number-at3 .ensures, c .before .before .before .before .number-at2 .ensures, c .before .before .before .before .before .number-at .ensures)))  -- returns-2
