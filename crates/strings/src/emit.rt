@@ -116,6 +116,20 @@ fn held_from(k: Sink) -> usize
     k.used
 }
 
+// The text from the used length up to `to` is held: a literal at depth 0.
+fn hold(k: Sink, to: usize) -> Sink
+    requires { ⌜ Fits k ⌝ }
+    ensures { λ r. ⌜ ((fr : Frame) (words t T : List ℕ) → to ≡ k .used + length t → Emits fr 0 (aLiteral 0 t ∷ []) words T words (over T (k .used) t) k r) ⌝ }
+{
+    Sink {
+        count: k.count,
+        used: to,
+        held: 1,
+        from: held_from(k),
+        parts: k.parts + 1,
+    }
+}
+
 // A literal of the text from the used length up to `to`: at depth 0 it is held, deeper it is a record.
 pub(crate) fn literal(words: &mut [u32], fr: Frame, k: Sink, to: usize, nested: usize) -> Sink
     requires { ⌜ Fits k ⌝ }
@@ -123,13 +137,7 @@ pub(crate) fn literal(words: &mut [u32], fr: Frame, k: Sink, to: usize, nested: 
     ensures { λ r. ⌜ ((t T : List ℕ) → to ≡ k .used + length t → Emits fr nested (aLiteral nested t ∷ []) (now (words .entry)) T (now (words .exit)) (over T (k .used) t) k r) ⌝ }
 {
     if nested == 0 {
-        return Sink {
-            count: k.count,
-            used: to,
-            held: 1,
-            from: held_from(k),
-            parts: k.parts + 1,
-        };
+        return hold(k, to);
     }
     let a = close_held(words, fr.whole, k);
     put_inner(words, fr, a, to, 1, 0, 0, 0)
@@ -143,6 +151,9 @@ pub(crate) fn end_text(words: &mut [u32], fr: Frame, k: Sink, to: usize, nested:
 {
     if k.used == to {
         return k;
+    }
+    if nested == 0 {
+        return hold(k, to);
     }
     literal(words, fr, k, to, nested)
 }

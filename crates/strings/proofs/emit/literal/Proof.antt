@@ -1,6 +1,6 @@
 -- `strings::emit::literal` meets its contract. Assumes nothing.
 use borrow.Author.Needs.{needs}
-use Rattle.strings.proofs.SinkLaws.{closed-fits, held-literal, inner-literal}
+use Rattle.strings.proofs.SinkLaws.{closed-fits, inner-literal}
 use Rattle.strings.proofs.emit.literal.Statement.{statement}
 use Rattle.strings.proofs.emit.literal.Tie as tie
 
@@ -8,9 +8,8 @@ pub literal-spec : {M : Type 1} → statement M
 literal-spec =
     tie.close
     (tie.spec
-    (λ c κs. search needs)  -- held-from-requires
-    (λ c. search needs)  -- add-t9
-    (λ c. let a = c .before .before .before .before .args in let h = c .before .held-from in λ t T l. rw (c .before .before .if1 .taken) (held-literal (a .fr) t _ T (a .k) (h .result) (a .to) l (h .ensures)))  -- returns
+    (λ c κs. search needs)  -- hold-requires
+    (λ c. let a = c .before .before .before .args in λ t T l. rw (c .before .if1 .taken) (c .hold .ensures (a .fr) _ t T l))  -- returns
     (λ c κs. search needs)  -- close-held-requires
     (λ c κs. let s = c .before .before .before .before .before .before .before in let h = c .before .before .before .close-held in closed-fits (s .args .fr .whole) (s .args .k) (h .result) _ _ (s .args .to) (h .ensures) (s .pre .0) (s .pre .1 .0) (s .pre .1 .1))  -- put-inner-requires
     (λ c. search needs)  -- same-length
