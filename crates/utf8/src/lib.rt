@@ -275,7 +275,7 @@ fn ascii_bytes(s: &[u8], from: usize, to: usize) -> usize
 
 // So far from an index on bytes are ASCII, by blocks: the last eight may be looked at twice.
 fn ascii_far(s: &[u8], at: usize) -> usize
-    requires { ⌜ (8 ≤ at) × (at ≤ length (now s)) ⌝ }
+    requires { ⌜ at + 8 ≤ length (now s) ⌝ }
     ensures { λ r. ⌜ Ascii (now (s .entry)) at r ⌝ }
 {
     let n = s.len();
@@ -297,7 +297,7 @@ fn ascii_end(s: &[u8], at: usize) -> usize
     let n = s.len();
     if 8 <= n - at {
         if is_ascii(s, at, at + 8) {
-            return ascii_far(s, at + 8);
+            return ascii_far(s, at);
         }
     }
     ascii_bytes(s, at, n)

@@ -1,7 +1,5 @@
 -- `utf8::ascii_end` meets its contract. Assumes nothing.
 use borrow.Author.Needs.{needs}
-use native.Mathlib.Omega.{arith}
-use Rattle.utf8.proofs.Runs.{ascii-none, ascii-on, ascii-append}
 use Rattle.utf8.proofs.ascii_end.Statement.{statement}
 use Rattle.utf8.proofs.ascii_end.Tie as tie
 
@@ -12,10 +10,7 @@ ascii-end-spec =
     (λ c. search needs)  -- sub-if1
     (λ c. search needs)  -- add-is-ascii
     (λ c κs. search needs)  -- is-ascii-requires
-    (λ c. search needs)  -- add-ascii-far
     (λ c κs. search needs)  -- ascii-far-requires
-    (λ c.
-    let b = c .before .before .is-ascii .ensures (c .before .if2 .taken) in
-    ascii-append _ _ _ _ (ascii-on _ _ _ _ (ascii-none _ _ (search needs)) b (omega arith) (search needs)) (c .ascii-far .ensures))  -- returns
+    (λ c. search needs)  -- returns
     (λ c κs. search needs)  -- ascii-bytes-requires
     (λ c. search needs))  -- returns-2
