@@ -6,7 +6,7 @@ use lib.ListN.{length}
 use Rattle.definition.specs.Numbers.{emptyExpression}
 use Rattle.definition.specs.Chars.{ascii, insideAny, table37, following, follow, width, decoded, code, next, char, utf8, whiteSpace}
 use Rattle.definition.specs.Escapes.{fault, Read, got, refused}
-use Rattle.definition.specs.Body.{Piece, field, textCase, textMove, filled, fresh, add, outside, fieldCase, caseOf, fieldMove, conversionOf, fieldPieces, selfDocumenting, finished, textN, readBody}
+use Rattle.definition.specs.Body.{signs, Piece, field, textCase, textMove, filled, withClose, fresh, add, outside, fieldCase, caseOf, fieldMove, conversionOf, fieldPieces, selfDocumenting, finished, textN, readBody}
 
 -- all of White_Space
 pub blanks : List ℕ
@@ -32,8 +32,8 @@ empty c = refused (fault emptyExpression (length (around c)))
 
 abbrev pub full : ℕ → Read (List Piece)
 unfolding utf8
-full c = got (field 0 (utf8 c) 0 0 1 ∷ []) (length (around c))
+full c = got (field 0 (utf8 c) 0 0 1 (signs 0 0 0 (length (around c))) ∷ []) (length (around c))
 
 pub blanks-read : map (λ c. readBody 1 (around c)) (blanks ++ others) ≡ map empty blanks ++ map full others
-unfolding blanks others ascii insideAny table37 following follow width decoded code next char utf8 whiteSpace textCase textMove filled fresh add outside fieldCase caseOf fieldMove conversionOf fieldPieces selfDocumenting finished textN readBody
+unfolding blanks others ascii insideAny table37 following follow width decoded code next char utf8 whiteSpace textCase textMove filled withClose fresh add outside fieldCase caseOf fieldMove conversionOf fieldPieces selfDocumenting finished textN readBody
 blanks-read = refl

@@ -9,13 +9,13 @@ use borrow.Author.Tests.{ne-eqb}
 use Rattle.definition.specs.Numbers.{emptyExpression}
 use Rattle.definition.specs.Chars.{if_then_else_, _is_, atEnd, code, next}
 use Rattle.definition.specs.Escapes.{fault, Read, got, refused}
-use Rattle.definition.specs.Body.{Piece, literal, field, spec, Move, goes, stops, calls, ends, filled, Field, state, fresh, textMove, fieldMove, direct, conversionOf, fieldPieces, selfDocumenting, finished, specified, firstEnd, textN, fieldN, specN}
+use Rattle.definition.specs.Body.{Piece, literal, field, spec, Move, goes, stops, calls, ends, filled, Field, state, withClose, formatted, fresh, textMove, fieldMove, direct, conversionOf, fieldPieces, selfDocumenting, finished, specified, firstEnd, textN, fieldN, specN}
 use Rattle.definition.proofs.Steps.{text-goes, text-stops, text-ends, text-got, text-refused, field-goes, field-stops, field-ends, field-got, field-refused, firstPiece, spec-calls, spec-ends}
 
 abbrev pub Deep : ℕ → List Piece → Type 0
 Deep depth [] = Unit {0}
 Deep depth (literal d t ∷ ps) = (depth ≤ d) × Deep depth ps
-Deep depth (field d e c n i ∷ ps) = (depth ≤ d) × Deep depth ps
+Deep depth (field d e c n i g ∷ ps) = (depth ≤ d) × Deep depth ps
 Deep depth (spec n ∷ ps) = Deep depth ps
 
 abbrev pub DeepRead : ℕ → Read (List Piece) → Type 0
@@ -25,7 +25,7 @@ DeepRead depth (refused x) = Unit {0}
 deep-append : (depth : ℕ) (ps qs : List Piece) → Deep depth ps → Deep depth qs → Deep depth (ps ++ qs)
 deep-append depth [] qs h k = k
 deep-append depth (literal d t ∷ ps) qs h k = (h .0, deep-append depth ps qs (h .1) k)
-deep-append depth (field d e c n i ∷ ps) qs h k = (h .0, deep-append depth ps qs (h .1) k)
+deep-append depth (field d e c n i g ∷ ps) qs h k = (h .0, deep-append depth ps qs (h .1) k)
 deep-append depth (spec n ∷ ps) qs h k = deep-append depth ps qs h k
 
 filled-deep : (depth : ℕ) (text : List ℕ) → Deep depth (filled depth text)
@@ -37,22 +37,22 @@ filled-deep depth (b ∷ text) = (omega arith, tt)
 shallower : (depth : ℕ) (ps : List Piece) → Deep (suc depth) ps → Deep depth ps
 shallower depth [] h = tt
 shallower depth (literal d t ∷ ps) h = (omega arith, shallower depth ps (h .1))
-shallower depth (field d e c n i ∷ ps) h = (omega arith, shallower depth ps (h .1))
+shallower depth (field d e c n i g ∷ ps) h = (omega arith, shallower depth ps (h .1))
 shallower depth (spec n ∷ ps) h = shallower depth ps h
 
 finished-deep : (depth from j : ℕ) (f : Field) (ps : List Piece) → Deep (suc depth) ps → DeepRead depth (finished depth from j f none) × DeepRead depth (finished depth from j f (some ps))
 unfolding finished selfDocumenting fieldPieces
-finished-deep depth from j (state e b o c d w) ps h = (plain b d, formatted b d)
+finished-deep depth from j (state e b o c d w g) ps h = (plain b d, specific b d)
   where
-    plain : (b d : Bool) → DeepRead depth (if b then refused (fault emptyExpression j) else got (selfDocumenting depth d e w ++ fieldPieces depth e (conversionOf d c none) from none) j)
+    plain : (b d : Bool) → DeepRead depth (if b then refused (fault emptyExpression j) else got (selfDocumenting depth d e w ++ fieldPieces depth e (conversionOf d c none) from (withClose j g) none) j)
     plain true d = tt
     plain false true = (omega arith, (omega arith, (omega arith, tt)))
     plain false false = (omega arith, tt)
 
-    formatted : (b d : Bool) → DeepRead depth (if b then refused (fault emptyExpression j) else got (selfDocumenting depth d e w ++ fieldPieces depth e (conversionOf d c (some ps)) from (some ps)) j)
-    formatted true d = tt
-    formatted false true = (omega arith, (omega arith, (omega arith, shallower depth ps h)))
-    formatted false false = (omega arith, shallower depth ps h)
+    specific : (b d : Bool) → DeepRead depth (if b then refused (fault emptyExpression j) else got (selfDocumenting depth d e w ++ fieldPieces depth e (conversionOf d c (some ps)) from (withClose j g) (some ps)) j)
+    specific true d = tt
+    specific false true = (omega arith, (omega arith, (omega arith, shallower depth ps h)))
+    specific false false = (omega arith, shallower depth ps h)
 
 specified-deep : (s : List ℕ) (depth from j : ℕ) (f : Field) (ps : List Piece) → Deep (suc depth) ps → DeepRead depth (specified s depth from j f ps)
 unfolding specified
@@ -87,7 +87,7 @@ module _ (n : ℕ) (D : Depths n) (kind : ℕ) (s : List ℕ) (depth : ℕ) wher
   field-depth from i f = go (fieldMove s i f) refl
     where
       after : (r : Read (List Piece)) → specN n kind s depth (next s i) ≡ r → DeepRead (suc depth) r → fieldMove s i f ≡ calls → DeepRead depth (fieldN (suc n) kind s depth from i f)
-      after (got ps j) g k e = rw (field-got n kind s depth from i f ps j e g) (specified-deep s depth from j f ps k)
+      after (got ps j) g k e = rw (field-got n kind s depth from i f ps j e g) (specified-deep s depth from j (formatted (next s i) f) ps k)
       after (refused x) g k e = rw (field-refused n kind s depth from i f x e g) tt
 
       go : (x : Move Field) → fieldMove s i f ≡ x → DeepRead depth (fieldN (suc n) kind s depth from i f)
@@ -120,7 +120,7 @@ direct-none : (depth : ℕ) (ps : List Piece) → Deep (suc depth) ps → direct
 unfolding direct
 direct-none depth [] h = refl
 direct-none depth (literal d t ∷ ps) h = rw (ne-eqb d depth (λ e. omega arith), direct-none depth ps (h .1))
-direct-none depth (field d e c n i ∷ ps) h = rw (ne-eqb d depth (λ e. omega arith), direct-none depth ps (h .1))
+direct-none depth (field d e c n i g ∷ ps) h = rw (ne-eqb d depth (λ e. omega arith), direct-none depth ps (h .1))
 direct-none depth (spec n ∷ ps) h = direct-none depth ps h
 
 pub spec-apart : (n kind : ℕ) (s : List ℕ) (depth i : ℕ) (ps : List Piece) (j : ℕ) → specN n kind s depth i ≡ got ps j → direct depth ps ≡ 0

@@ -9,10 +9,10 @@ use lib.ListN.{length}
 use Rattle.definition.specs.Numbers.{isFString}
 use Rattle.definition.specs.Chars.{_is_, part, code, next}
 use Rattle.definition.specs.Escapes.{Read, got, refused}
-use Rattle.definition.specs.Body.{Piece, Bracket, Move, goes, stops, calls, ends, stringMove, stringN, filled, Field, fresh, textMove, fieldMove, finished, plainRun, firstEnd, textN, fieldN, specN, enough, alone, readBody}
+use Rattle.definition.specs.Body.{Piece, Bracket, Move, goes, stops, calls, ends, stringMove, stringN, filled, Field, formatted, fresh, textMove, fieldMove, finished, plainRun, firstEnd, textN, fieldN, specN, enough, alone, readBody}
 use Rattle.definition.proofs.CharLaws.{next-past, next-in, next-from, before-in}
 use Rattle.definition.proofs.OpenBrackets.{Open}
-use Rattle.definition.proofs.Moves.{SoundIn, Sound, textSize, weight, Ahead, later, bracketsOf, part-short, string-ahead, text-ahead, fieldSize, FieldAhead, field-ahead, finished-sound, specified-sound, Light, weight-append, filled-light, finished-light, specified-light}
+use Rattle.definition.proofs.Moves.{SoundIn, Sound, textSize, weight, Ahead, later, bracketsOf, part-short, string-ahead, text-ahead, fieldSize, FieldAhead, field-ahead, finished-sound, specified-sound, Light, weight-append, filled-light, formatted-size, finished-light, specified-light}
 use Rattle.definition.proofs.Steps.{string-goes, string-stops, string-ends, text-goes, text-stops, text-ends, text-got, text-refused, field-goes, field-stops, field-ends, field-got, field-refused, firstPiece, spec-calls, spec-ends}
 
 -- moves enough at i: twice the bytes left, and e more
@@ -99,7 +99,7 @@ module _ (n : ℕ) (R : Reads n) (kind : ℕ) (s : List ℕ) where
       after (got ps j) g sound light same h e =
           let n′ = next-past s i h in
           rw (field-got n kind s depth from i f ps j e g, field-got m kind s depth from i f ps j e (sym same ∙ g))
-          (specified-sound (bracketsOf f) s depth from i j f ps (omega arith) (sound .1), refl, specified-light s depth from i j f ps (omega arith) (omega arith))
+          (specified-sound (bracketsOf f) s depth from i j (formatted a f) ps (omega arith) (sound .1), refl, rw (formatted-size a f) at (specified-light s depth from i j (formatted a f) ps (omega arith) (omega arith)))
       after (refused x) g sound light same h e =
           rw (field-refused n kind s depth from i f x e g, field-refused m kind s depth from i f x e (sym same ∙ g)) ((λ q. sound .0 tt, sound .1), refl, tt)
 

@@ -11,77 +11,77 @@ use borrow.Author.Tests.{leb-false, eq-eqb, ne-eqb}
 use Rattle.definition.specs.Numbers.{isFString, expressionNestedTooDeeply, emptyExpression}
 use Rattle.definition.specs.Chars.{if_then_else_, _is_, part, atEnd, code, next}
 use Rattle.definition.specs.Escapes.{Fault, fault, Read, got, refused}
-use Rattle.definition.specs.Body.{Piece, literal, field, spec, Move, goes, stops, calls, ends, tooDeep, deep, textCase, textMove, filled, Field, state, fresh, fieldMove, direct, conversionOf, fieldPieces, selfDocumenting, finished, specified, firstEnd, textN, fieldN, specN, enough, readBody}
+use Rattle.definition.specs.Body.{Signs, Piece, literal, field, spec, Move, goes, stops, calls, ends, tooDeep, deep, textCase, textMove, filled, Field, state, withClose, formatted, fresh, fieldMove, direct, conversionOf, fieldPieces, selfDocumenting, finished, specified, firstEnd, textN, fieldN, specN, enough, readBody}
 use Rattle.definition.proofs.Steps.{text-goes, text-stops, text-ends, text-got, text-refused, field-goes, field-stops, field-ends, field-got, field-refused, firstPiece, spec-calls, spec-ends}
 
 -- A tree: what a text holds, in order
 pub data Parts : Type 0 where
   done : Parts
   run : (t : List ℕ) (rest : Parts) → Parts
-  bare : (e : List ℕ) (c i : ℕ) (rest : Parts) → Parts  -- a field without a spec
-  full : (e : List ℕ) (c i : ℕ) (spec rest : Parts) → Parts
+  bare : (e : List ℕ) (c i : ℕ) (g : Signs) (rest : Parts) → Parts  -- a field without a spec
+  full : (e : List ℕ) (c i : ℕ) (g : Signs) (spec rest : Parts) → Parts
 
 -- how many it holds directly
 abbrev pub count : Parts → ℕ
 count done = 0
 count (run t p) = suc (count p)
-count (bare e c i p) = suc (count p)
-count (full e c i q p) = suc (count p)
+count (bare e c i g p) = suc (count p)
+count (full e c i g q p) = suc (count p)
 
 -- its pieces at a depth, and others after them
 abbrev pub flat : ℕ → Parts → List Piece → List Piece
 flat d done ps = ps
 flat d (run t p) ps = literal d t ∷ flat d p ps
-flat d (bare e c i p) ps = field d e c 0 i ∷ flat d p ps
-flat d (full e c i q p) ps = field d e c 1 i ∷ spec (count q) ∷ flat (suc d) q (flat d p ps)
+flat d (bare e c i g p) ps = field d e c 0 i g ∷ flat d p ps
+flat d (full e c i g q p) ps = field d e c 1 i g ∷ spec (count q) ∷ flat (suc d) q (flat d p ps)
 
 -- one tree after another
 abbrev chain : Parts → Parts → Parts
 chain done r = r
 chain (run t p) r = run t (chain p r)
-chain (bare e c i p) r = bare e c i (chain p r)
-chain (full e c i q p) r = full e c i q (chain p r)
+chain (bare e c i g p) r = bare e c i g (chain p r)
+chain (full e c i g q p) r = full e c i g q (chain p r)
 
 flat-append : (d : ℕ) (p : Parts) (ps qs : List Piece) → flat d p ps ++ qs ≡ flat d p (ps ++ qs)
 flat-append d done ps qs = refl
 flat-append d (run t p) ps qs = ap (λ l. literal d t ∷ l) (flat-append d p ps qs)
-flat-append d (bare e c i p) ps qs = ap (λ l. field d e c 0 i ∷ l) (flat-append d p ps qs)
-flat-append d (full e c i q p) ps qs = ap (λ l. field d e c 1 i ∷ spec (count q) ∷ l) (flat-append (suc d) q (flat d p ps) qs ∙ ap (flat (suc d) q) (flat-append d p ps qs))
+flat-append d (bare e c i g p) ps qs = ap (λ l. field d e c 0 i g ∷ l) (flat-append d p ps qs)
+flat-append d (full e c i g q p) ps qs = ap (λ l. field d e c 1 i g ∷ spec (count q) ∷ l) (flat-append (suc d) q (flat d p ps) qs ∙ ap (flat (suc d) q) (flat-append d p ps qs))
 
 flat-chain : (d : ℕ) (p r : Parts) (ps : List Piece) → flat d (chain p r) ps ≡ flat d p (flat d r ps)
 flat-chain d done r ps = refl
 flat-chain d (run t p) r ps = ap (λ l. literal d t ∷ l) (flat-chain d p r ps)
-flat-chain d (bare e c i p) r ps = ap (λ l. field d e c 0 i ∷ l) (flat-chain d p r ps)
-flat-chain d (full e c i q p) r ps = ap (λ l. field d e c 1 i ∷ spec (count q) ∷ flat (suc d) q l) (flat-chain d p r ps)
+flat-chain d (bare e c i g p) r ps = ap (λ l. field d e c 0 i g ∷ l) (flat-chain d p r ps)
+flat-chain d (full e c i g q p) r ps = ap (λ l. field d e c 1 i g ∷ spec (count q) ∷ flat (suc d) q l) (flat-chain d p r ps)
 
 -- what is deeper is not counted
 direct-deeper : (d d′ : ℕ) (p : Parts) (ps : List Piece) → d < d′ → direct d (flat d′ p ps) ≡ direct d ps
 unfolding direct
 direct-deeper d d′ done ps h = refl
 direct-deeper d d′ (run t p) ps h = rw (ne-eqb d′ d (λ e. omega arith)) (omega (arith, direct-deeper d d′ p ps h))
-direct-deeper d d′ (bare e c i p) ps h = rw (ne-eqb d′ d (λ e. omega arith)) (omega (arith, direct-deeper d d′ p ps h))
-direct-deeper d d′ (full e c i q p) ps h = rw (ne-eqb d′ d (λ e. omega arith)) (omega (arith, direct-deeper d (suc d′) q (flat d′ p ps) (omega arith), direct-deeper d d′ p ps h))
+direct-deeper d d′ (bare e c i g p) ps h = rw (ne-eqb d′ d (λ e. omega arith)) (omega (arith, direct-deeper d d′ p ps h))
+direct-deeper d d′ (full e c i g q p) ps h = rw (ne-eqb d′ d (λ e. omega arith)) (omega (arith, direct-deeper d (suc d′) q (flat d′ p ps) (omega arith), direct-deeper d d′ p ps h))
 
 direct-flat : (d : ℕ) (p : Parts) (ps : List Piece) → direct d (flat d p ps) ≡ count p + direct d ps
 unfolding direct
 direct-flat d done ps = omega arith
 direct-flat d (run t p) ps = rw (eq-eqb d d refl) (omega (arith, direct-flat d p ps))
-direct-flat d (bare e c i p) ps = rw (eq-eqb d d refl) (omega (arith, direct-flat d p ps))
-direct-flat d (full e c i q p) ps = rw (eq-eqb d d refl) (omega (arith, direct-deeper d (suc d) q (flat d p ps) (omega arith), direct-flat d p ps))
+direct-flat d (bare e c i g p) ps = rw (eq-eqb d d refl) (omega (arith, direct-flat d p ps))
+direct-flat d (full e c i g q p) ps = rw (eq-eqb d d refl) (omega (arith, direct-deeper d (suc d) q (flat d p ps) (omega arith), direct-flat d p ps))
 
 -- what holds of each field's expression and conversion, and that fields lie at most two deep
 module _ (P : List ℕ → ℕ → Type 0) where
   abbrev pub All : ℕ → Parts → Type 0
   All d done = Unit {0}
   All d (run t p) = All d p
-  All d (bare e c i p) = (d ≤ 1) × P e c × All d p
-  All d (full e c i q p) = (d ≤ 1) × P e c × All (suc d) q × All d p
+  All d (bare e c i g p) = (d ≤ 1) × P e c × All d p
+  All d (full e c i g q p) = (d ≤ 1) × P e c × All (suc d) q × All d p
 
   all-chain : (d : ℕ) (p r : Parts) → All d p → All d r → All d (chain p r)
   all-chain d done r h k = k
   all-chain d (run t p) r h k = all-chain d p r h k
-  all-chain d (bare e c i p) r h k = (h .0, h .1, all-chain d p r (h .2) k)
-  all-chain d (full e c i q p) r h k = (h .0, h .1, h .2, all-chain d p r (h .3) k)
+  all-chain d (bare e c i g p) r h k = (h .0, h .1, all-chain d p r (h .2) k)
+  all-chain d (full e c i g q p) r h k = (h .0, h .1, h .2, all-chain d p r (h .3) k)
 
   -- pieces that are such a tree
   abbrev pub Tree : ℕ → List Piece → Type 0
@@ -122,7 +122,11 @@ deep-stops kind s depth i text e = rw (deep-case kind s depth i e, textMove)
 
 -- P of a field's expression and of its conversion, where it is finished
 abbrev pub Closes : (List ℕ → ℕ → Type 0) → Field → Type 0
-Closes P (state e b o c d w) = b ≡ false → (p : Option (List Piece)) → P e (conversionOf d c p)
+Closes P (state e b o c d w g) = b ≡ false → (p : Option (List Piece)) → P e (conversionOf d c p)
+
+closes-formatted : (P : List ℕ → ℕ → Type 0) (j : ℕ) (f : Field) → Closes P f → Closes P (formatted j f)
+unfolding formatted
+closes-formatted P j (state e b o c d w g) h = h
 
 -- an invariant of a field's state, `Inv`, that gives P there
 module _ (kind : ℕ) (s : List ℕ) (Inv : Field → Type 0) (P : List ℕ → ℕ → Type 0)
@@ -133,12 +137,12 @@ module _ (kind : ℕ) (s : List ℕ) (Inv : Field → Type 0) (P : List ℕ → 
   tree-documented depth true e w = (run (e ++ (61 ∷ [])) (run (replicate w 32) done), refl, tt)
   tree-documented depth false e w = (done, refl, tt)
 
-  tree-field : (depth : ℕ) (e : List ℕ) (c i : ℕ) (p : Option (List Piece)) → depth ≤ 1 → P e c
-      → TreeIn P (suc depth) p → Tree P depth (fieldPieces depth e c i p)
+  tree-field : (depth : ℕ) (e : List ℕ) (c i : ℕ) (g : Signs) (p : Option (List Piece)) → depth ≤ 1 → P e c
+      → TreeIn P (suc depth) p → Tree P depth (fieldPieces depth e c i g p)
   unfolding fieldPieces direct
-  tree-field depth e c i none l h k = (bare e c i done, refl, (l, h, tt))
-  tree-field depth e c i (some ps) l h (q, f, k) =
-      (full e c i q done, ap₂ (λ n l. field depth e c 1 i ∷ spec n ∷ l) (ap (direct (suc depth)) f ∙ direct-flat (suc depth) q [] ∙ none-left q) f, (l, h, k, tt))
+  tree-field depth e c i g none l h k = (bare e c i g done, refl, (l, h, tt))
+  tree-field depth e c i g (some ps) l h (q, f, k) =
+      (full e c i g q done, ap₂ (λ n l. field depth e c 1 i g ∷ spec n ∷ l) (ap (direct (suc depth)) f ∙ direct-flat (suc depth) q [] ∙ none-left q) f, (l, h, k, tt))
     where
       none-left : (q : Parts) → count q + direct (suc depth) [] ≡ count q
       none-left q = omega arith
@@ -146,11 +150,11 @@ module _ (kind : ℕ) (s : List ℕ) (Inv : Field → Type 0) (P : List ℕ → 
   finished-tree : (depth from j : ℕ) (f : Field) (p : Option (List Piece)) → depth ≤ 1 → Closes P f
       → TreeIn P (suc depth) p → TreeRead P depth (finished depth from j f p)
   unfolding finished
-  finished-tree depth from j (state e b o c d w) p l h k = go b refl
+  finished-tree depth from j (state e b o c d w g) p l h k = go b refl
     where
-      go : (x : Bool) → b ≡ x → TreeRead P depth (if x then refused (fault emptyExpression j) else got (selfDocumenting depth d e w ++ fieldPieces depth e (conversionOf d c p) from p) j)
+      go : (x : Bool) → b ≡ x → TreeRead P depth (if x then refused (fault emptyExpression j) else got (selfDocumenting depth d e w ++ fieldPieces depth e (conversionOf d c p) from (withClose j g) p) j)
       go true y = tt
-      go false y = tree-append P depth (selfDocumenting depth d e w) (fieldPieces depth e (conversionOf d c p) from p) (tree-documented depth d e w) (tree-field depth e (conversionOf d c p) from p l (h y p) k)
+      go false y = tree-append P depth (selfDocumenting depth d e w) (fieldPieces depth e (conversionOf d c p) from (withClose j g) p) (tree-documented depth d e w) (tree-field depth e (conversionOf d c p) from (withClose j g) p l (h y p) k)
 
   specified-tree : (depth from j : ℕ) (f : Field) (ps : List Piece) → depth ≤ 1 → Closes P f → Tree P (suc depth) ps → TreeRead P depth (specified s depth from j f ps)
   unfolding specified
@@ -195,7 +199,7 @@ module _ (kind : ℕ) (s : List ℕ) (Inv : Field → Type 0) (P : List ℕ → 
         Goal = TreeRead P depth (fieldN (suc n) kind s depth from i f)
 
         after : (r : Read (List Piece)) → specN n kind s depth (next s i) ≡ r → TreeRead P (suc depth) r → fieldMove s i f ≡ calls → Closes P f → Goal
-        after (got ps j) g k e c = rw (field-got n kind s depth from i f ps j e g) (specified-tree depth from j f ps l c k)
+        after (got ps j) g k e c = rw (field-got n kind s depth from i f ps j e g) (specified-tree depth from j (formatted (next s i) f) ps l (closes-formatted P (next s i) f c) k)
         after (refused x) g k e c = rw (field-refused n kind s depth from i f x e g) tt
 
         go : (x : Move Field) → fieldMove s i f ≡ x → Moved Inv (Closes P f) x → Goal

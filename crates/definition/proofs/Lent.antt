@@ -54,7 +54,7 @@ module _ (kind start end base : ℕ) where
       let x = itemOf kind start end base (literal zero t) in
       omega (arith, length-append (x .text) (texts (items ps)), ap length (top-text t), items-text ps)
   items-text (literal (suc d) t ∷ ps) = omega (arith, length-append t (texts (items ps)), items-text ps)
-  items-text (field d e c n i ∷ ps) = omega (arith, length-append e (texts (items ps)), items-text ps)
+  items-text (field d e c n i g ∷ ps) = omega (arith, length-append e (texts (items ps)), items-text ps)
   items-text (spec n ∷ ps) = items-text ps
 
 texts-append : (xs ys : List Item) → length (texts (xs ++ ys)) ≡ length (texts xs) + length (texts ys)

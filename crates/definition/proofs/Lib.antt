@@ -23,6 +23,9 @@ pub mod Room
 pub mod Tight
 pub mod Lent
 pub mod Shown
+pub mod SignLaws
+pub mod FieldRows
+pub mod RowsShown
 pub mod Grammar
 pub mod FieldState
 pub mod Runs

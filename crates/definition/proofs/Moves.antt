@@ -11,7 +11,7 @@ use borrow.Author.Tests.{leb-true, leb-false}
 use Rattle.definition.specs.Numbers.{isBytes, isRaw, ofBody, unicodeError, nameNotHeld, stringError, emptyExpression, unclosedLbrace, tooManyBrackets, mismatchedDelimiter, unmatched, unterminatedString, tooFewRecordPlaces, afterBang, lastBrace}
 use Rattle.definition.specs.Chars.{if_then_else_, _is_, part, noCode, atEnd, inside, _to_, code, next, char, utf8, before}
 use Rattle.definition.specs.Escapes.{Fault, fault, Read, got, refused, Meaning, stands, stays, vanishes, octalDigit, octalFrom, hexDigit, scalar, hexFrom, held, lookup, named, unicodeName, EscapeCase, ended, simple, octal, hex, name, newline, foreign, other, escapeCase, escape, encode, meant}
-use Rattle.definition.specs.Body.{Piece, literal, field, spec, Bracket, wrong, Move, goes, stops, calls, ends, withEscape, StringCase, stringCase, stringMove, TextCase, deep, opens, last, doubled, lone, textCase, textMove, Field, state, isBlank, add, documented, spaced, FieldCase, pair, converts, documents, formats, opener, closes, closer, quote, space, backslash, stray, outside, fieldCase, caseOf, conversionMove, openMove, matching, closeMove, quoteMove, fieldMove, filled, finished, specified, selfDocumenting, fieldPieces, conversionOf}
+use Rattle.definition.specs.Body.{Signs, Piece, literal, field, spec, Bracket, wrong, Move, goes, stops, calls, ends, withEscape, StringCase, stringCase, stringMove, TextCase, deep, opens, last, doubled, lone, textCase, textMove, Field, state, withEquals, withClose, isBlank, add, documented, formatted, spaced, FieldCase, pair, converts, documents, formats, opener, closes, closer, quote, space, backslash, stray, outside, fieldCase, caseOf, conversionMove, openMove, matching, closeMove, quoteMove, fieldMove, filled, finished, specified, selfDocumenting, fieldPieces, conversionOf}
 use Rattle.definition.proofs.CharLaws.{next-past, next-in, next-from}
 use Rattle.definition.proofs.Adds.{sees-char, adds-pair, closing, adds-quoted}
 use Rattle.definition.proofs.Cases.{Tells, told}
@@ -54,7 +54,7 @@ textSize text = length text + length text
 abbrev pub weight : List Piece → ℕ
 weight [] = 0
 weight (literal d t ∷ ps) = 1 + length t + weight ps
-weight (field d e c n i ∷ ps) = 1 + length e + weight ps
+weight (field d e c n i g ∷ ps) = 1 + length e + weight ps
 weight (spec n ∷ ps) = 1 + weight ps
 
 -- a move at i from a state of size w with the brackets o open: past i, with at most four more for each byte; C is what holds where it calls, and E
@@ -286,23 +286,23 @@ text-ahead kind s depth i text l = at-end (atEnd s i) refl
 -- A FIELD, which ends at its `}`
 -- the brackets that are open
 abbrev pub bracketsOf : Field → List Bracket
-bracketsOf (state e b o c d w) = o
+bracketsOf (state e b o c d w g) = o
 
 field-at-end : (s : List ℕ) (i : ℕ) (f : Field) → atEnd s i ≡ true → caseOf s i f ≡ FieldCase.over
 unfolding caseOf fieldCase
-field-at-end s i (state e b o c d w) h = rw h
+field-at-end s i (state e b o c d w g) h = rw h
 
 -- the size of a field's state: the expression, the spaces and the `=`, four times, so that each byte adds one
 abbrev pub fieldSize : Field → ℕ
-fieldSize (state e b o c d w) = 4 * (length e + w + (if d then 1 else 0))
+fieldSize (state e b o c d w g) = 4 * (length e + w + (if d then 1 else 0))
 
 add-size : (t : List ℕ) (b : Bool) (f : Field) → fieldSize (add t b f) ≡ fieldSize f + 4 * length t
 unfolding add
-add-size t b′ (state e b o c d w) = omega (arith, length-append e t)
+add-size t b′ (state e b o c d w g) = omega (arith, length-append e t)
 
 add-open : (t : List ℕ) (b : Bool) (f : Field) → bracketsOf (add t b f) ≡ bracketsOf f
 unfolding add
-add-open t b′ (state e b o c d w) = refl
+add-open t b′ (state e b o c d w g) = refl
 
 -- outside brackets none is open
 pub none-open : (o : List Bracket) → outside o ≡ true → o ≡ []
@@ -330,18 +330,18 @@ module _ (s : List ℕ) (i : ℕ) (h : i < length s) where
           let c : closing s i < length s = inner-in s (closing s i) e in
           with-part f (closing s i + 1) false (omega (arith, next-from s i), omega arith) (λ o. adds-quoted s i p c o .sees)
 
-  module _ (e : List ℕ) (b : Bool) (o : List Bracket) (c : ℕ) (d : Bool) (w : ℕ) where
+  module _ (e : List ℕ) (b : Bool) (o : List Bracket) (c : ℕ) (d : Bool) (w : ℕ) (g : Signs) where
     abbrev Goes : Move Field → Type 0
-    Goes = FieldAhead s i (state e b o c d w)
+    Goes = FieldAhead s i (state e b o c d w g)
 
-    conversion-ahead : outside o ≡ true → Goes (conversionMove s i (state e b o c d w))
+    conversion-ahead : outside o ≡ true → Goes (conversionMove s i (state e b o c d w g))
     unfolding conversionMove
     conversion-ahead out = go b refl (atEnd s a) refl (not (code s a is "sar")) refl (code s (next s a) is "}:") refl
       where
         a : ℕ
         a = next s i
 
-        go : (x : Bool) → b ≡ x → (y : Bool) → atEnd s a ≡ y → (z : Bool) → not (code s a is "sar") ≡ z → (t : Bool) → (code s (next s a) is "}:") ≡ t → Goes (conversionMove s i (state e b o c d w))
+        go : (x : Bool) → b ≡ x → (y : Bool) → atEnd s a ≡ y → (z : Bool) → not (code s a is "sar") ≡ z → (t : Bool) → (code s (next s a) is "}:") ≡ t → Goes (conversionMove s i (state e b o c d w g))
         go true p y q z r t u = rw p (λ q. (tt, refl), on-by-one s i h .1)
         go false p true q z r t u = rw (p, q) (λ q. (tt, refl), on-by-one s i h .1)
         go false p false q true r t u = rw (p, q, r) (λ q. (tt, refl), on-by-two s i h .1)
@@ -349,74 +349,74 @@ module _ (s : List ℕ) (i : ℕ) (h : i < length s) where
         go false p false q false r false u = rw (p, q, r, u) (λ q. (tt, refl), on-by-two s i h .1)
 
     -- a bracket goes into the expression
-    with-bracket : (o′ : List Bracket) → (Open s i o → Open s (next s i) o′) → Goes (goes (next s i) (state (e ++ char s i) false o′ c d w))
+    with-bracket : (o′ : List Bracket) → (Open s i o → Open s (next s i) o′) → Goes (goes (next s i) (state (e ++ char s i) false o′ c d w g))
     with-bracket o′ t = let k = on-by-one s i h in (k .0, k .1, omega (arith, char-short s i e), t)
 
-    open-ahead : (code s i is "([{") ≡ true → Goes (openMove s i (state e b o c d w))
+    open-ahead : (code s i is "([{") ≡ true → Goes (openMove s i (state e b o c d w g))
     unfolding openMove
     open-ahead p = go (ltb (length o) 64)
       where
         more : List Bracket
         more = record { bracket = code s i; taken = next s i } ∷ o
 
-        go : (x : Bool) → Goes (if x then goes (next s i) (state (e ++ char s i) false more c d w) else stops (fault tooManyBrackets (next s i)))
+        go : (x : Bool) → Goes (if x then goes (next s i) (state (e ++ char s i) false more c d w g) else stops (fault tooManyBrackets (next s i)))
         go true = with-bracket more (open-more s i o p)
         go false = (λ q. (tt, refl), on-by-one s i h .1)
 
     -- the state goes on as it is, but for its `=` or its spaces
-    skipping : (d′ : Bool) (w′ : ℕ) → fieldSize (state e b o c d′ w′) ≤ fieldSize (state e b o c d w) + 4 → (Open s i o → Open s (next s i) o) → Goes (goes (next s i) (state e b o c d′ w′))
-    skipping d′ w′ l t = let k = on-by-one s i h in (k .0, k .1, omega arith, t)
+    skipping : (d′ : Bool) (w′ : ℕ) (g′ : Signs) → fieldSize (state e b o c d′ w′ g′) ≤ fieldSize (state e b o c d w g) + 4 → (Open s i o → Open s (next s i) o) → Goes (goes (next s i) (state e b o c d′ w′ g′))
+    skipping d′ w′ g′ l t = let k = on-by-one s i h in (k .0, k .1, omega arith, t)
 
-  close-ahead : (e : List ℕ) (b : Bool) (o : List Bracket) (c : ℕ) (d : Bool) (w : ℕ) → (code s i is ")]}") ≡ true → Goes e b o c d w (closeMove s i (state e b o c d w))
+  close-ahead : (e : List ℕ) (b : Bool) (o : List Bracket) (c : ℕ) (d : Bool) (w : ℕ) (g : Signs) → (code s i is ")]}") ≡ true → Goes e b o c d w g (closeMove s i (state e b o c d w g))
   unfolding closeMove
-  close-ahead e b [] c d w p = (λ q. (rw p tt, refl), on-by-one s i h .1)
-  close-ahead e b (x ∷ o) c d w p = go (matching (x .bracket) (code s i)) refl
+  close-ahead e b [] c d w g p = (λ q. (rw p tt, refl), on-by-one s i h .1)
+  close-ahead e b (x ∷ o) c d w g p = go (matching (x .bracket) (code s i)) refl
     where
-      go : (t : Bool) → matching (x .bracket) (code s i) ≡ t → Goes e b (x ∷ o) c d w (if t then goes (next s i) (state (e ++ char s i) false o c d w) else stops (wrong (next s i) x (code s i)))
-      go true m = with-bracket e b (x ∷ o) c d w o (open-less s i x o p m)
+      go : (t : Bool) → matching (x .bracket) (code s i) ≡ t → Goes e b (x ∷ o) c d w g (if t then goes (next s i) (state (e ++ char s i) false o c d w g) else stops (wrong (next s i) x (code s i)))
+      go true m = with-bracket e b (x ∷ o) c d w g o (open-less s i x o p m)
       go false m = (λ q. (rw (q .0 .opens, p) tt, closes-wrong s i x (q .0) p m), on-by-one s i h .1)
 
   -- by the case of the character
-  case-ahead : (e : List ℕ) (b : Bool) (o : List Bracket) (c : ℕ) (d : Bool) (w : ℕ) → Goes e b o c d w (fieldMove s i (state e b o c d w))
+  case-ahead : (e : List ℕ) (b : Bool) (o : List Bracket) (c : ℕ) (d : Bool) (w : ℕ) (g : Signs) → Goes e b o c d w g (fieldMove s i (state e b o c d w g))
   unfolding fieldMove caseOf char documented spaced
-  case-ahead e b o c d w = go (fieldCase s i (outside o) d) refl
+  case-ahead e b o c d w g = go (fieldCase s i (outside o) d) refl
     where
       f : Field
-      f = state e b o c d w
+      f = state e b o c d w g
 
       tells : (x : FieldCase) → fieldCase s i (outside o) d ≡ x → Tells s i (outside o) x
       tells = told s i (outside o) d
 
-      go : (x : FieldCase) → fieldCase s i (outside o) d ≡ x → Goes e b o c d w (fieldMove s i f)
+      go : (x : FieldCase) → fieldCase s i (outside o) d ≡ x → Goes e b o c d w g (fieldMove s i f)
       go FieldCase.over q = rw (q, fieldMove) (λ q. (tt, refl), omega arith)
       go pair q = let t = tells pair q in rw (q, fieldMove) (with-part f (next s (next s i)) false (on-by-two s i h) (λ o. adds-pair s i (t .0) (t .1) o .sees))
-      go converts q = rw (q, fieldMove) (conversion-ahead e b o c d w (tells converts q))
-      go documents q = rw (q, fieldMove) (skipping e b o c d w true w (omega arith) (λ r. rw (none-open o (tells documents q)) tt))
+      go converts q = rw (q, fieldMove) (conversion-ahead e b o c d w g (tells converts q .0))
+      go documents q = rw (q, fieldMove) (skipping e b o c d w g true w (withEquals (next s i) g) (omega arith) (λ r. rw (none-open o (tells documents q .0)) tt))
       go formats q = rw (q, fieldMove) h
-      go opener q = rw (q, fieldMove) (open-ahead e b o c d w (tells opener q))
+      go opener q = rw (q, fieldMove) (open-ahead e b o c d w g (tells opener q))
       go closes q = rw (q, fieldMove) h
-      go closer q = rw (q, fieldMove) (close-ahead e b o c d w (tells closer q))
+      go closer q = rw (q, fieldMove) (close-ahead e b o c d w g (tells closer q))
       go quote q = rw (q, fieldMove) (quote-ahead f (tells quote q))
       go space q =
           rw (q, fieldMove)
-          (skipping e b o c d w d (suc w) (omega arith) (open-on s i (next s i) o (next-from s i) (λ o. sees-char s i h (rw (tells space q) (refl, refl, refl, refl)) o)))
+          (skipping e b o c d w g d (suc w) g (omega arith) (open-on s i (next s i) o (next-from s i) (λ o. sees-char s i h (rw (tells space q) (refl, refl, refl, refl)) o)))
       go backslash q = rw (q, fieldMove) (λ q. (tt, refl), on-by-one s i h .1)
       go stray q = rw (q, fieldMove) (λ q. (tt, refl), on-by-one s i h .1)
       go FieldCase.plain q = rw (q, fieldMove) (with-part f (next s i) (isBlank (code s i)) (on-by-one s i h) (λ o. sees-char s i h (tells FieldCase.plain q .1) o))
 
 pub field-ahead : (s : List ℕ) (i : ℕ) (f : Field) → i ≤ length s → FieldAhead s i f (fieldMove s i f)
 unfolding fieldMove
-field-ahead s i (state e b o c d w) l = go (atEnd s i) refl
+field-ahead s i (state e b o c d w g) l = go (atEnd s i) refl
   where
-    go : (t : Bool) → atEnd s i ≡ t → FieldAhead s i (state e b o c d w) (fieldMove s i (state e b o c d w))
-    go true p = rw (field-at-end s i (state e b o c d w) p, fieldMove) (λ q. (tt, refl), l)
-    go false p = case-ahead s i (inner-in s i p) e b o c d w
+    go : (t : Bool) → atEnd s i ≡ t → FieldAhead s i (state e b o c d w g) (fieldMove s i (state e b o c d w g))
+    go true p = rw (field-at-end s i (state e b o c d w g) p, fieldMove) (λ q. (tt, refl), l)
+    go false p = case-ahead s i (inner-in s i p) e b o c d w g
 
 pub finished-sound : (o : List Bracket) (s : List ℕ) (depth from i j : ℕ) (f : Field) (p : Option (List Piece)) → i ≤ j → j ≤ length s → SoundIn o s i (finished depth from j f p)
 unfolding finished
-finished-sound o′ s depth from i j (state e b o c d w) p h k = go b
+finished-sound o′ s depth from i j (state e b o c d w g) p h k = go b
   where
-    go : (x : Bool) → SoundIn o′ s i (if x then refused (fault emptyExpression j) else got (selfDocumenting depth d e w ++ fieldPieces depth e (conversionOf d c p) from p) j)
+    go : (x : Bool) → SoundIn o′ s i (if x then refused (fault emptyExpression j) else got (selfDocumenting depth d e w ++ fieldPieces depth e (conversionOf d c p) from (withClose j g) p) j)
     go true = (λ q. (tt, refl), k)
     go false = (h, k)
 
@@ -436,7 +436,7 @@ Light size w i (refused x) = Unit {0}
 pub weight-append : (ps qs : List Piece) → weight (ps ++ qs) ≡ weight ps + weight qs
 weight-append [] qs = omega arith
 weight-append (literal d t ∷ ps) qs = omega (arith, weight-append ps qs)
-weight-append (field d e c n i ∷ ps) qs = omega (arith, weight-append ps qs)
+weight-append (field d e c n i g ∷ ps) qs = omega (arith, weight-append ps qs)
 weight-append (spec n ∷ ps) qs = omega (arith, weight-append ps qs)
 
 pub filled-light : (depth : ℕ) (text : List ℕ) → weight (filled depth text) ≤ textSize text
@@ -449,20 +449,24 @@ abbrev specWeight : Option (List Piece) → ℕ
 specWeight none = 0
 specWeight (some ps) = weight ps
 
+pub formatted-size : (j : ℕ) (f : Field) → fieldSize (formatted j f) ≡ fieldSize f
+unfolding formatted
+formatted-size j (state e b o c d w g) = refl
+
 pub finished-light : (depth from i j : ℕ) (f : Field) (p : Option (List Piece)) → i < j → Light weight (fieldSize f + specWeight p) i (finished depth from j f p)
 unfolding finished selfDocumenting fieldPieces
-finished-light depth from i j (state e b o c d w) p h = go b
+finished-light depth from i j (state e b o c d w g) p h = go b
   where
     c′ : ℕ
     c′ = conversionOf d c p
 
-    pieces : (d : Bool) (p : Option (List Piece)) → weight (selfDocumenting depth d e w ++ fieldPieces depth e c′ from p) + 4 * i ≤ 4 * (length e + w + (if d then 1 else 0)) + specWeight p + 4 * j
+    pieces : (d : Bool) (p : Option (List Piece)) → weight (selfDocumenting depth d e w ++ fieldPieces depth e c′ from (withClose j g) p) + 4 * i ≤ 4 * (length e + w + (if d then 1 else 0)) + specWeight p + 4 * j
     pieces true none = omega (arith, length-append e (61 ∷ []), length-replicate {A = ℕ} w 32)
     pieces true (some ps) = omega (arith, length-append e (61 ∷ []), length-replicate {A = ℕ} w 32)
     pieces false none = omega arith
     pieces false (some ps) = omega arith
 
-    go : (x : Bool) → Light weight (fieldSize (state e b o c d w) + specWeight p) i (if x then refused (fault emptyExpression j) else got (selfDocumenting depth d e w ++ fieldPieces depth e c′ from p) j)
+    go : (x : Bool) → Light weight (fieldSize (state e b o c d w g) + specWeight p) i (if x then refused (fault emptyExpression j) else got (selfDocumenting depth d e w ++ fieldPieces depth e c′ from (withClose j g) p) j)
     go true = tt
     go false = pieces d p
 

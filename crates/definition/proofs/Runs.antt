@@ -9,7 +9,7 @@ use lib.ListN.{length}
 use borrow.Author.Tests.{eq-eqb, ne-eqb}
 use Rattle.definition.specs.Numbers.{isBytes}
 use Rattle.definition.specs.Chars.{if_then_else_}
-use Rattle.definition.specs.Body.{Piece, literal, field, spec}
+use Rattle.definition.specs.Body.{Signs, Piece, literal, field, spec}
 use Rattle.definition.specs.Records.{Role, top, raw, inner, touching, Item, item, itemOf, glue, merge, bothItems, merged}
 use Rattle.definition.specs.Words.{owing, roleAt, isConversion, fits, hasSpec, within}
 use Rattle.definition.proofs.Seam.{glue-true, glue-false}
@@ -100,9 +100,9 @@ module _ (kind start end base : ℕ) where
     had = λ e. absurd (omega arith);
   }
 
-  field-fit : (ns : List ℕ) (s e d : ℕ) (x : List ℕ) (c n i : ℕ) → length ns ≤ 2 → Had x c → leb n 1 ≡ true → Ranged (owe ns) s e start end → Inner false ns s e (I (field d x c n i))
+  field-fit : (ns : List ℕ) (s e d : ℕ) (x : List ℕ) (c n i : ℕ) (g : Signs) → length ns ≤ 2 → Had x c → leb n 1 ≡ true → Ranged (owe ns) s e start end → Inner false ns s e (I (field d x c n i g))
   unfolding itemOf item roleAt
-  field-fit ns s e d x c n i m h l r = record {
+  field-fit ns s e d x c n i g m h l r = record {
     placed = refl;
     formed = field-fits (length x) c n (base + i) (h .converted) l;
     is-due = refl;
@@ -122,10 +122,10 @@ module _ (kind start end base : ℕ) where
   unfolding itemOf item within
   run-deep d done ns ps h l r = r
   run-deep d (run t p) ns ps h l r = (part-fit d t (count p) ns, run-deep d p ns ps h l r)
-  run-deep d (bare e c i p) ns ps h l r =
-      (field-fit (count p ∷ ns) start end (suc d) e c 0 i (omega (arith, h .0, l)) (h .1) refl (same-range (owe (count p ∷ ns)) start end), run-deep d p ns ps (h .2) l r)
-  run-deep d (full e c i q p) ns ps h l r = (
-    field-fit (count p ∷ ns) start end (suc d) e c 1 i (omega (arith, h .0, l)) (h .1) refl (same-range (owe (count p ∷ ns)) start end),
+  run-deep d (bare e c i g p) ns ps h l r =
+      (field-fit (count p ∷ ns) start end (suc d) e c 0 i g (omega (arith, h .0, l)) (h .1) refl (same-range (owe (count p ∷ ns)) start end), run-deep d p ns ps (h .2) l r)
+  run-deep d (full e c i g q p) ns ps h l r = (
+    field-fit (count p ∷ ns) start end (suc d) e c 1 i g (omega (arith, h .0, l)) (h .1) refl (same-range (owe (count p ∷ ns)) start end),
     (
       spec-fit (0 ∷ count p ∷ ns) (count q),
       run-deep (suc d) q (0 ∷ count p ∷ ns) (flat (suc d) p ps) (h .2) (omega (arith, l)) (run-deep d p ns ps (h .3) l r),
@@ -136,10 +136,10 @@ module _ (kind start end base : ℕ) where
   unfolding itemOf item within
   run-top b s e done ps h r = r
   run-top b s e (run t p) ps h r = rw b ((refl, refl, refl, refl, refl), run-top b start end p ps h (run-zero false s e start end (map I ps) r))
-  run-top b s e (bare x c i p) ps h r =
-      (field-fit [] s e 0 x c 0 i (omega arith) (h .1) refl refl, run-top b start end p ps (h .2) (run-zero false s e start end (map I ps) r))
-  run-top b s e (full x c i q p) ps h r = (
-    field-fit [] s e 0 x c 1 i (omega arith) (h .1) refl refl,
+  run-top b s e (bare x c i g p) ps h r =
+      (field-fit [] s e 0 x c 0 i g (omega arith) (h .1) refl refl, run-top b start end p ps (h .2) (run-zero false s e start end (map I ps) r))
+  run-top b s e (full x c i g q p) ps h r = (
+    field-fit [] s e 0 x c 1 i g (omega arith) (h .1) refl refl,
     (
       spec-fit (0 ∷ []) (count q),
       run-deep 0 q (0 ∷ []) (flat 0 p ps) (h .2) (omega arith) (run-top b start end p ps (h .3) (run-zero false s e start end (map I ps) r)),

@@ -5,7 +5,7 @@ use mathlib.Core.Path.{_≡_, refl}
 use mathlib.Core.List.{List, [], _∷_, _++_, map}
 use Rattle.definition.specs.Numbers.{prefix}
 use Rattle.definition.specs.Chars.{ascii, insideAny, table37, following, follow, width, decoded, code, next, char, formedFrom, wellFormed, whiteSpace, before}
-use Rattle.definition.specs.Body.{textCase, textMove, filled, fresh, add, outside, fieldCase, caseOf, conversionMove, fieldMove, direct, conversionOf, fieldPieces, selfDocumenting, finished, specified, plainRun, textN, readBody}
+use Rattle.definition.specs.Body.{textCase, textMove, filled, withBang, withColon, withClose, fresh, add, formatted, outside, fieldCase, caseOf, conversionMove, fieldMove, direct, conversionOf, fieldPieces, selfDocumenting, finished, specified, plainRun, textN, readBody}
 use Rattle.definition.specs.Records.{touching, covers, item, itemOf, glue, merge, bothItems, merged, texts, recordAt, laid, cover, answerOf}
 use Rattle.definition.specs.Entry.{opening, placeOf, body, refusal, moved, notEmpty, notMany, firstBad, bad, allGood, total, notLong, formed, illFormed, allUtf8, anyOf, firstStart, notMixed, firstOf, entry}
 use Rattle.definition.specs.Reading.{refusalIn, readLiteral, andThen, readFrom, sortOf, uMark, lastEnd, allChars, answered, read}
@@ -39,5 +39,5 @@ shown =
     ∷ []
 
 pub shown-written : map (λ r. bodyLines (ascii (r .body))) shown ≡ map (λ r. written (r .lines)) shown
-unfolding shown prefix ascii insideAny table37 following follow width decoded code next char formedFrom wellFormed whiteSpace before textCase textMove filled fresh add outside fieldCase caseOf conversionMove fieldMove direct conversionOf fieldPieces selfDocumenting finished specified plainRun textN readBody touching covers item itemOf glue merge bothItems merged texts recordAt laid cover answerOf opening placeOf body refusal moved notEmpty notMany firstBad bad allGood total notLong formed illFormed allUtf8 anyOf firstStart notMixed firstOf entry refusalIn readLiteral andThen readFrom sortOf uMark lastEnd allChars answered read decimalN decimal escaped escapedText literalLine fieldLine specLine refusalLine lineOf recordLine recordLines outcomeLines bodyLines
+unfolding shown prefix ascii insideAny table37 following follow width decoded code next char formedFrom wellFormed whiteSpace before textCase textMove filled withBang withColon withClose fresh add formatted outside fieldCase caseOf conversionMove fieldMove direct conversionOf fieldPieces selfDocumenting finished specified plainRun textN readBody touching covers item itemOf glue merge bothItems merged texts recordAt laid cover answerOf opening placeOf body refusal moved notEmpty notMany firstBad bad allGood total notLong formed illFormed allUtf8 anyOf firstStart notMixed firstOf entry refusalIn readLiteral andThen readFrom sortOf uMark lastEnd allChars answered read decimalN decimal escaped escapedText literalLine fieldLine specLine refusalLine lineOf recordLine recordLines outcomeLines bodyLines
 shown-written = refl

@@ -9,7 +9,7 @@ use Rattle.definition.specs.Numbers.{prefix}
 use Rattle.definition.specs.Chars.{ascii, insideAny, table37, following, follow, width, decoded, code, next, char, formedFrom, wellFormed, utf8, whiteSpace, before, same}
 use Rattle.definition.specs.Counts.{more, countFrom, counted}
 use Rattle.definition.specs.Escapes.{octalDigit, octalFrom, hexDigit, scalar, hexFrom, lookup, named, unicodeName, escapeCase, escape, encode, meant}
-use Rattle.definition.specs.Body.{withEscape, stringCase, stringMove, stringN, textCase, textMove, filled, fresh, add, documented, spaced, outside, fieldCase, caseOf, conversionMove, openMove, closeMove, quoteMove, fieldMove, direct, conversionOf, fieldPieces, selfDocumenting, finished, specified, plainRun, textN, alone, readBody}
+use Rattle.definition.specs.Body.{withEscape, stringCase, stringMove, stringN, textCase, textMove, filled, withEquals, withBang, withColon, withClose, fresh, add, documented, spaced, formatted, outside, fieldCase, caseOf, conversionMove, openMove, closeMove, quoteMove, fieldMove, direct, conversionOf, fieldPieces, selfDocumenting, finished, specified, plainRun, textN, alone, readBody}
 use Rattle.definition.specs.Records.{Role, top, raw, inner, touching, covers, Record, item, itemOf, glue, merge, bothItems, merged, texts, recordAt, laid, cover, Sort, plain, joined, bytesOnly, Answer, answerOf}
 use Rattle.definition.specs.Entry.{Literal, opening, placeOf, body, refusal, moved, notEmpty, notMany, firstBad, bad, allGood, total, notLong, formed, illFormed, allUtf8, anyOf, firstStart, notMixed, firstOf, entry}
 use Rattle.definition.specs.Reading.{Outcome, accepts, refuses, openedAt, refusalIn, readLiteral, andThen, readFrom, sortOf, uMark, lastEnd, allChars, answered, read}
@@ -107,7 +107,7 @@ abbrev pub Given : List Row → Type 0
 Given rows = map (λ r. r .reading) rows ≡ map (λ r. r .is) rows
 
 computed : Given starred × Given unclosed × Given openers × Given counts
-unfolding starred unclosed openers counts prefix ascii insideAny table37 following follow width decoded code next char formedFrom wellFormed utf8 whiteSpace before same more countFrom counted octalDigit octalFrom hexDigit scalar hexFrom lookup named unicodeName escapeCase escape encode meant withEscape stringCase stringMove stringN textCase textMove filled fresh add documented spaced outside fieldCase caseOf conversionMove openMove closeMove quoteMove fieldMove direct conversionOf fieldPieces selfDocumenting finished specified plainRun textN alone readBody touching covers item itemOf glue merge bothItems merged texts recordAt laid cover answerOf opening placeOf body refusal moved notEmpty notMany firstBad bad allGood total notLong formed illFormed allUtf8 anyOf firstStart notMixed firstOf entry openedAt refusalIn readLiteral andThen readFrom sortOf uMark lastEnd allChars answered read
+unfolding starred unclosed openers counts prefix ascii insideAny table37 following follow width decoded code next char formedFrom wellFormed utf8 whiteSpace before same more countFrom counted octalDigit octalFrom hexDigit scalar hexFrom lookup named unicodeName escapeCase escape encode meant withEscape stringCase stringMove stringN textCase textMove filled withEquals withBang withColon withClose fresh add documented spaced formatted outside fieldCase caseOf conversionMove openMove closeMove quoteMove fieldMove direct conversionOf fieldPieces selfDocumenting finished specified plainRun textN alone readBody touching covers item itemOf glue merge bothItems merged texts recordAt laid cover answerOf opening placeOf body refusal moved notEmpty notMany firstBad bad allGood total notLong formed illFormed allUtf8 anyOf firstStart notMixed firstOf entry openedAt refusalIn readLiteral andThen readFrom sortOf uMark lastEnd allChars answered read
 computed = (refl, refl, refl, refl)
 
 pub starred-read : Given starred

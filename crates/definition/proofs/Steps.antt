@@ -6,7 +6,7 @@ use Prim.Native.Nat.{ℕ, suc}
 use mathlib.Core.Option.{none}
 use Rattle.definition.specs.Chars.{_is_, part, code, next}
 use Rattle.definition.specs.Escapes.{Fault, got, refused}
-use Rattle.definition.specs.Body.{Piece, goes, stops, calls, ends, stringMove, stringN, filled, Field, fresh, textMove, fieldMove, finished, specified, firstEnd, textN, fieldN, specN}
+use Rattle.definition.specs.Body.{Piece, goes, stops, calls, ends, stringMove, stringN, filled, Field, formatted, fresh, textMove, fieldMove, finished, specified, firstEnd, textN, fieldN, specN}
 
 module _ (n kind : ℕ) (s : List ℕ) (i : ℕ) (text : List ℕ) where
   pub string-goes : (j : ℕ) (text′ : List ℕ) → stringMove kind s i text ≡ goes j text′ → stringN (suc n) kind s i text ≡ stringN n kind s j text′
@@ -58,7 +58,7 @@ module _ (n kind : ℕ) (s : List ℕ) (depth from i : ℕ) (f : Field) where
   field-ends e = rw (e, fieldN)
 
   pub field-got : (ps : List Piece) (j : ℕ) → fieldMove s i f ≡ calls → specN n kind s depth (next s i) ≡ got ps j
-      → fieldN (suc n) kind s depth from i f ≡ specified s depth from j f ps
+      → fieldN (suc n) kind s depth from i f ≡ specified s depth from j (formatted (next s i) f) ps
   unfolding fieldN
   field-got ps j e g = rw (e, g, fieldN)
 

@@ -10,7 +10,7 @@ use lib.ListN.{length, length-append, length-replicate}
 use Rattle.definition.specs.Numbers.{isFString}
 use Rattle.definition.specs.Chars.{if_then_else_, _is_, part, atEnd, code, next}
 use Rattle.definition.specs.Escapes.{Read, got, refused}
-use Rattle.definition.specs.Body.{Piece, literal, field, spec, Move, goes, stops, calls, ends, stringMove, stringN, filled, Field, state, fresh, textMove, fieldMove, conversionOf, fieldPieces, selfDocumenting, finished, specified, firstEnd, textN, fieldN, specN, enough, alone, readBody}
+use Rattle.definition.specs.Body.{Piece, literal, field, spec, Move, goes, stops, calls, ends, stringMove, stringN, filled, Field, state, withClose, formatted, fresh, textMove, fieldMove, conversionOf, fieldPieces, selfDocumenting, finished, specified, firstEnd, textN, fieldN, specN, enough, alone, readBody}
 use Rattle.definition.proofs.CharLaws.{next-past, next-in}
 use Rattle.definition.proofs.Moves.{textSize, Ahead, part-short, string-ahead, text-ahead, fieldSize, FieldAhead, field-ahead}
 use Rattle.definition.proofs.Steps.{string-goes, string-stops, string-ends, text-goes, text-stops, text-ends, text-got, text-refused, field-goes, field-stops, field-ends, field-got, field-refused, firstPiece, spec-calls, spec-ends}
@@ -20,7 +20,7 @@ use Rattle.definition.proofs.Fuel.{first-in}
 abbrev pub bytes : List Piece → ℕ
 bytes [] = 0
 bytes (literal d t ∷ ps) = length t + bytes ps
-bytes (field d e c n i ∷ ps) = length e + bytes ps
+bytes (field d e c n i g ∷ ps) = length e + bytes ps
 bytes (spec n ∷ ps) = bytes ps
 
 -- a reading from i on with n records and t text bytes written or pending: at most one record and two text bytes more for each byte it takes
@@ -36,7 +36,7 @@ tighter n n′ t t′ s i j (refused x) h p q r = tt
 bytes-append : (ps qs : List Piece) → bytes (ps ++ qs) ≡ bytes ps + bytes qs
 bytes-append [] qs = omega arith
 bytes-append (literal d t ∷ ps) qs = omega (arith, bytes-append ps qs)
-bytes-append (field d e c n i ∷ ps) qs = omega (arith, bytes-append ps qs)
+bytes-append (field d e c n i g ∷ ps) qs = omega (arith, bytes-append ps qs)
 bytes-append (spec n ∷ ps) qs = omega (arith, bytes-append ps qs)
 
 -- pending text is one record, if there is any
@@ -55,17 +55,25 @@ filled-tight depth (b ∷ text) = (refl, omega arith)
 
 -- a self-documenting `=` is pending as one record, a field's `{` pays for another; each byte of the expression may be written twice
 abbrev marked : Field → ℕ
-marked (state e b o c d w) = if d then 1 else 0
+marked (state e b o c d w g) = if d then 1 else 0
 
 marked-most : (f : Field) → marked f ≤ 1
-marked-most (state e b o c true w) = omega arith
-marked-most (state e b o c false w) = omega arith
+marked-most (state e b o c true w g) = omega arith
+marked-most (state e b o c false w g) = omega arith
 
 abbrev doubled : Field → ℕ
-doubled (state e b o c d w) = 2 * (length e + w + (if d then 1 else 0))
+doubled (state e b o c d w g) = 2 * (length e + w + (if d then 1 else 0))
 
 doubled-on : (f f′ : Field) (i j : ℕ) → fieldSize f′ + 4 * i ≤ fieldSize f + 4 * j → doubled f′ + 2 * i ≤ doubled f + 2 * j
-doubled-on (state e b o c d w) (state e′ b′ o′ c′ d′ w′) i j h = omega arith
+doubled-on (state e b o c d w g) (state e′ b′ o′ c′ d′ w′ g′) i j h = omega arith
+
+formatted-marked : (j : ℕ) (f : Field) → marked (formatted j f) ≡ marked f
+unfolding formatted
+formatted-marked j (state e b o c d w g) = refl
+
+formatted-doubled : (j : ℕ) (f : Field) → doubled (formatted j f) ≡ doubled f
+unfolding formatted
+formatted-doubled j (state e b o c d w g) = refl
 
 -- the records and the text bytes of a spec, with its own record
 abbrev specRecords : Option (List Piece) → ℕ
@@ -79,7 +87,7 @@ specBytes (some ps) = bytes ps
 finished-tight : (s : List ℕ) (depth from i j : ℕ) (f : Field) (p : Option (List Piece)) → i < j → j ≤ length s
     → Tight (marked f + 1 + specRecords p) (doubled f + specBytes p) s i (finished depth from j f p)
 unfolding finished selfDocumenting fieldPieces
-finished-tight s depth from i j (state e b o c d w) p h k = go b refl
+finished-tight s depth from i j (state e b o c d w g) p h k = go b refl
   where
     c′ : ℕ
     c′ = conversionOf d c p
@@ -88,8 +96,8 @@ finished-tight s depth from i j (state e b o c d w) p h k = go b refl
     Fits d p =
         (i ≤ j)
         × (j ≤ length s)
-        × (length (selfDocumenting depth d e w ++ fieldPieces depth e c′ from p) + i ≤ (if d then 1 else 0) + 1 + specRecords p + j)
-        × (bytes (selfDocumenting depth d e w ++ fieldPieces depth e c′ from p) + 2 * i ≤ 2 * (length e + w + (if d then 1 else 0)) + specBytes p + 2 * j)
+        × (length (selfDocumenting depth d e w ++ fieldPieces depth e c′ from (withClose j g) p) + i ≤ (if d then 1 else 0) + 1 + specRecords p + j)
+        × (bytes (selfDocumenting depth d e w ++ fieldPieces depth e c′ from (withClose j g) p) + 2 * i ≤ 2 * (length e + w + (if d then 1 else 0)) + specBytes p + 2 * j)
 
     pieces : (d : Bool) (p : Option (List Piece)) → Fits d p
     pieces true none = (omega arith, k, omega arith, omega (arith, length-append e (61 ∷ []), length-replicate {A = ℕ} w 32))
@@ -97,7 +105,7 @@ finished-tight s depth from i j (state e b o c d w) p h k = go b refl
     pieces false none = (omega arith, k, omega arith, omega arith)
     pieces false (some ps) = (omega arith, k, omega arith, omega arith)
 
-    go : (x : Bool) → b ≡ x → Tight (marked (state e b o c d w) + 1 + specRecords p) (doubled (state e b o c d w) + specBytes p) s i (finished depth from j (state e b o c d w) p)
+    go : (x : Bool) → b ≡ x → Tight (marked (state e b o c d w g) + 1 + specRecords p) (doubled (state e b o c d w g) + specBytes p) s i (finished depth from j (state e b o c d w g) p)
     go true q = rw q tt
     go false q = rw q (pieces d p)
 
@@ -168,7 +176,7 @@ module _ (n : ℕ) (R : Tights n) (kind : ℕ) (s : List ℕ) (depth : ℕ) wher
       after : (r : Read (List Piece)) → specN n kind s depth a ≡ r → Tight 0 0 s a r → i < length s → fieldMove s i f ≡ calls → Goal
       after (got ps j) g p h e =
           let past = next-past s i h in
-          rw (field-got n kind s depth from i f ps j e g) (specified-tight s depth from i j f ps (omega arith) (p .1) (omega arith) (omega arith))
+          rw (field-got n kind s depth from i f ps j e g) (rw (formatted-marked a f, formatted-doubled a f) at (specified-tight s depth from i j (formatted a f) ps (omega arith) (p .1) (omega arith) (omega arith)))
       after (refused x) g p h e = rw (field-refused n kind s depth from i f x e g) tt
 
       go : (x : Move Field) → fieldMove s i f ≡ x → FieldAhead s i f x → Goal

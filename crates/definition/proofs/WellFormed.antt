@@ -188,7 +188,7 @@ unfolding itemOf item
 four-pieces kind start end base [] h = tt
 four-pieces kind start end base (literal zero t ∷ ps) h = (rw h refl, four-pieces kind start end base ps h)
 four-pieces kind start end base (literal (suc d) t ∷ ps) h = (refl, four-pieces kind start end base ps h)
-four-pieces kind start end base (field d t c n i ∷ ps) h = (refl, four-pieces kind start end base ps h)
+four-pieces kind start end base (field d t c n i g ∷ ps) h = (refl, four-pieces kind start end base ps h)
 four-pieces kind start end base (spec n ∷ ps) h = (refl, four-pieces kind start end base ps h)
 
 four-glue : (x : Item) (ys : List Item) → eqb (x .kind) 4 ≡ false → NoFour ys → NoFour (glue itemRole bothItems x ys)

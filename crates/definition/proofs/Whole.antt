@@ -8,7 +8,7 @@ use native.Mathlib.Omega.{arith}
 use lib.ListN.{length}
 use Rattle.definition.specs.Chars.{_is_, code, next}
 use Rattle.definition.specs.Escapes.{Fault, got, refused}
-use Rattle.definition.specs.Body.{Piece, goes, stops, calls, ends, stringMove, stringN, filled, Field, fresh, textMove, fieldMove, finished, specified, firstEnd, textN, fieldN, specN, enough}
+use Rattle.definition.specs.Body.{Piece, goes, stops, calls, ends, stringMove, stringN, filled, Field, formatted, fresh, textMove, fieldMove, finished, specified, firstEnd, textN, fieldN, specN, enough}
 use Rattle.definition.proofs.CharLaws.{next-in, next-past}
 use Rattle.definition.proofs.Steps.{string-goes, string-stops, string-ends, text-goes, text-stops, text-ends, text-got, text-refused, field-goes, field-stops, field-ends, field-got, field-refused, firstPiece, spec-calls, spec-ends}
 use Rattle.definition.proofs.Fuel.{first-in, string-fuel, text-fuel, field-fuel, spec-fuel}
@@ -80,7 +80,7 @@ module _ (kind : ℕ) (s : List ℕ) (depth from i : ℕ) (f : Field) where
         let n = next-past s i h in
         spec-fuel (less s) (enough s) kind s depth (next s i) (next-in s i (omega arith)) (omega arith) (omega arith)
 
-    pub field-spec : (ps : List Piece) (j : ℕ) → specN (enough s) kind s depth (next s i) ≡ got ps j → fieldN (enough s) kind s depth from i f ≡ specified s depth from j f ps
+    pub field-spec : (ps : List Piece) (j : ℕ) → specN (enough s) kind s depth (next s i) ≡ got ps j → fieldN (enough s) kind s depth from i f ≡ specified s depth from j (formatted (next s i) f) ps
     field-spec ps j g = ap (λ n. fieldN n kind s depth from i f) (one-less s) ∙ field-got (less s) kind s depth from i f ps j e (same-spec ∙ g)
 
     pub field-spec-stop : (x : Fault) → specN (enough s) kind s depth (next s i) ≡ refused x → fieldN (enough s) kind s depth from i f ≡ refused x

@@ -9,10 +9,17 @@ use Rattle.definition.specs.Numbers.{isFString, isBytes, isRaw, nonAscii
 use Rattle.definition.specs.Chars.{if_then_else_, _is_, part, atEnd, insideAny, code, next, char, whiteSpace, before}
 use Rattle.definition.specs.Escapes.{Fault, fault, detail, Read, got, refused, Meaning, escape, meant}
 
+-- A field's signs: the bytes taken just after its first self-documenting `=`, its `!`, its `:` and its `}`; 0 for none
+pub record Signs : Type 0 where
+  pub equals : ℕ
+  pub bang : ℕ
+  pub colon : ℕ
+  pub close : ℕ
+
 -- A piece, in record order: a field, its spec, the spec's parts. `depth` is that of the text that it stands in
 pub data Piece : Type 0 where
   literal : (depth : ℕ) (text : List ℕ) → Piece
-  field : (depth : ℕ) (expression : List ℕ) (conversion parts taken : ℕ) → Piece  -- taken: just after its `{`
+  field : (depth : ℕ) (expression : List ℕ) (conversion parts taken : ℕ) (signs : Signs) → Piece  -- taken: just after its `{`
   spec : (parts : ℕ) → Piece
 
 -- What a reader does at a character: goes on with a new state, refuses, calls for the next reader, or ends
@@ -105,12 +112,28 @@ pub record Bracket : Type 0 where
   pub taken : ℕ
 
 -- A FIELD. Its state: the expression, whether that is blank so far, the open brackets (innermost first), the conversion,
--- whether a self-documenting `=` was met, and the spaces kept apart after it
+-- whether a self-documenting `=` was met, the spaces kept apart after it, and the signs so far
 pub data Field : Type 0 where
-  state : (expression : List ℕ) (blank : Bool) (brackets : List Bracket) (conversion : ℕ) (documented : Bool) (spaces : ℕ) → Field
+  state : (expression : List ℕ) (blank : Bool) (brackets : List Bracket) (conversion : ℕ) (documented : Bool) (spaces : ℕ) (signs : Signs) → Field
+
+abbrev pub signs : (equals bang colon close : ℕ) → Signs
+signs equals bang colon close = record { equals = equals; bang = bang; colon = colon; close = close }
+
+-- with a sign more, just before j; only the first `=` counts
+unfoldable pub withEquals : ℕ → Signs → Signs
+withEquals j g = signs (if eqb (g .equals) 0 then j else g .equals) (g .bang) (g .colon) (g .close)
+
+unfoldable pub withBang : ℕ → Signs → Signs
+withBang j g = signs (g .equals) j (g .colon) (g .close)
+
+unfoldable pub withColon : ℕ → Signs → Signs
+withColon j g = signs (g .equals) (g .bang) j (g .close)
+
+unfoldable pub withClose : ℕ → Signs → Signs
+withClose j g = signs (g .equals) (g .bang) (g .colon) j
 
 unfoldable pub fresh : Field
-fresh = state [] true [] 0 false 0
+fresh = state [] true [] 0 false 0 (signs 0 0 0 0)
 
 -- blank means White_Space
 abbrev pub isBlank : ℕ → Bool
@@ -118,13 +141,17 @@ isBlank c = insideAny whiteSpace c
 
 -- more of the expression: its text, and whether it is blank
 unfoldable pub add : List ℕ → Bool → Field → Field
-add t blank (state e b o c d w) = state (e ++ t) (b && blank) o c d w
+add t blank (state e b o c d w g) = state (e ++ t) (b && blank) o c d w g
 
-unfoldable pub documented : Field → Field
-documented (state e b o c d w) = state e b o c true w
+-- past its `=`, a space more, or its `:`
+unfoldable pub documented : ℕ → Field → Field
+documented j (state e b o c d w g) = state e b o c true w (withEquals j g)
 
 unfoldable pub spaced : Field → Field
-spaced (state e b o c d w) = state e b o c d (suc w)
+spaced (state e b o c d w g) = state e b o c d (suc w) g
+
+unfoldable pub formatted : ℕ → Field → Field
+formatted j (state e b o c d w g) = state e b o c d w (withColon j g)
 
 pub data FieldCase : Type 0 where
   over pair converts documents formats opener closes closer quote space backslash stray plain : FieldCase
@@ -151,22 +178,22 @@ fieldCase s i out doc =
     if doc then stray else plain
 
 unfoldable pub caseOf : List ℕ → ℕ → Field → FieldCase
-caseOf s i (state e b o c d w) = fieldCase s i (outside o) d
+caseOf s i (state e b o c d w g) = fieldCase s i (outside o) d
 
 -- the `!` at i: not after a blank expression; then s, a or r; then `}` or `:` must follow
 unfoldable pub conversionMove : List ℕ → ℕ → Field → Move Field
-conversionMove s i (state e b o c d w) =
+conversionMove s i (state e b o c d w g) =
     let flag = next s i in
     let after = next s flag in
     if b then stops (fault emptyExpression flag) else
     if atEnd s flag then stops (detail unclosedLbrace flag afterBang) else
     if not (code s flag is "sar") then stops (fault invalidConversionFlag after) else
-    if code s after is "}:" then goes after (state e b o (code s flag) d w) else stops (detail unclosedLbrace after afterConversion)
+    if code s after is "}:" then goes after (state e b o (code s flag) d w (withBang flag g)) else stops (detail unclosedLbrace after afterConversion)
 
 -- the opening bracket at i: 64 may be open at once
 unfoldable pub openMove : List ℕ → ℕ → Field → Move Field
-openMove s i (state e b o c d w) =
-    if ltb (length o) 64 then goes (next s i) (state (e ++ char s i) false (record { bracket = code s i; taken = next s i } ∷ o) c d w) else stops (fault tooManyBrackets (next s i))
+openMove s i (state e b o c d w g) =
+    if ltb (length o) 64 then goes (next s i) (state (e ++ char s i) false (record { bracket = code s i; taken = next s i } ∷ o) c d w g) else stops (fault tooManyBrackets (next s i))
 
 abbrev pub matching : ℕ → ℕ → Bool
 matching a b = a is "(" && b is ")" || a is "[" && b is "]" || a is "{" && b is "}"
@@ -177,9 +204,9 @@ wrong taken a b = record { number = mismatchedDelimiter; taken = taken; a = a .b
 
 -- the closing bracket at i must match the innermost open one by kind
 unfoldable pub closeMove : List ℕ → ℕ → Field → Move Field
-closeMove s i (state e b [] c d w) = stops (detail unmatched (next s i) (code s i))
-closeMove s i (state e b (a ∷ o) c d w) =
-    if matching (a .bracket) (code s i) then goes (next s i) (state (e ++ char s i) false o c d w) else stops (wrong (next s i) a (code s i))
+closeMove s i (state e b [] c d w g) = stops (detail unmatched (next s i) (code s i))
+closeMove s i (state e b (a ∷ o) c d w g) =
+    if matching (a .bracket) (code s i) then goes (next s i) (state (e ++ char s i) false o c d w g) else stops (wrong (next s i) a (code s i))
 
 -- the quote at i opens a run that ends at the same quote
 unfoldable pub quoteMove : List ℕ → ℕ → Field → Move Field
@@ -194,7 +221,7 @@ fieldMove s i f =
       | over ↦ stops (detail unclosedLbrace i inField)
       | pair ↦ goes (next s after) (add (part s i (next s after)) false f)
       | converts ↦ conversionMove s i f
-      | documents ↦ goes after (documented f)
+      | documents ↦ goes after (documented after f)
       | formats ↦ calls
       | opener ↦ openMove s i f
       | closes ↦ ends
@@ -210,7 +237,7 @@ fieldMove s i f =
 unfoldable pub direct : ℕ → List Piece → ℕ
 direct depth [] = 0
 direct depth (literal d t ∷ ps) = (if eqb d depth then 1 else 0) + direct depth ps
-direct depth (field d t c n i ∷ ps) = (if eqb d depth then 1 else 0) + direct depth ps
+direct depth (field d t c n i g ∷ ps) = (if eqb d depth then 1 else 0) + direct depth ps
 direct depth (spec n ∷ ps) = direct depth ps
 
 -- a self-documenting field has conversion r exactly if it has neither conversion nor spec
@@ -220,9 +247,9 @@ conversionOf true c none = if eqb c 0 then 114 else c
 conversionOf true c (some ps) = c
 
 -- a field that began at i, with its spec and the spec's parts
-unfoldable pub fieldPieces : ℕ → List ℕ → ℕ → ℕ → Option (List Piece) → List Piece
-fieldPieces depth e c i none = field depth e c 0 i ∷ []
-fieldPieces depth e c i (some ps) = field depth e c 1 i ∷ spec (direct (suc depth) ps) ∷ ps
+unfoldable pub fieldPieces : ℕ → List ℕ → ℕ → ℕ → Signs → Option (List Piece) → List Piece
+fieldPieces depth e c i g none = field depth e c 0 i g ∷ []
+fieldPieces depth e c i g (some ps) = field depth e c 1 i g ∷ spec (direct (suc depth) ps) ∷ ps
 
 -- a self-documenting field gives the literals expression + `=` and spaces (even none) first
 unfoldable pub selfDocumenting : ℕ → Bool → List ℕ → ℕ → List Piece
@@ -231,8 +258,8 @@ selfDocumenting depth true e w = literal depth (e ++ (61 ∷ [])) ∷ literal de
 
 -- the `}` before j that ends the field which began at i, with its spec's pieces if it has a spec
 unfoldable pub finished : ℕ → ℕ → ℕ → Field → Option (List Piece) → Read (List Piece)
-finished depth i j (state e b o c d w) p =
-    if b then refused (fault emptyExpression j) else got (selfDocumenting depth d e w ++ fieldPieces depth e (conversionOf d c p) i p) j
+finished depth i j (state e b o c d w g) p =
+    if b then refused (fault emptyExpression j) else got (selfDocumenting depth d e w ++ fieldPieces depth e (conversionOf d c p) i (withClose j g) p) j
 
 -- a field whose spec has ended at j, at its `}` or at the body's end
 unfoldable pub specified : List ℕ → ℕ → ℕ → ℕ → Field → List Piece → Read (List Piece)
@@ -267,7 +294,7 @@ unfoldable mutual
         | goes j f′ ↦ fieldN n kind s depth from j f′
         | stops x ↦ refused x
         | calls ↦ elim (specN n kind s depth (next s i)) [
-          | got ps j ↦ specified s depth from j f ps
+          | got ps j ↦ specified s depth from j (formatted (next s i) f) ps
           | refused x ↦ refused x
         ]
         | ends ↦ finished depth from (next s i) f none

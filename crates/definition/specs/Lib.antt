@@ -6,6 +6,7 @@ pub mod Body
 pub mod Records
 pub mod Entry
 pub mod Reading
+pub mod Rows
 pub mod Join
 pub mod View
 pub mod Matched

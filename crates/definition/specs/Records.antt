@@ -61,7 +61,7 @@ item role kind text start end mode parts place =
 unfoldable pub itemOf : (kind start end base : ℕ) → Piece → Item
 itemOf kind start end base (literal zero t) = if isBytes kind then item raw 4 t start end 0 0 0 else item top 1 t start end 0 0 0
 itemOf kind start end base (literal (suc d) t) = item inner 1 t start end 0 0 0
-itemOf kind start end base (field d e c n i) = item inner 2 e start end c n (base + i)
+itemOf kind start end base (field d e c n i g) = item inner 2 e start end c n (base + i)
 itemOf kind start end base (spec n) = item inner 3 [] start end 0 n 0
 
 -- Lists of things where those that touch become one
