@@ -290,6 +290,60 @@ static void reads_marks_and_bytes(void)
     accepted(bytes_answer, bytes_record, "\xff");
 }
 
+/* Asks for the rows with so many numbers lent, all filled before. */
+static void signs_with(const char *script, const uint32_t *literals, size_t literals_length,
+                       size_t rows_length)
+{
+    memset(words, FILL, sizeof words);
+    memset(answer, FILL, sizeof answer);
+    stumpgarret_signs((const uint8_t *)script, strlen(script), literals, literals_length, words,
+                      rows_length, answer);
+}
+
+/* The four reasons, a nested field, room, and a refusal. */
+static void signs(void)
+{
+    static const char script[] = "{x!r}{y=}{z=:{w}}";
+    static const uint32_t literal[] = {STUMPGARRET_FSTRING, 0, 0, 17, 0, 20};
+    static const uint32_t accepted[STUMPGARRET_ANSWER_NUMBERS] = {
+        STUMPGARRET_ACCEPTED, STUMPGARRET_JOINED, 0, 0, 20, 4, 0, 0, 17,
+    };
+    static const uint32_t rows[] = {
+        STUMPGARRET_REASON_WRITTEN, 0, 3, 1, 'r', 0, 5, 0, 7, 0,
+        STUMPGARRET_REASON_REPR, 0, 8, 1, 'r', 10, 0, 0, 11, 0,
+        STUMPGARRET_REASON_SPEC, 0, 12, 1, 0, 14, 0, 15, 19, 0,
+        STUMPGARRET_REASON_NONE, 0, 16, 1, 0, 0, 0, 0, 18, 0,
+    };
+    static const uint32_t short_of_room[STUMPGARRET_ANSWER_NUMBERS] = {
+        STUMPGARRET_TOO_FEW_RECORD_PLACES, 0, 0, 4, 0, 0, 0, 0, 17,
+    };
+    static const uint32_t empty[STUMPGARRET_ANSWER_NUMBERS] = {
+        STUMPGARRET_EMPTY_EXPRESSION, 0, 4, 0, 0, 0, 0, 2, 2,
+    };
+    signs_with(script, literal, COUNT(literal), WORDS);
+    numbers_are("answer", answer, accepted, COUNT(accepted));
+    numbers_are("row", words, rows, COUNT(rows));
+    filled("byte of the rows", words, sizeof rows, sizeof words, FILL);
+    const uint32_t *third = words + 2 * STUMPGARRET_ROW_NUMBERS;
+    const uint32_t by_name[] = {
+        third[STUMPGARRET_ROW_REASON], third[STUMPGARRET_ROW_START],
+        third[STUMPGARRET_ROW_PLACE],  third[STUMPGARRET_ROW_EXPRESSION],
+        third[STUMPGARRET_ROW_CONVERSION], third[STUMPGARRET_ROW_EQUALS],
+        third[STUMPGARRET_ROW_BANG],   third[STUMPGARRET_ROW_COLON],
+        third[STUMPGARRET_ROW_CLOSE],  third[STUMPGARRET_ROW_WITHIN],
+    };
+    numbers_are("named number", by_name, rows + 2 * STUMPGARRET_ROW_NUMBERS, COUNT(by_name));
+
+    signs_with(script, literal, COUNT(literal), COUNT(rows) - 1);
+    numbers_are("answer", answer, short_of_room, COUNT(short_of_room));
+    filled("byte of the rows", words, 0, sizeof rows - sizeof *rows, 0);
+    filled("byte of the rows", words, sizeof rows - sizeof *rows, sizeof words, FILL);
+    static const uint32_t two_bytes[] = {STUMPGARRET_FSTRING, 0, 0, 2, 0, 5};
+    signs_with("{}", two_bytes, COUNT(two_bytes), COUNT(rows));
+    numbers_are("answer", answer, empty, COUNT(empty));
+    filled("byte of the rows", words, 0, sizeof rows, 0);
+}
+
 /* Lists the literals of so many bytes from an offset on, with so many numbers lent, all filled
    before. */
 static void list_with(const void *script, size_t length, uint32_t offset, size_t lent)
@@ -392,6 +446,7 @@ int main(void)
     refuses_bodies();
     refuses_lists();
     reads_marks_and_bytes();
+    signs();
     lists_two();
     refuses_scripts();
     printf("bindings/c: %d checks passed\n", checks);

@@ -1,5 +1,5 @@
-/* Reads runs of Python string literals to records: texts, formatted fields, format specs; and lists
-   the literals of a script from an offset on.
+/* Reads runs of Python string literals to records: texts, formatted fields, format specs; tells where
+   the signs of each field stand; and lists the literals of a script from an offset on.
    For C99 and C++11 on x86-64 Linux:
 
        cc -I bindings/include program.c target/staticlib/libstumpgarret.a
@@ -195,6 +195,46 @@ void stumpgarret_read(const uint8_t *script, size_t script_length,
                       uint32_t *words, size_t words_length,
                       uint8_t *text, size_t text_length,
                       uint32_t answer[STUMPGARRET_ANSWER_NUMBERS]);
+
+/* A row is ten numbers, at these indexes: a field, and where its signs stand. A place is 0 where there
+   is no such sign. */
+enum stumpgarret_row {
+    STUMPGARRET_ROW_REASON,      /* one of stumpgarret_reason */
+    STUMPGARRET_ROW_START,       /* its literal's start */
+    STUMPGARRET_ROW_PLACE,       /* just after its opening brace */
+    STUMPGARRET_ROW_EXPRESSION,  /* the bytes of its expression, as in its record */
+    STUMPGARRET_ROW_CONVERSION,  /* as in its record */
+    STUMPGARRET_ROW_EQUALS,      /* just after its first self-documenting = */
+    STUMPGARRET_ROW_BANG,        /* just after its ! */
+    STUMPGARRET_ROW_COLON,       /* just after its :, where its spec begins */
+    STUMPGARRET_ROW_CLOSE,       /* just after its closing brace */
+    STUMPGARRET_ROW_WITHIN,      /* 0, and kept for later use */
+    STUMPGARRET_ROW_NUMBERS      /* how many: 10 */
+};
+
+/* The reason of a field's conversion. */
+enum stumpgarret_reason {
+    STUMPGARRET_REASON_WRITTEN = 1, /* written after ! */
+    STUMPGARRET_REASON_NONE,        /* none: nothing is written, and there is no self-documenting = */
+    STUMPGARRET_REASON_REPR,        /* repr: = stands with neither conversion nor spec */
+    STUMPGARRET_REASON_SPEC         /* none: = stands with a spec */
+};
+
+/* Reads the literals as stumpgarret_read does, and writes a row for each field, in record order,
+   nested ones too, in place of records and text. Ten numbers make one row's place; up to nine left
+   over are not used. For n literals with b body bytes together, room for b + n rows is always enough.
+
+   The answer is that of stumpgarret_read, with the count of rows for the records and 0 for the text's
+   length. Refusals are the same: 30 comes if there are fewer places than fields, with their count as
+   first detail, and 31 never. On acceptance the rows stand in front in `rows`, and what follows them is
+   unchanged. On refusal every one of `rows` is 0. `answer` always gets twelve numbers.
+
+   The caller sees to the same as for stumpgarret_read: `rows` and `answer` overlap nothing else that
+   is passed. */
+void stumpgarret_signs(const uint8_t *script, size_t script_length,
+                       const uint32_t *literals, size_t literals_length,
+                       uint32_t *rows, size_t rows_length,
+                       uint32_t answer[STUMPGARRET_ANSWER_NUMBERS]);
 
 /* The answer of stumpgarret_literals. */
 enum stumpgarret_list_answer {

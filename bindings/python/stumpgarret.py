@@ -1,11 +1,11 @@
 #!/usr/bin/env python3
 """Lists the formatted fields in the string literals of Python 3.11 scripts, by the proved library stumpgarret.
 
-    python3 stumpgarret.py SCRIPT...
+    python3 stumpgarret.py [--why] SCRIPT...
 
 prints a line for each field: path:line:column, the expression, the conversion with its `!` and the spec with its
-`:`, with tabs between them. Control characters are shown as Python's escapes. What could not be read is told on
-standard error, and the exit status is then 1.
+`:`, with tabs between them; with --why also the reason of the conversion. Control characters are shown as Python's
+escapes. What could not be read is told on standard error, and the exit status is then 1.
 
 In a program, `fields` gives the same list, or raises `Incomplete`. `runs` cuts a script into runs of adjacent
 literals, and `read` is the library's call: it reads one run. `literals` is the library's other call: it lists the
@@ -89,11 +89,41 @@ class Text:
     u_mark: bool
 
 
+class Reason(enum.IntEnum):
+    """The reason of a field's conversion: written after `!`; none, and no self-documenting `=`; repr, because `=` stands
+    with neither conversion nor spec; none, because `=` stands with a spec."""
+
+    WRITTEN = 1
+    NONE = 2
+    REPR = 3
+    SPEC = 4
+
+
+# What each reason means, for people.
+REASONS = {
+    Reason.WRITTEN: "written after `!`",
+    Reason.NONE: "none: no `!` and no `=`",
+    Reason.REPR: "repr: `=` with no spec",
+    Reason.SPEC: "none: `=` with a spec",
+}
+
+
+@dataclass(frozen=True)
+class Signs:
+    """The places just after a field's first self-documenting `=`, its `!` and its `:`, None where it has none, and just
+    after its `}`."""
+
+    equals: int | None
+    bang: int | None
+    colon: int | None
+    close: int
+
+
 @dataclass(frozen=True)
 class Field:
     """A formatted field, with its literal's range. `conversion` is "s", "r", "a" or None; a self-documenting field
-    that has neither conversion nor spec has "r". `spec` has the parts of the format spec, and is None if there is no
-    `:`. `place` is just after the field's `{`."""
+    that has neither conversion nor spec has "r", and `reason` says why. `spec` has the parts of the format spec, and is
+    None if there is no `:`. `place` is just after the field's `{`, and `signs` are its other places."""
 
     expression: str
     conversion: str | None
@@ -101,6 +131,8 @@ class Field:
     start: int
     end: int
     place: int
+    reason: Reason
+    signs: Signs
 
 
 @dataclass(frozen=True)
@@ -227,6 +259,7 @@ class Unavailable(Exception):
 SHARED_LIBRARY = "libstumpgarret.so"
 ELF_MACHINES = {62: "x86_64", 183: "aarch64"}
 WORDS_OF_A_RECORD = 8
+NUMBERS_OF_A_ROW = 10
 NUMBERS_OF_A_LITERAL = 6
 MOST_BODY_BYTES = 1_048_576
 FIRST_LITERALS = 16
@@ -244,7 +277,9 @@ def read(script: bytes | str, literals: Iterable[Literal]) -> Answer:
         raise Refusal(number, literal, place, (a, b), line, column, opened, chars)
     _, sort, u_mark, start, end, _, _, _, chars, *_ = answer
     records = (words[at : at + WORDS_OF_A_RECORD] for at in range(0, len(words), WORDS_OF_A_RECORD))
-    return Answer(Sort(sort), bool(u_mark), start, end, tuple(_record(own, records, text) for own in records), chars)
+    rows = iter(_rows(script, numbers, sum(kind == 2 for kind in words[::WORDS_OF_A_RECORD])))
+    parts = tuple(_record(own, records, text, rows) for own in records)
+    return Answer(Sort(sort), bool(u_mark), start, end, parts, chars)
 
 
 def literals(script: bytes | str, offset: int) -> Listing:
@@ -305,6 +340,17 @@ def _call(script: bytes, numbers: list[int]) -> tuple[list[int], list[int], byte
     return list(answer), words[: answer[5] * WORDS_OF_A_RECORD], text[: answer[6]]
 
 
+def _rows(script: bytes, numbers: list[int], fields: int) -> list[list[int]]:
+    """The rows of so many fields, which are all fields of literals that are accepted; no call for none."""
+    if not fields:
+        return []
+    listed = (ctypes.c_uint32 * len(numbers))(*numbers)
+    rows = (ctypes.c_uint32 * (fields * NUMBERS_OF_A_ROW))()
+    answer = (ctypes.c_uint32 * 12)()
+    _signs_function()(script, len(script), listed, len(listed), rows, len(rows), answer)
+    return [rows[at : at + NUMBERS_OF_A_ROW] for at in range(0, len(rows), NUMBERS_OF_A_ROW)]
+
+
 def _list_call(script: bytes, offset: int, room: int) -> tuple[list[int], list[int]]:
     """One call with room for so many numbers: answer and list."""
     numbers = (ctypes.c_uint32 * room)()
@@ -313,19 +359,23 @@ def _list_call(script: bytes, offset: int, room: int) -> tuple[list[int], list[i
     return list(answer), numbers[:]
 
 
-def _record(own: list[int], following: Iterator[list[int]], text: bytes) -> Text | Field | Bytes:
-    """The record of eight words; a field takes those of its spec from the following ones."""
+def _record(
+    own: list[int], following: Iterator[list[int]], text: bytes, rows: Iterator[list[int]]
+) -> Text | Field | Bytes:
+    """The record of eight words; a field takes its row, and the records of its spec from the following ones."""
     kind, offset, length, start, end, mark, parts, place = own
     own_text = text[offset : offset + length]
     if kind == 4:
         return Bytes(own_text, start, end)
     if kind == 1:
         return Text(own_text.decode(), start, end, bool(mark))
+    reason, *_, equals, bang, colon, close, _ = next(rows)
+    signs = Signs(equals or None, bang or None, colon or None, close)
     spec = None
     if parts:
         spec_parts = next(following)[6]
-        spec = tuple(_record(next(following), following, text) for _ in range(spec_parts))
-    return Field(own_text.decode(), chr(mark) if mark else None, spec, start, end, place)
+        spec = tuple(_record(next(following), following, text, rows) for _ in range(spec_parts))
+    return Field(own_text.decode(), chr(mark) if mark else None, spec, start, end, place, Reason(reason), signs)
 
 
 TEXT, NUMBERS, LENGTH = ctypes.c_char_p, ctypes.POINTER(ctypes.c_uint32), ctypes.c_size_t
@@ -335,6 +385,12 @@ TEXT, NUMBERS, LENGTH = ctypes.c_char_p, ctypes.POINTER(ctypes.c_uint32), ctypes
 def _function() -> Callable[..., None]:
     """The library's function; its nine arguments are those of the C call."""
     return _loaded("stumpgarret_read", [TEXT, LENGTH, NUMBERS, LENGTH, NUMBERS, LENGTH, TEXT, LENGTH, NUMBERS])
+
+
+@functools.cache
+def _signs_function() -> Callable[..., None]:
+    """The library's function for rows; its seven arguments are those of the C call."""
+    return _loaded("stumpgarret_signs", [TEXT, LENGTH, NUMBERS, LENGTH, NUMBERS, LENGTH, NUMBERS])
 
 
 @functools.cache
@@ -397,10 +453,6 @@ KINDS = {
 }
 OPENING = re.compile(rb"([A-Za-z]*)('''|\"\"\"|'|\")")
 PASSED_OVER = {tokenize.NL, tokenize.COMMENT}
-# From the end of an expression to the spec, or to the field's end.
-BEFORE_SPEC = re.compile(rb"(?:= *)?(?:![sra])?(?::|(?=\}))")
-# From the last field of a spec to the spec's end; only here may a name in braces stand.
-SPEC_REST = re.compile(rb"(?:\\N\{[^}]*\}|\\[^{}]|[^\\{}]|\\(?=[{}]))*")
 
 
 @dataclass(frozen=True)
@@ -431,6 +483,10 @@ class ScriptField:
     @property
     def conversion(self) -> str | None:
         return self.record.conversion
+
+    @property
+    def reason(self) -> Reason:
+        return self.record.reason
 
 
 @dataclass(frozen=True)
@@ -587,28 +643,23 @@ class _Lister:
 
     def list_field(self, field: Field, depth: int) -> None:
         """Lists a field, those in its expression, and those in its spec."""
-        try:
-            begin, end = self.spec_extent(field)
-        except NoPython as error:
+        if self.goes_on(field):
+            error = NoPython(f"{field.expression} goes on after its =", field.place)
             self.refuse_text(error, "; this field is not listed")
             return
-        spec = None if field.spec is None else self.script[begin:end].decode()
+        signs = field.signs
+        spec = None if signs.colon is None else self.script[signs.colon : signs.close - 1].decode()
         self.found.append(ScriptField(*self.position(field.place), spec, field, depth))
         self.list_literals(f"({field.expression})", field.place - 1, depth + 1)
         for part in field.spec or ():
             if isinstance(part, Field):
                 self.list_field(part, depth + 1)
 
-    def spec_extent(self, field: Field) -> tuple[int, int]:
-        """Where a field's spec begins and ends; both are at the field's closing brace if it has none."""
-        expression = field.expression.encode()
-        at = field.place + len(expression)
-        before = BEFORE_SPEC.match(self.script, at)
-        if self.script[field.place : at] != expression or not before:
-            raise NoPython(f"{field.expression} goes on after its =", field.place)
-        inner = [part for part in field.spec or () if isinstance(part, Field)]
-        rest = self.spec_extent(inner[-1])[1] + len("}") if inner else before.end()
-        return before.end(), SPEC_REST.match(self.script, rest).end()
+    def goes_on(self, field: Field) -> bool:
+        """Whether anything but spaces stands between a field's first self-documenting `=` and its `!`, `:` or `}`."""
+        signs = field.signs
+        end = signs.bang or signs.colon or signs.close
+        return signs.equals is not None and self.script[signs.equals : end - 1].strip(b" ") != b""
 
     def refuse_run(self, run: Run, refusal: Refusal) -> None:
         start, end = run.literals[0].start, run.literals[-1].end
@@ -639,19 +690,21 @@ class _Lister:
 def main(arguments: list[str] | None = None) -> int:
     """Prints the fields of the scripts that are named; the exit status is 0 if those are all fields of all of them."""
     parser = argparse.ArgumentParser(description="Lists the formatted fields in the string literals of Python scripts.")
+    parser.add_argument("--why", action="store_true", help="add the reason of each conversion")
     parser.add_argument("scripts", nargs="+", metavar="SCRIPT")
     for stream in (sys.stdout, sys.stderr):
         if isinstance(stream, io.TextIOWrapper):
             stream.reconfigure(errors="backslashreplace")
     try:
-        complete = [_print_fields(path) for path in parser.parse_args(arguments).scripts]
+        given = parser.parse_args(arguments)
+        complete = [_print_fields(path, given.why) for path in given.scripts]
     except Unavailable as error:
         print(f"stumpgarret: {error}", file=sys.stderr)
         return 2
     return 0 if all(complete) else 1
 
 
-def _print_fields(path: str) -> bool:
+def _print_fields(path: str, why: bool) -> bool:
     """Prints a script's fields; whether all of them are known."""
     complete = False
     try:
@@ -668,7 +721,8 @@ def _print_fields(path: str) -> bool:
         conversion = f"!{field.conversion}" if field.conversion else ""
         spec = "" if field.spec is None else f":{field.spec}"
         at = f"{path}:{field.line}:{field.column}"
-        print(*map(_one_line, (at, field.expression, conversion, spec)), sep="\t")
+        reason = (REASONS[field.reason],) if why else ()
+        print(*map(_one_line, (at, field.expression, conversion, spec, *reason)), sep="\t")
     return complete
 
 

@@ -32,6 +32,9 @@ pub enum Sort {
 /// kind, text offset, text length, start, end, conversion or u mark, parts, place
 pub type Record = [u32; 8];
 
+/// A field's row: reason, start, place, expression length, conversion, its four signs, 0
+pub type Row = [u32; 10];
+
 #[derive(Clone, Debug, PartialEq)]
 pub struct Acceptance {
     pub sort: Sort,

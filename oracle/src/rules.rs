@@ -12,11 +12,13 @@
 //! * The characters that were read, which document 02 adds too, are counted in all bodies, or in
 //!   those before a refused one and in that one before the place.
 //! * 30 and 31 compare an acceptance with the room that is lent.
+//! * A field's signs, which document 02's item 13 needs, are found by the same scan; the rest of its
+//!   row is the field's record.
 
 use std::ops::Range;
 use std::str::Chars;
 
-use crate::answer::{Acceptance, Numbers, Outcome, Refusal};
+use crate::answer::{Acceptance, Numbers, Outcome, Refusal, Row};
 use crate::literal::{opening, Literal, StringKind};
 use crate::rust;
 
@@ -33,8 +35,9 @@ const AFTER_EQUALS: u32 = 3;
 const IN_FIELD: u32 = 4;
 const LAST_BRACE: u32 = 5;
 
-/// Words of a record, and numbers of a literal.
+/// Words of a record, numbers of a row, and numbers of a literal.
 pub const RECORD_WORDS: usize = 8;
+pub const ROW_NUMBERS: usize = 10;
 pub const NUMBERS: usize = 6;
 
 /// What the call must return and leave in both lent buffers.
@@ -130,6 +133,64 @@ fn fitting(outcome: &Outcome, words: usize, text: usize) -> Result<&Acceptance, 
     } else {
         Ok(accepted)
     }
+}
+
+/// The reason of a conversion, 02, item 13: written after `!`; none, and no self-documenting `=`;
+/// repr, because `=` stands with neither conversion nor spec; none, because `=` stands with a spec.
+fn reason(signs: &Signs) -> u32 {
+    match (signs.bang, signs.equals, signs.colon) {
+        (Some(_), _, _) => 1,
+        (None, None, _) => 2,
+        (None, Some(_), None) => 3,
+        (None, Some(_), Some(_)) => 4,
+    }
+}
+
+/// The rows of a list that is accepted, in record order: each field's record with its signs.
+pub fn rows(script: &[u8], list: &[u32], accepted: &Acceptance) -> Vec<Row> {
+    let (literals, ranges) = descriptors(script, list).expect("an accepted list has literals");
+    let bodies = well_formed_bodies(script, &literals, &ranges).expect("and they are UTF-8");
+    let signs = (0..literals.len()).flat_map(|index| signs_of(&literals[index], &bodies[index]));
+    let fields = accepted.records.iter().filter(|record| record[0] == 2);
+    let row = |(record, signs): (&[u32; 8], (u32, Signs))| {
+        let &[_, _, length, start, _, conversion, _, place] = record;
+        let (base, signs) = signs;
+        let at = |taken: Option<usize>| taken.map_or(0, |taken| base + taken as u32);
+        let Signs { equals, bang, colon, close } = signs;
+        let [equals, bang, colon, close] = [equals, bang, colon, close].map(at);
+        [reason(&signs), start, place, length, conversion, equals, bang, colon, close, 0]
+    };
+    fields.zip(signs).map(row).collect()
+}
+
+/// The signs of a literal's fields, each with the place where the body begins.
+fn signs_of(literal: &Literal, body: &str) -> Vec<(u32, Signs)> {
+    if !literal.kind.is_any_fstring() {
+        return Vec::new();
+    }
+    let mut scan = Scan::new(body, literal.kind.is_raw());
+    let _ = scan.text(0);
+    scan.signs.into_iter().map(|signs| (literal.place(0), signs)).collect()
+}
+
+/// Answers with the rows of an outcome if there is room for them, and fills the buffer accordingly.
+pub fn lay_out_rows(outcome: &Outcome, rows: &[Row], buffer: &mut [u32]) -> Numbers {
+    let count = rows.len() as u32;
+    let refusal = match outcome {
+        Err(refusal) => *refusal,
+        Ok(accepted) if buffer.len() / ROW_NUMBERS < rows.len() => {
+            Refusal { details: [count, 0], chars: accepted.chars, ..Refusal::new(30, 0, 0) }
+        }
+        Ok(accepted) => {
+            let numbers = rows.as_flattened();
+            buffer[..numbers.len()].copy_from_slice(numbers);
+            let mut numbers = accepted.numbers();
+            numbers[5..7].copy_from_slice(&[count, 0]);
+            return numbers;
+        }
+    };
+    buffer.fill(0);
+    refusal.numbers()
 }
 
 /// The entry checks 1 and 2.
@@ -260,17 +321,28 @@ struct Stop {
     taken: usize,
 }
 
+/// The bytes taken just after a field's first self-documenting `=`, its `!`, its `:` and its `}`.
+#[derive(Clone, Copy, Default)]
+struct Signs {
+    equals: Option<usize>,
+    bang: Option<usize>,
+    colon: Option<usize>,
+    close: Option<usize>,
+}
+
 /// Looks for the 65th open bracket in a field, for one that is closed by another kind, or for a
 /// brace that counts as unclosed, in a body that is otherwise in order.
 struct Scan<'a> {
     rest: Chars<'a>,
     length: usize,
     raw: bool,
+    /// Those of each field that was met, in the order of their records.
+    signs: Vec<Signs>,
 }
 
 impl<'a> Scan<'a> {
     fn new(body: &'a str, raw: bool) -> Self {
-        Scan { rest: body.chars(), length: body.len(), raw }
+        Scan { rest: body.chars(), length: body.len(), raw, signs: Vec::new() }
     }
 
     fn peek(&self) -> Option<char> {
@@ -328,18 +400,33 @@ impl<'a> Scan<'a> {
         // each open bracket, and the bytes taken just after it
         let mut open: Vec<(char, usize)> = Vec::new();
         let mut documented = false;
+        let field = self.signs.len();
+        self.signs.push(Signs::default());
         while let Some(c) = self.rest.next() {
             match c {
                 '!' | '=' | '<' | '>' if self.peek() == Some('=') => {
                     self.rest.next();
                 }
                 '\'' | '"' => self.skip_past(c),
-                '!' if open.is_empty() => self.conversion()?,
-                '=' if open.is_empty() => documented = true,
-                ':' if open.is_empty() => self.spec(depth)?,
+                '!' if open.is_empty() => {
+                    self.signs[field].bang = Some(self.taken());
+                    self.conversion()?;
+                }
+                '=' if open.is_empty() => {
+                    let taken = self.taken();
+                    self.signs[field].equals.get_or_insert(taken);
+                    documented = true;
+                }
+                ':' if open.is_empty() => {
+                    self.signs[field].colon = Some(self.taken());
+                    self.spec(depth)?;
+                }
                 '(' | '[' | '{' if open.len() == MAX_OPEN_BRACKETS => return self.stop(28, 0),
                 '(' | '[' | '{' => open.push((c, self.taken())),
-                '}' if open.is_empty() => return Ok(()),
+                '}' if open.is_empty() => {
+                    self.signs[field].close = Some(self.taken());
+                    return Ok(());
+                }
                 ')' | ']' | '}' if !open.is_empty() => self.close(open.pop().unwrap(), c)?,
                 ' ' => {}
                 _ if documented => return self.stop(20, AFTER_EQUALS),

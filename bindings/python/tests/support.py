@@ -44,6 +44,10 @@ class Server:
         head = struct.pack("<4I", numbers_length, script_length, words_length, text_length)
         self.ask(head + bytes(numbers) + script[:script_length] + bytes(words) + bytes(text), answer, words, text)
 
+    def signs(self, script, script_length, numbers, numbers_length, rows, rows_length, answer):
+        head = struct.pack("<4I", numbers_length, script_length, rows_length, 2**32 - 1)
+        self.ask(head + bytes(numbers) + script[:script_length] + bytes(rows), answer, rows)
+
     def literals(self, script, script_length, offset, numbers, numbers_length, answer):
         head = struct.pack("<4I", 2**32 - 1, script_length, numbers_length, offset)
         self.ask(head + script[:script_length] + bytes(numbers), answer, numbers)
@@ -66,4 +70,5 @@ HAS_STANDIN = command is not None
 if HAS_STANDIN:
     server = Server(command.split())
     stumpgarret._function = lambda: server.read
+    stumpgarret._signs_function = lambda: server.signs
     stumpgarret._list_function = lambda: server.literals

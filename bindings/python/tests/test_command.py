@@ -35,6 +35,12 @@ class Command(unittest.TestCase):
     def test_fields(self):
         self.assertEqual(self.run_on(bench=BENCH), (0, BENCH_FIELDS, ""))
 
+    def test_why(self):
+        pathlib.Path("a.py").write_text("f'{x!r}{y=}{z=:3}{w}'")
+        status, out, err = self.run_main("--why", "a.py")
+        reasons = ["written after `!`", "repr: `=` with no spec", "none: `=` with a spec", "none: no `!` and no `=`"]
+        self.assertEqual((status, [line.split("\t")[4] for line in out.splitlines()], err), (0, reasons, ""))
+
     def test_scripts(self):
         status, out, err = self.run_on(a="f'{x:}'", b="1", c="f'{y}'")
         self.assertEqual((status, out, err), (0, "a.py:1:4\tx\t\t:\nc.py:1:4\ty\t\t\n", ""))

@@ -3,7 +3,7 @@
 import unittest
 
 from support import stumpgarret
-from stumpgarret import Incomplete, Kind, NoPython, Text, fields, runs
+from stumpgarret import Incomplete, Kind, NoPython, Reason, Text, fields, runs
 
 
 def told(source):
@@ -162,6 +162,18 @@ class Fields(unittest.TestCase):
         self.assertEqual(literals, ["\\n", "\n"])
         self.assertIs(field.record.spec[1], inner.record)
 
+    def test_reasons(self):
+        found = fields("f'{x!r}{y=}' rf'{z = :{w}}{v=!s:3}{u}'")
+        reasons = [Reason.WRITTEN, Reason.REPR, Reason.SPEC, Reason.NONE, Reason.WRITTEN, Reason.NONE]
+        self.assertEqual([field.reason for field in found], reasons)
+
+    def test_signs(self):
+        source = "a = f'{x!r}' f'{y = :{w}}{é}'"
+        for field in fields(source):
+            signs = field.record.signs
+            places = {"{": field.record.place, "=": signs.equals, "!": signs.bang, ":": signs.colon, "}": signs.close}
+            self.assertTrue(all(source.encode()[place - 1] == ord(sign) for sign, place in places.items() if place))
+
     def test_rare_names(self):
         self.assertEqual(written("℘ = a·b = f'{℘}'"), ["℘"])
 
@@ -240,9 +252,10 @@ class Refusals(unittest.TestCase):
         self.assertEqual(refused("f'{a$}{b}'"), (["a$", "b"], [(1, 5, None)]))
 
     def test_goes_on_after_equals(self):
-        for field in ("{x=()}", "{x= =}", "{=()}", "{a:{x=()}}", "{x= ==()}", "{x={}}"):
+        for field in ("{x=()}", "{x= =}", "{=()}", "{x= ==()}", "{x={}}"):
             self.assertEqual(refused(f"f'{field}{{y}}'")[0], ["y"])
             self.assertEqual(refused(f"f'{field}{{y}}'")[1][0][2], None)
+        self.assertEqual(refused("f'{a:{x=()}}{y}'"), (["a", "y"], [(1, 7, None)]))
 
     def test_encodings(self):
         self.assertEqual(refused(b"# coding: unknown\nf'{x}'"), ([], [(1, 1, None)]))

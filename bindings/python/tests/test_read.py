@@ -9,7 +9,7 @@ import unittest
 from unittest import mock
 
 from support import load, load_function, stumpgarret
-from stumpgarret import Answer, Bytes, Field, Kind, Literal, Refusal, Sort, Text, Unavailable, read
+from stumpgarret import Answer, Bytes, Field, Kind, Literal, Reason, Refusal, Signs, Sort, Text, Unavailable, read
 
 expected = load("crates/try_readings/expected.py")
 expected.fill_cases()
@@ -102,9 +102,9 @@ class Answers(unittest.TestCase):
     def test_joined(self):
         literals = [Literal(Kind.UNICODE, False, 2, 1, 10, 14), Literal(Kind.FSTRING, False, 7, 11, 15, 29)]
         answer = read("u'a' f'{é!r:>{w}}'", literals)
-        field = Field("w", None, None, 15, 29, 25)
+        field = Field("w", None, None, 15, 29, 25, Reason.NONE, Signs(None, None, None, 27))
         spec = Text(">", 15, 29, False), field
-        records = Text("a", 10, 29, True), Field("é", "r", spec, 15, 29, 18)
+        records = Text("a", 10, 29, True), Field("é", "r", spec, 15, 29, 18, Reason.WRITTEN, Signs(None, 21, 23, 28))
         self.assertEqual(answer, Answer(Sort.JOINED, True, 10, 29, records, 11))
 
     def test_plain_and_bytes(self):

@@ -1,8 +1,9 @@
 //! The C interface, as `bindings/include/stumpgarret.h` describes it.
 
-/// The numbers that describe a literal, the words of a record, the numbers of an answer.
+/// The numbers that describe a literal, the words of a record, the numbers of a row and of an answer.
 pub(crate) const LITERAL: usize = 6;
 pub(crate) const RECORD: usize = 8;
+pub(crate) const ROW: usize = 10;
 pub(crate) const ANSWER: usize = 12;
 
 extern "C" {
@@ -15,6 +16,15 @@ extern "C" {
         words_length: usize,
         text: *mut u8,
         text_length: usize,
+        answer: *mut u32,
+    );
+    fn stumpgarret_signs(
+        script: *const u8,
+        script_length: usize,
+        literals: *const u32,
+        literals_length: usize,
+        rows: *mut u32,
+        rows_length: usize,
         answer: *mut u32,
     );
     fn stumpgarret_literals(
@@ -46,6 +56,23 @@ pub(crate) fn read(
             words.len(),
             text.as_mut_ptr(),
             text.len(),
+            answer.as_mut_ptr(),
+        );
+    }
+    answer
+}
+
+pub(crate) fn signs(script: &[u8], literals: &[u32], rows: &mut [u32]) -> [u32; ANSWER] {
+    let mut answer = [0; ANSWER];
+    // SAFETY: as above.
+    unsafe {
+        stumpgarret_signs(
+            script.as_ptr(),
+            script.len(),
+            literals.as_ptr(),
+            literals.len(),
+            rows.as_mut_ptr(),
+            rows.len(),
             answer.as_mut_ptr(),
         );
     }

@@ -48,6 +48,8 @@
 //! assert_eq!(refusal.to_string(), text);
 //! ```
 //!
+//! [`field_signs`] tells why each field has its conversion, and where its signs and its spec stand.
+//!
 //! [`literals_at`] finds the literals in a script, so that none is cut out by hand, and [`read_at`]
 //! reads what it finds.
 
@@ -56,11 +58,13 @@ mod call;
 mod literal;
 mod refusal;
 mod run;
+mod signs;
 
 pub use answer::{Answer, ConversionFlag, Field, Record, Records, Sort, Spec};
 pub use literal::{Literal, StringKind};
 pub use refusal::{Reason, Refusal, Unclosed};
 pub use run::{literals_at, read_at, Run};
+pub use signs::{field_signs, ConversionReason, FieldSigns};
 
 use std::borrow::Cow;
 

@@ -181,6 +181,9 @@ pub field-reading : (n kind : ℕ) (s : List ℕ) (depth from i : ℕ) → i ≤
 unfolding fresh
 field-reading n kind s depth from i l p = let r = reads n .field n kind s depth from i fresh l p p in (r .0, r .2)
 
+pub spec-reading : (n kind : ℕ) (s : List ℕ) (depth i : ℕ) → i ≤ length s → Moves s i 2 n → Reading weight 0 s i (specN n kind s depth i)
+spec-reading n kind s depth i l p = let r = reads n .spec n kind s depth i l p p in (r .0, r .2)
+
 pub string-reading : (n kind : ℕ) (s : List ℕ) (i : ℕ) (text : List ℕ) → i ≤ length s → Moves s i 1 n → Reading textSize (textSize text) s i (stringN n kind s i text)
 string-reading n kind s i text l p = let r = string-reads n n kind s i text l p p in (r .0, r .2)
 

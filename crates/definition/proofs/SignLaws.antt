@@ -14,7 +14,7 @@ use Rattle.definition.specs.Numbers.{isFString, emptyExpression}
 use Rattle.definition.specs.Chars.{if_then_else_, _is_, byte, part, atEnd, code, next, char, before}
 use Rattle.definition.specs.Escapes.{Fault, fault, Read, got, refused, Meaning, escape}
 use Rattle.definition.specs.Body.{Signs, Piece, literal, field, spec, Bracket, Move, goes, stops, calls, ends, withEscape, TextCase, deep, opens, last, doubled, lone, textCase, textMove, filled, Field, state, withEquals, withBang, withColon, withClose, fresh, add, documented, spaced, formatted, FieldCase, pair, converts, documents, formats, opener, closes, closer, quote, space, backslash, stray, outside, fieldCase, caseOf, conversionMove, openMove, matching, closeMove, quoteMove, fieldMove, conversionOf, fieldPieces, selfDocumenting, finished, specified, plainRun, firstEnd, textN, fieldN, specN, stringN, enough, alone, readBody}
-use Rattle.definition.specs.Rows.{reason}
+use Rattle.definition.specs.Rows.{reason, signAt, signsAt}
 use Rattle.definition.proofs.CharLaws.{cases, no, either, byte-in, next-in, next-from, next-ascii, code-ascii, code-is, before-in}
 use Rattle.definition.proofs.Adds.{ascii-in}
 use Rattle.definition.proofs.Cases.{Tells, told, TextTells, text-told}
@@ -46,6 +46,15 @@ one-reason g n (written b) = rw (ne-eqb (g .bang) 0 (omega arith))
 one-reason g n (neither b e) = rw (b, e)
 one-reason g n (by-repr b e c) = rw (b, ne-eqb (g .equals) 0 (omega arith), c)
 one-reason g n (by-spec b e c) = rw (b, ne-eqb (g .equals) 0 (omega arith), ne-eqb (g .colon) 0 (omega arith))
+
+-- and it is the same by the places in a script
+pub reason-at : (base : ℕ) (g : Signs) → reason (signsAt base g) ≡ reason g
+unfolding reason signsAt signAt
+reason-at base g = rw (same (g .equals), same (g .bang), same (g .colon))
+  where
+    same : (n : ℕ) → eqb (signAt base n) 0 ≡ eqb n 0
+    same zero = refl
+    same (suc n) = ne-eqb (base + suc n) 0 (omega arith) ∙ sym (ne-eqb (suc n) 0 (omega arith))
 
 -- the place j is just after the byte c, past `from`
 abbrev pub After : List ℕ → (from c j : ℕ) → Type 0

@@ -390,7 +390,7 @@ module _ (w : Whole) (kind start end base : ℕ) where
       go true = refl
       go false = refl
   item-text (literal (suc d) t) ps = refl
-  item-text (field d e c n i) ps = refl
+  item-text (field d e c n i g) ps = refl
   item-text (spec n) ps = omega arith
 
   pub load-emits : (ps : List Piece) (o : Out) → load (emits w (items ps) o) ≤ load o + weight ps
@@ -413,7 +413,7 @@ pub direct-light : (depth : ℕ) (ps : List Piece) → direct depth ps ≤ weigh
 unfolding direct
 direct-light depth [] = omega arith
 direct-light depth (literal d t ∷ ps) = one-light (eqb d depth) (direct depth ps) (weight ps) (length t) (direct-light depth ps)
-direct-light depth (field d e c n i ∷ ps) = one-light (eqb d depth) (direct depth ps) (weight ps) (length e) (direct-light depth ps)
+direct-light depth (field d e c n i g ∷ ps) = one-light (eqb d depth) (direct depth ps) (weight ps) (length e) (direct-light depth ps)
 direct-light depth (spec n ∷ ps) = omega (arith, direct-light depth ps)
 
 -- nothing is held after an inner item

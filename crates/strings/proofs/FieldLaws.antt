@@ -7,14 +7,14 @@ use Prim.Native.Nat.{ℕ, zero, suc, _+_, _-_, _≤_, _<_}
 use native.Mathlib.Nat.{sub-self}
 use native.Mathlib.Numerals.{add-one, sub-one}
 use native.Mathlib.Omega.{arith}
-use borrow.Author.Tests.{ltb-true, ltb-false, lt-ltb, le-ltb, le-leb, lt-leb, eq-eqb, ne-eqb, eqb-true}
+use borrow.Author.Tests.{ltb-true, ltb-false, lt-ltb, le-ltb, le-leb, lt-leb, eq-eqb, ne-eqb, eqb-true, eqb-false}
 use lib.Dec.{ltb, eqb}
 use lib.ListN.{length, getD, set, drop, length-take, length-drop}
 use lib.Seq.{take-add, drop-drop, getD-set-same, getD-set-other}
 use Rattle.definition.specs.Numbers.{unclosedLbrace, invalidConversionFlag, emptyExpression, unmatched, unterminatedString, tooManyBrackets, afterBang, afterConversion, afterEquals, inField}
 use Rattle.definition.specs.Chars.{if_then_else_, _is_, byte, part, code, next, char, before}
 use Rattle.definition.specs.Escapes.{fault, detail}
-use Rattle.definition.specs.Body.{Bracket, wrong, Move, goes, stops, calls, ends, Field, isBlank, add, documented, spaced, FieldCase, pair, converts, documents, formats, opener, closes, closer, quote, space, backslash, stray, plain, outside, fieldCase, caseOf, conversionMove, openMove, matching, closeMove, quoteMove, fieldMove}
+use Rattle.definition.specs.Body.{Bracket, wrong, Move, goes, stops, calls, ends, Field, withEquals, withBang, isBlank, add, documented, spaced, FieldCase, pair, converts, documents, formats, opener, closes, closer, quote, space, backslash, stray, plain, outside, fieldCase, caseOf, conversionMove, openMove, matching, closeMove, quoteMove, fieldMove}
 use Rattle.definition.proofs.CharLaws.{cases, no, byte-in, code-is, next-ascii, next-past, next-in}
 use Rattle.definition.proofs.Cases.{Tells, told}
 use Rattle.utf8.specs.declared.Cursor.{Cursor}
@@ -25,7 +25,7 @@ use Rattle.strings.specs.declared.field.State.{State}
 use Rattle.strings.specs.declared.field.Head.{Head}
 use Rattle.strings.specs.declared.field.Turn.{Turn}
 use Rattle.strings.specs.declared.field.Turn.the-variants as turn
-use Rattle.strings.specs.FieldTurns.{unpacked, pending, Room, Fits, keptTo, skippedTo, headAt, brackets, stateOf, Mover, Went, Stopped, TurnIs}
+use Rattle.strings.specs.FieldTurns.{isMarked, firstOf, unpacked, pending, Room, Fits, keptTo, skippedTo, headAt, brackets, stateOf, Mover, Went, Stopped, TurnIs}
 
 pub and-false : (b : Bool) → (b && false) ≡ false
 and-false true = refl
@@ -81,10 +81,17 @@ brackets-less zero places h = absurd (omega arith)
 brackets-less (suc n) places h = rw sub-one
 
 -- TURNS, of a reader m of the definition
--- the state with other spaces, conversion and mark of self-documenting
-abbrev pub changed : ℕ → ℕ → Bool → State → State
-changed spaces conversion documented f =
-    record { at = f .at; run = f .run; used = f .used; depth = f .depth; spaces = spaces; conversion = conversion; blank = f .blank; documented = documented }
+-- the state with other spaces, conversion and signs
+abbrev pub changed : (spaces conversion equals bang : ℕ) → State → State
+changed spaces conversion equals bang f =
+    record { at = f .at; run = f .run; used = f .used; depth = f .depth; spaces = spaces; equals = equals; bang = bang; conversion = conversion; blank = f .blank }
+
+-- the first of two places that is none is one, if the second is
+marked-first : (a b : ℕ) → 0 < b → isMarked (firstOf a b) ≡ true
+marked-first a b h = cases (eqb a 0) (λ e. rw e (lt-ltb 0 b h)) (λ e. let n = eqb-false a 0 e in rw e (lt-ltb 0 a (omega arith)))
+
+pub first-in : (a b n : ℕ) → a ≤ n → b ≤ n → firstOf a b ≤ n
+first-in a b n h k = cases (eqb a 0) (λ e. rw e k) (λ e. rw e h)
 
 module _ {m : Mover} {s : List ℕ} {f : State} {places text : List ℕ} (r : Room s f) where
   -- with the bytes up to `to`, and nothing written
@@ -104,16 +111,19 @@ module _ {m : Mover} {s : List ℕ} {f : State} {places text : List ℕ} (r : Ro
         wrote = sym (over-nil text (f .used));
         grown = omega arith;
         deep = d;
+        equals-in = omega (arith, r .equals-in);
+        bang-in = omega (arith, r .bang-in);
         full = k;
       }
 
   -- without them, and with what the expression has so far written
-  pub skips : {g : State} {text′ : List ℕ} (to spaces conversion : ℕ) (documented : Bool)
+  pub skips : {g : State} {text′ : List ℕ} (to spaces conversion equals bang : ℕ)
+      → (equals ≤ to) × (bang ≤ to)
       → text′ ≡ over text (f .used) (pending s f)
-      → g ≡ changed spaces conversion documented (skippedTo s f to)
-      → ((e : List ℕ) → m s (f .at) (stateOf e f places) ≡ goes to (stateOf e (changed spaces conversion documented f) places))
+      → g ≡ changed spaces conversion equals bang (skippedTo s f to)
+      → ((e : List ℕ) → m s (f .at) (stateOf e f places) ≡ goes to (stateOf e (changed spaces conversion equals bang f) places))
       → Went m s f g places places text text′
-  skips {text′ = text′} to spaces conversion documented w e moves =
+  skips {text′ = text′} to spaces conversion equals bang l w e moves =
       subst (λ (x : State). Went m s f x places places text text′) (sym e)
       record {
         added = pending s f;
@@ -122,6 +132,8 @@ module _ {m : Mover} {s : List ℕ} {f : State} {places text : List ℕ} (r : Ro
         wrote = w;
         grown = refl;
         deep = r .deep;
+        equals-in = l .0;
+        bang-in = l .1;
         full = refl;
       }
 
@@ -172,8 +184,8 @@ module _ {s : List ℕ} {f : State} {c : ℕ} {k : Cursor} (p : Fits s f c k) (p
     unfolding conversionMove
     convert-other t = rw (b, p .here .next-is, lt-leb _ _ (g .there), g .code-is, g .next-is, t)
 
-    pub convert-goes : (x is "sar") ≡ true → (code s (k′ .at) is "}:") ≡ true → conversionMove s (f .at) (stateOf e f places) ≡ goes (k′ .at) (stateOf e (changed (f .spaces) x (f .documented) f) places)
-    unfolding conversionMove
+    pub convert-goes : (x is "sar") ≡ true → (code s (k′ .at) is "}:") ≡ true → conversionMove s (f .at) (stateOf e f places) ≡ goes (k′ .at) (stateOf e (changed (f .spaces) x (f .equals) (k .at) f) places)
+    unfolding conversionMove withBang
     convert-goes t u = rw (b, p .here .next-is, lt-leb _ _ (g .there), g .code-is, g .next-is, t, u)
 
     pub convert-open : (x is "sar") ≡ true → (code s (k′ .at) is "}:") ≡ false → conversionMove s (f .at) (stateOf e f places) ≡ stops (detail unclosedLbrace (k′ .at) afterConversion)
@@ -194,10 +206,10 @@ opener-ascii c t =
 
 module _ {s : List ℕ} {f : State} {c : ℕ} {k : Cursor} (p : Fits s f c k) where
   abbrev Is : FieldCase → Type 0
-  Is x = x ≡ fieldCase s (f .at) (eqb (f .depth) 0) (f .documented)
+  Is x = x ≡ fieldCase s (f .at) (eqb (f .depth) 0) (isMarked (f .equals))
 
   tells : {x : FieldCase} → Is x → Tells s (f .at) (eqb (f .depth) 0) x
-  tells {x} t = told s (f .at) (eqb (f .depth) 0) (f .documented) x (sym t)
+  tells {x} t = told s (f .at) (eqb (f .depth) 0) (isMarked (f .equals)) x (sym t)
 
   -- a `=` follows
   pub pair-in : Is pair → (k .at + 1 ≤ length s) × (next s (k .at) ≡ k .at + 1)
@@ -210,10 +222,10 @@ module _ {s : List ℕ} {f : State} {c : ℕ} {k : Cursor} (p : Fits s f c k) wh
   opener-in t = opener-ascii c (rw (p .here .code-is) at (tells t))
 
   pub formats-out : Is formats → f .depth ≡ 0
-  formats-out t = eqb-true _ _ (tells t)
+  formats-out t = eqb-true _ _ (tells t .0)
 
   pub closes-out : Is closes → f .depth ≡ 0
-  closes-out t = eqb-true _ _ (tells t)
+  closes-out t = eqb-true _ _ (tells t .0)
 
   module _ (places e : List ℕ) where
     case-is : {x : FieldCase} → Is x → caseOf s (f .at) (stateOf e f places) ≡ x
@@ -228,11 +240,11 @@ module _ {s : List ℕ} {f : State} {c : ℕ} {k : Cursor} (p : Fits s f c k) wh
     unfolding fieldMove add char
     plain-goes t b = rw (case-is t, fieldMove, p .here .next-is, p .here .code-is, b)
 
-    pub documents-goes : Is documents → fieldMove s (f .at) (stateOf e f places) ≡ goes (k .at) (stateOf e (changed (f .spaces) (f .conversion) true f) places)
-    unfolding fieldMove documented
-    documents-goes t = rw (case-is t, fieldMove, p .here .next-is)
+    pub documents-goes : Is documents → fieldMove s (f .at) (stateOf e f places) ≡ goes (k .at) (stateOf e (changed (f .spaces) (f .conversion) (firstOf (f .equals) (k .at)) (f .bang) f) places)
+    unfolding fieldMove documented withEquals
+    documents-goes t = rw (case-is t, fieldMove, p .here .next-is, marked-first (f .equals) (k .at) (omega (arith, ahead (p .here) .0)))
 
-    pub space-goes : Is space → fieldMove s (f .at) (stateOf e f places) ≡ goes (k .at) (stateOf e (changed (f .spaces + 1) (f .conversion) (f .documented) f) places)
+    pub space-goes : Is space → fieldMove s (f .at) (stateOf e f places) ≡ goes (k .at) (stateOf e (changed (f .spaces + 1) (f .conversion) (f .equals) (f .bang) f) places)
     unfolding fieldMove spaced
     space-goes t = rw (case-is t, fieldMove, p .here .next-is, add-one (f .spaces))
 
@@ -271,7 +283,7 @@ module _ {s : List ℕ} {f : State} {c : ℕ} {k : Cursor} (p : Fits s f c k) wh
 -- a turn by another reader's moves, where they are the same
 pub turned : {s : List ℕ} {f : State} {c : ℕ} {k : Cursor} → Fits s f c k → (m n : Mover) (places places′ text text′ : List ℕ) (r : Turn) → ((e : List ℕ) → n s (f .at) (stateOf e f places) ≡ m s (f .at) (stateOf e f places)) → TurnIs m s f r places places′ text text′ → TurnIs n s f r places places′ text text′
 turned {s} {f} p m n places places′ text text′ (turn.On g) q w =
-    record { added = w .added; moves = λ e. q (e ++ pending s f) ∙ w .moves e; run = w .run; wrote = w .wrote; grown = w .grown; deep = w .deep; full = w .full }
+    record { added = w .added; moves = λ e. q (e ++ pending s f) ∙ w .moves e; run = w .run; wrote = w .wrote; grown = w .grown; deep = w .deep; equals-in = w .equals-in; bang-in = w .bang-in; full = w .full }
 turned p m n places places′ text text′ (turn.Formats h) q w = record { moves = λ e. q e ∙ w .moves e; out = w .out; head = w .head; wrote = w .wrote }
 turned p m n places places′ text text′ (turn.Closes h) q w = record { moves = λ e. q e ∙ w .moves e; out = w .out; head = w .head; wrote = w .wrote }
 turned p m n places places′ text text′ (turn.Refused x) q w = λ e. q e ∙ w e

@@ -24,15 +24,15 @@ use Rattle.strings.specs.declared.field.Head.{Head}
 use Rattle.strings.specs.declared.field.Opened.the-variants as opened
 use Rattle.strings.proofs.FieldLaws.{part-none, and-false, and-true, keeps, plain-goes}
 use Rattle.strings.specs.Text.{refusal, faultOf}
-use Rattle.strings.specs.FieldTurns.{passing, Passed, pending, Room, Fits, keptTo, skippedTo, headAt, brackets, stateOf, headState, Went, Stopped, closedAs, HeadIs, EndedIs, OpenedIs}
+use Rattle.strings.specs.FieldTurns.{isMarked, passing, Passed, pending, Room, Fits, keptTo, skippedTo, headAt, brackets, stateOf, headState, Went, Stopped, closedAs, HeadIs, EndedIs, OpenedIs}
 
 -- a blank expression is refused at its `}`
 abbrev blankOf : Field → Bool
-blankOf (state e b o c d w) = b
+blankOf (state e b o c d w g) = b
 
 blank-refused : (depth from j : ℕ) (f : Field) → blankOf f ≡ true → finished depth from j f none ≡ refused (fault emptyExpression j)
 unfolding finished
-blank-refused depth from j (state e b o c d w) h = rw h
+blank-refused depth from j (state e b o c d w g) h = rw h
 
 -- the head that began at `from` has come to the state f
 pub record Sofar (s : List ℕ) (from used : ℕ) (lent : List ℕ) (f : State) (places text : List ℕ) : Type 0 where
@@ -45,12 +45,14 @@ pub record Sofar (s : List ℕ) (from used : ℕ) (lent : List ℕ) (f : State) 
   pub grown : f .used ≡ used + length written
   pub small : fieldSize (stateOf (written ++ pending s f) f places) + 4 * from ≤ 4 * f .at
   pub deep : f .depth ≤ 64
+  pub equals-in : f .equals ≤ f .at
+  pub bang-in : f .bang ≤ f .at
   pub full : length places ≡ 64
 
 -- the state after the `{`
 abbrev pub first : ℕ → ℕ → State
 first at used =
-    record { at = at; run = at; used = used; depth = 0; spaces = 0; conversion = 0; blank = true; documented = false }
+    record { at = at; run = at; used = used; depth = 0; spaces = 0; equals = 0; bang = 0; conversion = 0; blank = true }
 
 pub start : (s : List ℕ) (from used : ℕ) (lent places : List ℕ) → from ≤ length s → length places ≡ 64 → Sofar s from used lent (first from used) places lent
 unfolding fresh brackets
@@ -65,6 +67,8 @@ start s from used lent places l k =
       grown = omega arith;
       small = rw part-none (omega arith);
       deep = omega arith;
+      equals-in = omega arith;
+      bang-in = omega arith;
       full = k;
     }
 
@@ -84,6 +88,8 @@ module _ {s : List ℕ} {from used : ℕ} {lent : List ℕ} {f : State} {places 
         text = omega (arith, h .grown, h .small, h .within, length-append (h .written) (pending s f));
         spaces = omega (arith, h .small, h .within);
         deep = h .deep;
+        equals-in = h .equals-in;
+        bang-in = h .bang-in;
         small = l;
       }
 
@@ -111,6 +117,8 @@ module _ {s : List ℕ} {from used : ℕ} {lent : List ℕ} {f : State} {places 
           grown = omega (arith, w .grown, h .grown, length-append (h .written) (w .added));
           small = omega (arith, further .2, h .small);
           deep = w .deep;
+          equals-in = w .equals-in;
+          bang-in = w .bang-in;
           full = w .full ∙ h .full;
         }
 
@@ -140,6 +148,8 @@ module _ {s : List ℕ} {from used : ℕ} {lent : List ℕ} {f : State} {places 
           wrote = t .wrote ∙ rw (h .wrote, h .grown) (over-append lent used (h .written) (pending s f));
           grown = omega (arith, h .grown, length-append (h .written) (pending s f));
           small = h .small;
+          equals-in = h .equals-in;
+          bang-in = h .bang-in;
         }
 
   pub formats : {b : Head} {text′ : List ℕ} → Stopped fieldMove calls s f b places text text′ → EndedIs s from used b 1 lent text′
@@ -189,7 +199,7 @@ module _ (s : List ℕ) (from used : ℕ) (lent places text : List ℕ) (l : len
   So f = Sofar s from used lent f places text
 
   -- over one of them
-  past-one : (f : State) → So f → f .at < length s → f .documented ≡ false → passing (byte s (f .at)) ≡ true → So (keptTo f (f .at + 1) (f .depth) false)
+  past-one : (f : State) → So f → f .at < length s → isMarked (f .equals) ≡ false → passing (byte s (f .at)) ≡ true → So (keptTo f (f .at + 1) (f .depth) false)
   past-one f h i d p =
       let b = byte s (f .at) in
       let a = passing-ascii b p in
@@ -198,7 +208,7 @@ module _ (s : List ℕ) (from used : ℕ) (lent places text : List ℕ) (l : len
       (λ e. plain-goes fits places e (rw d (passing-case s (f .at) i p (eqb (f .depth) 0))) (rw (not-blank s (f .at) i p) (sym (and-false (f .blank))))))
 
   -- over several
-  past-many : (n : ℕ) (f : State) → So f → f .documented ≡ false → f .at + suc n ≤ length s → ((k : ℕ) → f .at ≤ k → k < f .at + suc n → passing (byte s k) ≡ true) → So (keptTo f (f .at + suc n) (f .depth) false)
+  past-many : (n : ℕ) (f : State) → So f → isMarked (f .equals) ≡ false → f .at + suc n ≤ length s → ((k : ℕ) → f .at ≤ k → k < f .at + suc n → passing (byte s k) ≡ true) → So (keptTo f (f .at + suc n) (f .depth) false)
   past-many zero f h d i p = past-one f h (omega arith) d (p (f .at) (omega arith) (omega arith))
   past-many (suc n) f h d i p =
       let e : f .at + 1 + suc n ≡ f .at + suc (suc n) = omega arith in

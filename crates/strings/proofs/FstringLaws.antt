@@ -11,7 +11,7 @@ use Rattle.definition.specs.Chars.{_is_, part, atEnd, code, next}
 use Rattle.definition.specs.Numbers.{unclosedLbrace, emptyExpression, expressionNestedTooDeeply, inField}
 use Rattle.definition.specs.Escapes as d
 use Rattle.definition.specs.Escapes.{Fault, fault, detail, got, refused}
-use Rattle.definition.specs.Body.{Piece, field, spec, filled, direct, Field, fresh, Move, calls, ends, textCase, textMove, textN, fieldN, specN, enough, conversionOf, fieldPieces, selfDocumenting, finished, specified, firstEnd}
+use Rattle.definition.specs.Body.{Signs, signs, withColon, withClose, formatted, Piece, field, spec, filled, direct, Field, fresh, Move, calls, ends, textCase, textMove, textN, fieldN, specN, enough, conversionOf, fieldPieces, selfDocumenting, finished, specified, firstEnd}
 use Rattle.definition.specs.Records.{Item, item, itemOf, covers, wordsOf, recordAt}
 use Rattle.utf8.specs.declared.Cursor.{Cursor}
 use Rattle.buffers.specs.Over.{over}
@@ -21,6 +21,8 @@ use Rattle.strings.specs.declared.emit.Sink.{Sink}
 use Rattle.strings.specs.declared.field.Head.{Head}
 use Rattle.strings.specs.declared.fstring.Read.{Read}
 use Rattle.strings.specs.declared.fstring.Read.the-variants.{Done, Refused}
+use Rattle.strings.specs.declared.fstring.End.{End}
+use Rattle.strings.specs.declared.fstring.End.the-variants as end
 use Rattle.strings.specs.Emit as E
 use Rattle.strings.specs.Emit.{bit, emits, reserved, filledIn}
 use Rattle.strings.specs.Sinks.{wholeOf, outOf, isHeld, loadOf, Fits, Emits, specWords}
@@ -33,10 +35,10 @@ use Rattle.strings.specs.Text.{refusal, faultOf, StopsBy}
 use Rattle.strings.proofs.SinkLaws.{emits-both, grown}
 use Rattle.definition.proofs.Steps.{firstPiece}
 use Rattle.definition.proofs.Whole.{text-stop, text-end, text-field, text-field-stop, field-end, field-spec, field-spec-stop, spec-text, spec-end}
-use Rattle.definition.proofs.Fuel.{Reading, text-reading, field-reading, first-in}
+use Rattle.definition.proofs.Fuel.{Reading, text-reading, field-reading, spec-reading, first-in}
 use Rattle.definition.proofs.Depths.{spec-apart}
 use Rattle.definition.proofs.Prefix.{following, text-prefix}
-use Rattle.strings.specs.FieldTurns.{headState, HeadIs, EndedIs}
+use Rattle.strings.specs.FieldTurns.{isMarked, headState, HeadIs, EndedIs}
 
 part-length : (s : List ℕ) (i j : ℕ) → j ≤ length s → length (part s i j) ≡ j - i
 part-length s i j h = omega (arith, length-take (j - i) (drop i s), length-drop i s)
@@ -48,16 +50,16 @@ pub record Gave (more : List Piece → List Piece) (read : d.Read (List Piece)) 
   pub emits : Emits fr depth (more pieces) words text words′ text′ k r
 
 module _ (more : List Piece → List Piece) (fr : Frame) (depth : ℕ) (words text words′ text′ : List ℕ) (k : Sink) where
-  pub gave : (read : d.Read (List Piece)) (at : Cursor) (r : Sink) → Written more read fr depth words text words′ text′ k (Done at r) → Gave more read fr depth words text words′ text′ k (at .at) r
-  gave (got ps j) at r h = record { pieces = ps; reads = ap (λ n. got ps n) (sym (h .0)); emits = h .1 }
-  gave (refused y) at r h = absurd h
+  pub gave : (read : d.Read (List Piece)) (at : Cursor) (r : Sink) (n : ℕ) → Written more read fr depth words text words′ text′ k (Done at r n) → Gave more read fr depth words text words′ text′ k (at .at) r
+  gave (got ps j) at r n h = record { pieces = ps; reads = ap (λ n. got ps n) (sym (h .0)); emits = h .1 }
+  gave (refused y) at r n h = absurd h
 
   pub refuses : (read : d.Read (List Piece)) (x : Refusal) → Written more read fr depth words text words′ text′ k (Refused x) → read ≡ refused (faultOf x)
   refuses (got ps j) x h = absurd h
   refuses (refused y) x h = sym (ap (λ z. refused (faultOf z)) h)
 
-  pub to-give : (read : d.Read (List Piece)) (ps : List Piece) (at : Cursor) (r : Sink) → read ≡ got ps (at .at) → Emits fr depth (more ps) words text words′ text′ k r → Written more read fr depth words text words′ text′ k (Done at r)
-  to-give read ps at r e h = rw e (refl, h)
+  pub to-give : (read : d.Read (List Piece)) (ps : List Piece) (at : Cursor) (r : Sink) (n : ℕ) → read ≡ got ps (at .at) → Emits fr depth (more ps) words text words′ text′ k r → Written more read fr depth words text words′ text′ k (Done at r n)
+  to-give read ps at r n e h = rw e (refl, h)
 
   pub to-refuse : (read : d.Read (List Piece)) (x : Refusal) → read ≡ refused (faultOf x) → Written more read fr depth words text words′ text′ k (Refused x)
   to-refuse read x e = rw e refl
@@ -71,9 +73,9 @@ spec-words : (fr : Frame) (n used : ℕ) (P : List ℕ → Type 0) → P (wordsO
 unfolding itemOf item wordsOf recordAt
 spec-words fr n used P h = h
 
-field-inner : (fr : Frame) (depth : ℕ) (ex : List ℕ) (c n at : ℕ) → covers (itemOf (fr .kind) (fr .start) (fr .end) (fr .base) (field depth ex c n at) .role) ≡ false
+field-inner : (fr : Frame) (depth : ℕ) (ex : List ℕ) (c n at : ℕ) (g : Signs) → covers (itemOf (fr .kind) (fr .start) (fr .end) (fr .base) (field depth ex c n at g) .role) ≡ false
 unfolding itemOf item covers
-field-inner fr depth ex c n at = refl
+field-inner fr depth ex c n at g = refl
 
 -- A SPEC: its record is filled in once its parts are emitted
 pub spec-done : (fr : Frame) (depth : ℕ) (ps : List Piece) (words text words₁ text₁ words₂ : List ℕ) (k a b r : Sink)
@@ -131,83 +133,113 @@ unfolding conversionOf
 converted-some true c ps = refl
 converted-some false c ps = refl
 
--- the pieces of a field before its spec, and all of them
-abbrev pub before-spec : ℕ → List ℕ → Head → ℕ → ℕ → List Piece
-before-spec depth ex h parts at = selfDocumenting depth (h .documented) ex (h .spaces) ++ (field depth ex (converted (h .documented) (h .conversion) parts) parts at ∷ [])
+-- the pieces of a field before its spec, and its signs at its end
+abbrev pub before-spec : ℕ → List ℕ → Head → ℕ → ℕ → Signs → List Piece
+before-spec depth ex h parts at g =
+    selfDocumenting depth (isMarked (h .equals)) ex (h .spaces) ++ (field depth ex (converted (isMarked (h .equals)) (h .conversion) parts) parts at g ∷ [])
+
+abbrev pub signsOf : Head → (colon close : ℕ) → Signs
+signsOf h colon close = signs (h .equals) (h .bang) colon close
 
 module _ (s : List ℕ) (depth from : ℕ) (ex : List ℕ) (h : Head) where
-  pub finished-plain : (j : ℕ) → h .blank ≡ false → finished depth from j (headState ex h) none ≡ got (before-spec depth ex h 0 from) j
-  unfolding finished fieldPieces
-  finished-plain j b = rw (b, converted-none (h .documented) (h .conversion))
+  finished-plain : (j : ℕ) → h .blank ≡ false → finished depth from j (headState ex h) none ≡ got (before-spec depth ex h 0 from (signsOf h 0 j)) j
+  unfolding finished fieldPieces withClose
+  finished-plain j b = rw (b, converted-none (isMarked (h .equals)) (h .conversion))
 
-  finished-formatted : (j : ℕ) (ps : List Piece) → h .blank ≡ false → finished depth from j (headState ex h) (some ps) ≡ got (before-spec depth ex h 1 from ++ (spec (direct (suc depth) ps) ∷ ps)) j
-  unfolding finished fieldPieces
-  finished-formatted j ps b =
-      rw (b, converted-some (h .documented) (h .conversion) ps)
-      (ap (λ l. got l j) (sym (append-assoc (selfDocumenting depth (h .documented) ex (h .spaces)) (field depth ex (conversionOf (h .documented) (h .conversion) (some ps)) 1 from ∷ []) (spec (direct (suc depth) ps) ∷ ps))))
+  module _ (colon : ℕ) (ps : List Piece) where
+    -- all pieces of a field that ends after its spec
+    abbrev pub with-spec : ℕ → List Piece
+    with-spec close = before-spec depth ex h 1 from (signsOf h colon close) ++ (spec (direct (suc depth) ps) ∷ ps)
 
-  finished-blank : (j : ℕ) (p : Option (List Piece)) → h .blank ≡ true → finished depth from j (headState ex h) p ≡ refused (fault emptyExpression j)
-  unfolding finished
-  finished-blank j p b = rw b
+    finished-formatted : (j : ℕ) → h .blank ≡ false → finished depth from j (formatted colon (headState ex h)) (some ps) ≡ got (with-spec j) j
+    unfolding finished fieldPieces formatted withColon withClose
+    finished-formatted j b =
+        rw (b, converted-some (isMarked (h .equals)) (h .conversion) ps)
+        (ap (λ l. got l j) (sym (append-assoc (selfDocumenting depth (isMarked (h .equals)) ex (h .spaces)) (field depth ex (conversionOf (isMarked (h .equals)) (h .conversion) (some ps)) 1 from (signsOf h colon j) ∷ []) (spec (direct (suc depth) ps) ∷ ps))))
 
-  -- the end of a field after its spec
-  specified-end : (j : ℕ) (ps : List Piece) → atEnd s j ≡ true → specified s depth from j (headState ex h) ps ≡ refused (detail unclosedLbrace j inField)
-  unfolding specified
-  specified-end j ps e = rw e
+    finished-blank : (j : ℕ) → h .blank ≡ true → finished depth from j (formatted colon (headState ex h)) (some ps) ≡ refused (fault emptyExpression j)
+    unfolding finished formatted
+    finished-blank j b = rw b
 
-  specified-on : (j : ℕ) (ps : List Piece) → atEnd s j ≡ false → specified s depth from j (headState ex h) ps ≡ finished depth from (next s j) (headState ex h) (some ps)
-  unfolding specified
-  specified-on j ps e = rw e
+    -- the end of a field after its spec
+    specified-end : (j : ℕ) → atEnd s j ≡ true → specified s depth from j (formatted colon (headState ex h)) ps ≡ refused (detail unclosedLbrace j inField)
+    unfolding specified
+    specified-end j e = rw e
 
-  pub ended-field : (fr : Frame) (words text words′ text′ : List ℕ) (k b : Sink) (ps : List Piece) (at : Cursor) (read : d.Read (List Piece))
-      → read ≡ specified s depth from (at .at) (headState ex h) ps
-      → Emits fr depth (before-spec depth ex h 1 from ++ (spec (direct (suc depth) ps) ∷ ps)) words text words′ text′ k b
-      → ReadIs read fr depth words text words′ text′ k (fieldEnd s (at .at) (h .blank) b)
-  ended-field fr words text words′ text′ k b ps at read e m = go (atEnd s (at .at)) (h .blank) refl refl
-    where
-      j : ℕ
-      j = at .at
+    specified-on : (j : ℕ) → atEnd s j ≡ false → specified s depth from j (formatted colon (headState ex h)) ps ≡ finished depth from (next s j) (formatted colon (headState ex h)) (some ps)
+    unfolding specified
+    specified-on j e = rw e
 
-      go : (x y : Bool) → atEnd s j ≡ x → h .blank ≡ y → ReadIs read fr depth words text words′ text′ k (fieldEnd s j (h .blank) b)
-      go true y p q = rw p (to-refuse (λ l. l) fr depth words text words′ text′ k read (refusal (detail unclosedLbrace j inField)) (e ∙ specified-end j ps p))
-      go false true p q =
-          rw (p, q)
-          (to-refuse (λ l. l) fr depth words text words′ text′ k read (refusal (fault emptyExpression (next s j))) (e ∙ specified-on j ps p ∙ finished-blank (next s j) (some ps) q))
-      go false false p q =
-          rw (p, q)
-          (to-give (λ l. l) fr depth words text words′ text′ k read (before-spec depth ex h 1 from ++ (spec (direct (suc depth) ps) ∷ ps)) (record { at = next s j }) b (e ∙ specified-on j ps p ∙ finished-formatted (next s j) ps q) m)
+    abbrev Ends : ℕ → End → Type 0
+    Ends j (end.At q) = (specified s depth from j (formatted colon (headState ex h)) ps ≡ got (with-spec (q .at)) (q .at)) × (q .at ≤ length s)
+    Ends j (end.Refused x) = specified s depth from j (formatted colon (headState ex h)) ps ≡ refused (faultOf x)
 
--- a field whose spec was read, and which ends or is refused there
-pub specified-field : (s : List ℕ) (depth from used : ℕ) (fr : Frame) (words text text₁ words₁ text₂ words′ text′ : List ℕ) (k a b : Sink) (h : Head) (at : Cursor) (r : Read)
-    (c : HeadIs calls s from used h text text₁)
-    → Emits fr depth (before-spec depth (c .expression) h 1 from) words text words₁ text₂ k a
-    → Gave (λ ps. spec (direct (suc depth) ps) ∷ ps) (specN (enough s) (fr .kind) s depth (h .at .at)) fr depth words₁ text₂ words′ text′ a (at .at) b
-    → r ≡ fieldEnd s (at .at) (h .blank) b
-    → ReadIs (fieldN (enough s) (fr .kind) s depth from from fresh) fr depth words text words′ text′ k r
-specified-field s depth from used fr words text text₁ words₁ text₂ words′ text′ k a b h at r c m G e =
-    subst (λ x. ReadIs read fr depth words text words′ text′ k x) (sym e)
-    (ended-field s depth from (c .expression) h fr words text words′ text′ k b (G .pieces) at read
-    (c .same (fr .kind) depth ∙ field-spec (fr .kind) s depth from (c .place) (headState (c .expression) h) (c .there) (c .moves) (G .pieces) (at .at) (ap (specN (enough s) (fr .kind) s depth) (sym (c .after)) ∙ G .reads))
-    (emits-both fr depth (before-spec depth (c .expression) h 1 from) (spec (direct (suc depth) (G .pieces)) ∷ G .pieces) words text words₁ text₂ words′ text′ k a b m (G .emits)))
-  where
-    read : d.Read (List Piece)
-    read = fieldN (enough s) (fr .kind) s depth from from fresh
+    pub ended : (j : ℕ) → j ≤ length s → Ends j (fieldEnd s j (h .blank))
+    ended j l = go (atEnd s j) refl (h .blank) refl
+      where
+        go : (x : Bool) → atEnd s j ≡ x → (y : Bool) → h .blank ≡ y → Ends j (fieldEnd s j y)
+        go true p y q = rw p (specified-end j p)
+        go false p true q = rw p (specified-on j p ∙ finished-blank (next s j) q)
+        go false p false q = rw p (specified-on j p ∙ finished-formatted (next s j) q, next-in s j l)
 
 -- a head that no `}` ended has one part
 pub one-part : (s : List ℕ) (from used : ℕ) (h : Head) (parts : ℕ) (text text′ : List ℕ) → EndedIs s from used h parts text text′ → (parts ≡ 0 → ⊥) → parts ≡ 1
 one-part s from used h parts text text′ c n = omega (arith, c .few)
 
--- a field that its `}` ends
-pub closed-field : (s : List ℕ) (depth from used : ℕ) (fr : Frame) (words text words′ text₁ text′ : List ℕ) (k r : Sink) (h : Head) → (c : EndedIs s from used h 0 text text₁)
-    → Emits fr depth (before-spec depth (c .head .expression) h 0 from) words text words′ text′ k r
-    → ReadIs (fieldN (enough s) (fr .kind) s depth from from fresh) fr depth words text words′ text′ k (Done (h .at) r)
-closed-field s depth from used fr words text words′ text₁ text′ k r h c m =
-    to-give (λ l. l) fr depth words text words′ text′ k (fieldN (enough s) (fr .kind) s depth from from fresh) (before-spec depth (c .head .expression) h 0 from) (h .at) r
-    (c .head .same (fr .kind) depth
-    ∙ field-end (fr .kind) s depth from (c .head .place) (headState (c .head .expression) h) (c .head .moves)
-    ∙ finished-plain s depth from (c .head .expression) h (next s (c .head .place)) (c .full refl)
-    ∙ ap (λ n. got (before-spec depth (c .head .expression) h 0 from) n) (sym (c .head .after)))
-    m
+-- A FIELD THAT ITS `}` ENDS
+module _ (s : List ℕ) (depth from used : ℕ) (fr : Frame) (text text₁ : List ℕ) (h : Head) (c : EndedIs s from used h 0 text text₁) where
+  abbrev pub closed-pieces : List Piece
+  closed-pieces = before-spec depth (c .head .expression) h 0 from (signsOf h 0 (h .at .at))
+
+  pub closed-reads : fieldN (enough s) (fr .kind) s depth from from fresh ≡ got closed-pieces (h .at .at)
+  closed-reads =
+      c .head .same (fr .kind) depth
+      ∙ field-end (fr .kind) s depth from (c .head .place) (headState (c .head .expression) h) (c .head .moves)
+      ∙ finished-plain s depth from (c .head .expression) h (next s (c .head .place)) (c .full refl)
+      ∙ ap (λ n. got (before-spec depth (c .head .expression) h 0 from (signsOf h 0 n)) n) (sym (c .head .after))
+
+  pub closed-field : (words words′ text′ : List ℕ) (k r : Sink) (n : ℕ) → Emits fr depth closed-pieces words text words′ text′ k r
+      → ReadIs (fieldN (enough s) (fr .kind) s depth from from fresh) fr depth words text words′ text′ k (Done (h .at) r n)
+  closed-field words words′ text′ k r n m =
+      to-give (λ l. l) fr depth words text words′ text′ k (fieldN (enough s) (fr .kind) s depth from from fresh) closed-pieces (h .at) r n closed-reads m
+
+-- A FIELD WHOSE SPEC WAS READ up to j, as far as its pieces ps
+module _ (s : List ℕ) (depth from used : ℕ) (fr : Frame) (text text₁ : List ℕ) (h : Head) (c : HeadIs calls s from used h text text₁) where
+  abbrev reading : d.Read (List Piece)
+  reading = fieldN (enough s) (fr .kind) s depth from from fresh
+
+  module _ (ps : List Piece) (j : ℕ) (e : specN (enough s) (fr .kind) s depth (h .at .at) ≡ got ps j) where
+    abbrev pub spec-pieces : ℕ → List Piece
+    spec-pieces close = with-spec s depth from (c .expression) h (h .at .at) ps close
+
+    to-end : reading ≡ specified s depth from j (formatted (h .at .at) (headState (c .expression) h)) ps
+    to-end =
+        c .same (fr .kind) depth
+        ∙ field-spec (fr .kind) s depth from (c .place) (headState (c .expression) h) (c .there) (c .moves) ps j (ap (specN (enough s) (fr .kind) s depth) (sym (c .after)) ∙ e)
+        ∙ ap (λ n. specified s depth from j (formatted n (headState (c .expression) h)) ps) (sym (c .after))
+
+    within : j ≤ length s
+    within =
+        let low : h .at .at ≤ length s = rw (c .after) (next-in s (c .place) (omega (arith, c .there))) in
+        (subst (λ x. Reading weight 0 s (h .at .at) x) e (spec-reading (enough s) (fr .kind) s depth (h .at .at) low (omega arith))) .0 .1
+
+    ends-at : (x : End) → x ≡ fieldEnd s j (h .blank) → Ends s depth from (c .expression) h (h .at .at) ps j x
+    ends-at x q = rw q (ended s depth from (c .expression) h (h .at .at) ps j within)
+
+    -- it is refused there, or ends
+    pub spec-unended : (x : Refusal) → end.Refused x ≡ fieldEnd s j (h .blank) → reading ≡ refused (faultOf x)
+    spec-unended x q = to-end ∙ ends-at (end.Refused x) q
+
+    pub spec-ended : (q : Cursor) → end.At q ≡ fieldEnd s j (h .blank) → (reading ≡ got (spec-pieces (q .at)) (q .at)) × (q .at ≤ length s)
+    spec-ended q p = let w = ends-at (end.At q) p in (to-end ∙ w .0, w .1)
+
+    pub specified-field : (q : Cursor) → end.At q ≡ fieldEnd s j (h .blank) → (words words₁ text₂ words′ text′ : List ℕ) (k a b : Sink) (n : ℕ)
+        → ((g : Signs) → Emits fr depth (before-spec depth (c .expression) h 1 from g) words text words₁ text₂ k a)
+        → Emits fr depth (spec (direct (suc depth) ps) ∷ ps) words₁ text₂ words′ text′ a b
+        → ReadIs reading fr depth words text words′ text′ k (Done q b n)
+    specified-field q p words words₁ text₂ words′ text′ k a b n m f =
+        to-give (λ l. l) fr depth words text words′ text′ k reading (spec-pieces (q .at)) q b n (spec-ended q p .0)
+        (emits-both fr depth (before-spec depth (c .expression) h 1 from (signsOf h (h .at .at) (q .at))) (spec (direct (suc depth) ps) ∷ ps) words text words₁ text₂ words′ text′ k a b (m (signsOf h (h .at .at) (q .at))) f)
 
 -- what a field's reading is, once its head was read up to a `:` and its spec gave something
 module _ (s : List ℕ) (depth from used : ℕ) (kind : ℕ) (text text₁ : List ℕ) (h : Head) (c : HeadIs calls s from used h text text₁) where
@@ -241,11 +273,11 @@ fits s i fr k h = record { small = omega (arith, h .load); ordered = h .ordered 
 
 -- what a field writes before its spec leaves room for the spec's record
 pub before-spec-light : (s : List ℕ) (depth from : ℕ) (ex : List ℕ) (h : Head) (parts place : ℕ) → fieldSize (headState ex h) + 4 * from ≤ 4 * place → place < length s
-    → weight (before-spec depth ex h parts from) + 4 * from + 1 ≤ 4 * next s place
+    → (g : Signs) → weight (before-spec depth ex h parts from g) + 4 * from + 1 ≤ 4 * next s place
 unfolding selfDocumenting
-before-spec-light s depth from ex h parts place l p = go (h .documented) refl (next-past s place p)
+before-spec-light s depth from ex h parts place l p g = go (isMarked (h .equals)) refl (next-past s place p)
   where
-    go : (b : Bool) → h .documented ≡ b → place < next s place → weight (before-spec depth ex h parts from) + 4 * from + 1 ≤ 4 * next s place
+    go : (b : Bool) → isMarked (h .equals) ≡ b → place < next s place → weight (before-spec depth ex h parts from g) + 4 * from + 1 ≤ 4 * next s place
     go true e n = let z = rw e at l in rw e (omega (arith, length-append ex (61 ∷ []), length-replicate {A = ℕ} (h .spaces) 32))
     go false e n = let z = rw e at l in rw e (omega arith)
 
@@ -255,18 +287,18 @@ pub record Small (h : Head) (used n : ℕ) : Type 0 where
   pub bounded : h .used + h .spaces ≤ used + 2 * n
 
 pub small-head : (m : Move Field) (s : List ℕ) (from used : ℕ) (h : Head) (text text′ : List ℕ) → HeadIs m s from used h text text′ → Small h used (length s)
-small-head m s from used h text text′ c = go (h .documented) refl
+small-head m s from used h text text′ c = go (isMarked (h .equals)) refl
   where
-    go : (b : Bool) → h .documented ≡ b → Small h used (length s)
+    go : (b : Bool) → isMarked (h .equals) ≡ b → Small h used (length s)
     go true e = let z = rw e at (c .small) in record { more = omega (arith, c .grown); bounded = omega (arith, c .grown, c .there) }
     go false e = let z = rw e at (c .small) in record { more = omega (arith, c .grown); bounded = omega (arith, c .grown, c .there) }
 
 -- nothing is held after a field
-pub free-field : (fr : Frame) (depth : ℕ) (ex : List ℕ) (h : Head) (parts at : ℕ) (words text words′ text′ : List ℕ) (k r : Sink)
-    → Emits fr depth (before-spec depth ex h parts at) words text words′ text′ k r → isHeld r ≡ false
-free-field fr depth ex h parts at words text words′ text′ k r m =
+pub free-field : (fr : Frame) (depth : ℕ) (ex : List ℕ) (h : Head) (parts at : ℕ) (g : Signs) (words text words′ text′ : List ℕ) (k r : Sink)
+    → Emits fr depth (before-spec depth ex h parts at g) words text words′ text′ k r → isHeld r ≡ false
+free-field fr depth ex h parts at g words text words′ text′ k r m =
     ap (λ o. o .held) (m .out ∙ ap (λ xs. emits w xs (outOf k words text)) (map-append f front last) ∙ emits-append w (map f front) (map f last) (outOf k words text))
-    ∙ put-free w (f (field depth ex (converted (h .documented) (h .conversion) parts) parts at)) (emits w (map f front) (outOf k words text)) (field-inner fr depth ex (converted (h .documented) (h .conversion) parts) parts at)
+    ∙ put-free w (f (field depth ex (converted (isMarked (h .equals)) (h .conversion) parts) parts at g)) (emits w (map f front) (outOf k words text)) (field-inner fr depth ex (converted (isMarked (h .equals)) (h .conversion) parts) parts at g)
   where
     w : E.Whole
     w = wholeOf (fr .whole)
@@ -275,24 +307,28 @@ free-field fr depth ex h parts at words text words′ text′ k r m =
     f = itemOf (fr .kind) (fr .start) (fr .end) (fr .base)
 
     front : List Piece
-    front = selfDocumenting depth (h .documented) ex (h .spaces)
+    front = selfDocumenting depth (isMarked (h .equals)) ex (h .spaces)
 
     last : List Piece
-    last = field depth ex (converted (h .documented) (h .conversion) parts) parts at ∷ []
+    last = field depth ex (converted (isMarked (h .equals)) (h .conversion) parts) parts at g ∷ []
 
 -- THE LOOP OF TEXT
 pub start : (s : List ℕ) (kind depth at : ℕ) (fr : Frame) (words text : List ℕ) (k : Sink) → Room s at fr k → Sofar s kind depth at fr words text words text k at k
 unfolding emits direct
 start s kind depth at fr words text k h = record { pieces = []; same = refl; emitted = record { out = refl; parts = omega arith }; room = h; later = omega arith }
 
+pub start-pieces : (s : List ℕ) (kind depth at : ℕ) (fr : Frame) (words text : List ℕ) (k : Sink) (h : Room s at fr k) → start s kind depth at fr words text k h .pieces ≡ []
+unfolding start
+start-pieces s kind depth at fr words text k h = refl
+
 module _ (s : List ℕ) (depth at : ℕ) (fr : Frame) (words text words₁ text₁ : List ℕ) (k : Sink) (i : ℕ) (a : Sink) (S : Sofar s (fr .kind) depth at fr words text words₁ text₁ k i a) where
   -- text up to i′, which is emitted if it is not empty
   module _ (i′ end : ℕ) (m : Move (List ℕ)) (text₂ : List ℕ) (R : StopsBy m (fr .kind) s depth i (a .used) text₁ text₂ i′ end) (words₂ : List ℕ) (b : Sink)
       (g : (t T : List ℕ) → end ≡ a .used + length t → Emits fr depth (filled depth t) words₁ T words₂ (over T (a .used) t) a b) where
-    abbrev content : List ℕ
+    abbrev pub content : List ℕ
     content = R .upto .content
 
-    one : Emits fr depth (filled depth content) words₁ text₁ words₂ text₂ a b
+    pub one : Emits fr depth (filled depth content) words₁ text₁ words₂ text₂ a b
     one = subst (λ x. Emits fr depth (filled depth content) words₁ text₁ words₂ x a b) (sym (R .upto .wrote)) (g content text₁ (R .upto .ended))
 
     all : Emits fr depth (S .pieces ++ filled depth content) words text words₂ text₂ k b
@@ -305,11 +341,12 @@ module _ (s : List ℕ) (depth at : ℕ) (fr : Frame) (words text words₁ text�
     room-text j l n = room-on s i j depth fr (filled depth content) words₁ text₁ words₂ text₂ a b one (S .room) (omega (arith, R .upto .ahead)) n (omega (arith, filled-light depth content, R .upto .light))
 
     -- the text ends there
-    pub text-over : (n : Cursor) → n .at ≡ i′ → m ≡ ends → ReadIs (textN (enough s) (fr .kind) s depth at [] []) fr depth words text words₂ text₂ k (Done n b)
-    text-over n e h =
-        to-give (λ l. l) fr depth words text words₂ text₂ k (textN (enough s) (fr .kind) s depth at [] []) (S .pieces ++ filled depth content) n b
-        (same ∙ text-end (fr .kind) s depth i′ content (S .pieces) (R .move ∙ h) ∙ ap (got (S .pieces ++ filled depth content)) (sym e))
-        all
+    pub over-reads : (j : ℕ) → j ≡ i′ → m ≡ ends → textN (enough s) (fr .kind) s depth at [] [] ≡ got (S .pieces ++ filled depth content) j
+    over-reads j e h = same ∙ text-end (fr .kind) s depth i′ content (S .pieces) (R .move ∙ h) ∙ ap (got (S .pieces ++ filled depth content)) (sym e)
+
+    pub text-over : (q : Cursor) (n : ℕ) → q .at ≡ i′ → m ≡ ends → ReadIs (textN (enough s) (fr .kind) s depth at [] []) fr depth words text words₂ text₂ k (Done q b n)
+    text-over q n e h =
+        to-give (λ l. l) fr depth words text words₂ text₂ k (textN (enough s) (fr .kind) s depth at [] []) (S .pieces ++ filled depth content) q b n (over-reads (q .at) e h) all
 
     -- a field opens there, which is refused
     pub field-refused : (f : ℕ) (x : Refusal) → m ≡ calls → i′ < length s → f ≡ next s i′
@@ -351,6 +388,12 @@ module _ (s : List ℕ) (depth at : ℕ) (fr : Frame) (words text words₁ text�
         light : weight (G .pieces) + 4 * f ≤ 0 + 4 * j
         light = both .1
 
+    pub read-pieces : (f : ℕ) (h : m ≡ calls) (l : i′ < length s) (e : f ≡ next s i′) (words′ text′ : List ℕ) (j : ℕ) (r : Sink)
+        (G : Gave (λ l. l) (fieldN (enough s) (fr .kind) s depth f f fresh) fr depth words₂ text₂ words′ text′ b j r)
+        → field-read f h l e words′ text′ j r G .pieces ≡ S .pieces ++ filled depth content ++ G .pieces
+    unfolding field-read
+    read-pieces f h l e words′ text′ j r G = refl
+
     -- past where the text began
     pub field-further : (f : ℕ) → i′ < length s → f ≡ next s i′ → (words′ text′ : List ℕ) (j : ℕ) (r : Sink)
         → Gave (λ l. l) (fieldN (enough s) (fr .kind) s depth f f fresh) fr depth words₂ text₂ words′ text′ b j r → (i < j) × (j ≤ length s)
@@ -386,17 +429,17 @@ pub record SpecRoom (s : List ℕ) (from at : ℕ) (fr : Frame) (a : Sink) : Typ
   pub further : from < at
 
 pub spec-room : (s : List ℕ) (depth from used : ℕ) (fr : Frame) (words text words′ text₁ text′ : List ℕ) (k a : Sink) (h : Head) (c : HeadIs calls s from used h text text₁)
-    → Room s from fr k → Emits fr depth (before-spec depth (c .expression) h 1 from) words text words′ text′ k a → SpecRoom s from (h .at .at) fr a
-spec-room s depth from used fr words text words′ text₁ text′ k a h c R m =
+    → Room s from fr k → (g : Signs) → Emits fr depth (before-spec depth (c .expression) h 1 from g) words text words′ text′ k a → SpecRoom s from (h .at .at) fr a
+spec-room s depth from used fr words text words′ text₁ text′ k a h c R g m =
     record {
       room = room-on s from (h .at .at) depth fr ps words text words′ text′ k a m R (omega (arith, c .later, past)) low (omega (arith, light));
-      free = free-field fr depth (c .expression) h 1 from words text words′ text′ k a m;
+      free = free-field fr depth (c .expression) h 1 from g words text words′ text′ k a m;
       strict = omega (arith, grown fr depth ps words text words′ text′ k a m .load, R .load, R .low, light, low);
       further = omega (arith, c .later, past);
     }
   where
     ps : List Piece
-    ps = before-spec depth (c .expression) h 1 from
+    ps = before-spec depth (c .expression) h 1 from g
 
     past : c .place < h .at .at
     past = rw (c .after) (next-past s (c .place) (c .there))
@@ -405,11 +448,12 @@ spec-room s depth from used fr words text words′ text₁ text′ k a h c R m =
     low = rw (c .after) (next-in s (c .place) (omega (arith, c .there)))
 
     light : weight ps + 4 * from + 1 ≤ 4 * h .at .at
-    light = rw (c .after) (before-spec-light s depth from (c .expression) h 1 (c .place) (c .small) (c .there))
+    light = rw (c .after) (before-spec-light s depth from (c .expression) h 1 (c .place) (c .small) (c .there) g)
 
 -- a place kept for a spec
 pub record Kept (k a : Sink) : Type 0 where
   pub used : a .used ≡ k .used
+  pub count : a .count ≡ k .count + 1
   pub load : loadOf a ≤ loadOf k + 1
   pub ordered : k .from ≤ k .used → a .from ≤ a .used
 
@@ -419,6 +463,7 @@ kept k a e z =
     let o = e [] [] in
     record {
       used = ap (λ x. x .used) o;
+      count = ap (λ x. x .count) o;
       load = omega (arith, ap (λ x. x .count) o, ap (λ x. x .used) o, ap (λ x. bit (x .held)) o, z);
       ordered = λ h. rw (ap (λ x. x .from) o, ap (λ x. x .used) o) h;
     }
@@ -451,17 +496,20 @@ module _ (s : List ℕ) (depth i : ℕ) (fr : Frame) (words text words₁ text�
     spec-filled : (ps : List Piece) (n : ℕ) (words₂ text₂ words₃ : List ℕ) (c r : Sink)
         → specN (enough s) (fr .kind) s depth i ≡ got ps n → Emits fr (suc depth) ps words text words₂ text₂ a c
         → ((T : List ℕ) → outOf r words₃ T ≡ filledIn (k .count) (specWords fr (k .used) (c .parts)) (outOf c words₂ T)) → r .parts ≡ k .parts
-        → (to : Cursor) → to .at ≡ n → SpecIs (specN (enough s) (fr .kind) s depth i) fr depth words text words₃ text₂ k (Done to r)
-    spec-filled ps n words₂ text₂ words₃ c r e m f p to w =
-        to-give (λ ps. spec (direct (suc depth) ps) ∷ ps) fr depth words text words₃ text₂ k (specN (enough s) (fr .kind) s depth i) ps to r
+        → (to : Cursor) (fields : ℕ) → to .at ≡ n → SpecIs (specN (enough s) (fr .kind) s depth i) fr depth words text words₃ text₂ k (Done to r fields)
+    spec-filled ps n words₂ text₂ words₃ c r e m f p to fields w =
+        to-give (λ ps. spec (direct (suc depth) ps) ∷ ps) fr depth words text words₃ text₂ k (specN (enough s) (fr .kind) s depth i) ps to r fields
         (e ∙ ap (got ps) (sym w))
         (spec-done fr depth ps words text words₂ text₂ words₃ k a c r free (spec-apart (enough s) (fr .kind) s depth i ps n e) res z m f p)
 
-    pub spec-plain : (words₂ : List ℕ) (r : Sink) (to : Cursor) → to .at ≡ j → (code s j is "{") ≡ false
+    pub plain-reads : (n : ℕ) → n ≡ j → (code s j is "{") ≡ false → specN (enough s) (fr .kind) s depth i ≡ got (firstPiece s depth i) n
+    plain-reads n w c = spec-end (fr .kind) s depth i (ap (λ n. code s n is "{") (sym at) ∙ c) ∙ ap (got (firstPiece s depth i)) (sym (w ∙ at))
+
+    pub spec-plain : (words₂ : List ℕ) (r : Sink) (to : Cursor) (fields : ℕ) → to .at ≡ j → (code s j is "{") ≡ false
         → ((T : List ℕ) → outOf r words₂ T ≡ filledIn (k .count) (specWords fr (k .used) (b .parts)) (outOf b words₁ T)) → r .parts ≡ k .parts
-        → SpecIs (specN (enough s) (fr .kind) s depth i) fr depth words text words₂ text₁ k (Done to r)
-    spec-plain words₂ r to w c f p =
-        spec-filled (firstPiece s depth i) (firstEnd s i) words₁ text₁ words₂ b r (spec-end (fr .kind) s depth i (ap (λ n. code s n is "{") (sym at) ∙ c)) first-emits f p to (w ∙ at)
+        → SpecIs (specN (enough s) (fr .kind) s depth i) fr depth words text words₂ text₁ k (Done to r fields)
+    spec-plain words₂ r to fields w c f p =
+        spec-filled (firstPiece s depth i) (to .at) words₁ text₁ words₂ b r (plain-reads (to .at) w c) first-emits f p to fields refl
 
     -- the counters once its parts are emitted
     pub spec-fits : (words₂ text₂ : List ℕ) (b′ : Sink) (to : ℕ)
@@ -477,14 +525,16 @@ module _ (s : List ℕ) (depth i : ℕ) (fr : Frame) (words text words₁ text�
       brace : (code s (firstEnd s i) is "{") ≡ true
       brace = ap (λ n. code s n is "{") (sym at) ∙ c
 
-      pub spec-braced : (words₂ text₂ words₃ : List ℕ) (b′ r : Sink) (to : Cursor)
+      pub braced-reads : (ps : List Piece) (n : ℕ) → textN (enough s) (fr .kind) s (suc depth) j [] [] ≡ got ps n → specN (enough s) (fr .kind) s depth i ≡ got (firstPiece s depth i ++ ps) n
+      braced-reads ps n e = spec-reads (fr .kind) s depth i (R .low) brace ps n (ap (λ n. textN (enough s) (fr .kind) s (suc depth) n [] []) (sym at) ∙ e)
+
+      pub spec-braced : (words₂ text₂ words₃ : List ℕ) (b′ r : Sink) (to : Cursor) (fields : ℕ)
           → Gave (λ l. l) (textN (enough s) (fr .kind) s (suc depth) j [] []) fr (suc depth) words₁ text₁ words₂ text₂ b (to .at) b′
           → ((T : List ℕ) → outOf r words₃ T ≡ filledIn (k .count) (specWords fr (k .used) (b′ .parts)) (outOf b′ words₂ T)) → r .parts ≡ k .parts
-          → SpecIs (specN (enough s) (fr .kind) s depth i) fr depth words text words₃ text₂ k (Done to r)
-      spec-braced words₂ text₂ words₃ b′ r to G f p =
-          spec-filled (firstPiece s depth i ++ G .pieces) (to .at) words₂ text₂ words₃ b′ r
-          (spec-reads (fr .kind) s depth i (R .low) brace (G .pieces) (to .at) (ap (λ n. textN (enough s) (fr .kind) s (suc depth) n [] []) (sym at) ∙ G .reads))
-          (emits-both fr (suc depth) (firstPiece s depth i) (G .pieces) words text words₁ text₁ words₂ text₂ a b b′ first-emits (G .emits)) f p to refl
+          → SpecIs (specN (enough s) (fr .kind) s depth i) fr depth words text words₃ text₂ k (Done to r fields)
+      spec-braced words₂ text₂ words₃ b′ r to fields G f p =
+          spec-filled (firstPiece s depth i ++ G .pieces) (to .at) words₂ text₂ words₃ b′ r (braced-reads (G .pieces) (to .at) (G .reads))
+          (emits-both fr (suc depth) (firstPiece s depth i) (G .pieces) words text words₁ text₁ words₂ text₂ a b b′ first-emits (G .emits)) f p to fields refl
 
       pub spec-refused : (words₂ text₂ : List ℕ) (x : Refusal) → textN (enough s) (fr .kind) s (suc depth) j [] [] ≡ refused (faultOf x)
           → SpecIs (specN (enough s) (fr .kind) s depth i) fr depth words text words₂ text₂ k (Refused x)

@@ -3,7 +3,9 @@ pub mod SinkLaws
 pub mod FieldLaws
 pub mod FieldLoop
 pub mod FstringLaws
+pub mod RowLaws
 pub mod ListLaws
+pub mod RowCalls
 pub mod TopLaws
 pub mod CallLaws
 pub mod One

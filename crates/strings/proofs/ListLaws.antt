@@ -80,12 +80,12 @@ pub string-refuses : (fr : Frame) (s words text words′ text′ : List ℕ) (k 
 unfolding readBody alone
 string-refuses fr s words text words′ text′ k x e h = rw (e, readBody, h) refl
 
-pub string-body : (fr : Frame) (s words text words′ text′ : List ℕ) (k r : Sink) (to : ℕ) → isFString (fr .kind) ≡ false
+pub string-body : (fr : Frame) (s words text words′ text′ : List ℕ) (k r : Sink) (to n : ℕ) → isFString (fr .kind) ≡ false
     → (c : Content s (stringN (enough s) (fr .kind) s 0 []) (k .used) text text′ to)
     → Emits fr 0 (literal 0 (c .content) ∷ []) words text words′ (over text (k .used) (c .content)) k r
-    → ReadIs (readBody (fr .kind) s) fr 0 words text words′ text′ k (Done (record { at = length s }) r)
+    → ReadIs (readBody (fr .kind) s) fr 0 words text words′ text′ k (Done (record { at = length s }) r n)
 unfolding readBody alone
-string-body fr s words text words′ text′ k r to e c h = rw (e, readBody, c .reads) (refl, rw (c .wrote) h)
+string-body fr s words text words′ text′ k r to n e c h = rw (e, readBody, c .reads) (refl, rw (c .wrote) h)
 
 -- a body's refusal stands in the body, and so does its bracket
 pub taken-in : (kind : ℕ) (s : List ℕ) (x : Fault) → readBody kind s ≡ refused x → (x .taken ≤ length s) × (x .opened ≤ length s)
@@ -205,9 +205,9 @@ module _ (script ns : List ℕ) (n : ℕ) (w : Whole) (words text : List ℕ) (P
         refuses-all = rw (refuses-first, take-literals ns 0 i n (omega arith)) refl
 
       -- its pieces
-      module _ (words″ text″ : List ℕ) (at : Cursor) (r : Sink) (H : ReadIs (readBody (l .kind) (body script (described l))) (frameOf l w) 0 words′ text′ words″ text″ k (Done at r)) where
-        G : Gave (λ ps. ps) (readBody (l .kind) (body script (described l))) (frameOf l w) 0 words′ text′ words″ text″ k (at .at) r
-        G = gave (λ ps. ps) (frameOf l w) 0 words′ text′ words″ text″ k (readBody (l .kind) (body script (described l))) at r H
+      module _ (words″ text″ : List ℕ) (at : Cursor) (r : Sink) (n′ : ℕ) (H : ReadIs (readBody (l .kind) (body script (described l))) (frameOf l w) 0 words′ text′ words″ text″ k (Done at r n′)) where
+        pub G : Gave (λ ps. ps) (readBody (l .kind) (body script (described l))) (frameOf l w) 0 words′ text′ words″ text″ k (at .at) r
+        G = gave (λ ps. ps) (frameOf l w) 0 words′ text′ words″ text″ k (readBody (l .kind) (body script (described l))) at r n′ H
 
         abbrev these : List Item
         these = map (itemOf (l .kind) (l .start) (l .end) (l .start + opening (described l))) (G .pieces)

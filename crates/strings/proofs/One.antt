@@ -5,11 +5,12 @@ use mathlib.Core.List.{List}
 use Prim.Native.Nat.{ℕ}
 use lib.ListN.{getD}
 use Rattle.definition.specs.Reading.{Call}
+use Rattle.definition.specs.Rows.{SignsCall}
 use Rattle.entry.specs.declared.Refusal.{Refusal}
 use Rattle.strings.specs.declared.Answer.{Answer}
 use Rattle.strings.specs.declared.Outcome.{Outcome}
 use Rattle.strings.specs.declared.Outcome.the-variants.{Accepted, Refused}
-use Rattle.strings.specs.Strings.{says, isAccepted, CallIs}
+use Rattle.strings.specs.Strings.{says, isAccepted, CallIs, SignsIs}
 
 answer-one : (x y : Answer) → says (Accepted x) ≡ says (Accepted y) → x ≡ y
 answer-one x y e =
@@ -27,3 +28,6 @@ says-one (Refused r) (Refused r′) a e = ap Refused (refusal-one r r′ e)
 
 pub call-one : (call : Call) (words text words′ text′ : List ℕ) (o p : Outcome) → CallIs call words text o → CallIs call words′ text′ p → o ≡ p
 call-one call words text words′ text′ o p c d = says-one o p (c .accepted ∙ sym (d .accepted)) (c .answer ∙ sym (d .answer))
+
+pub signs-one : (call : SignsCall) (rows rows′ : List ℕ) (o p : Outcome) → SignsIs call rows o → SignsIs call rows′ p → o ≡ p
+signs-one call rows rows′ o p c d = says-one o p (c .accepted ∙ sym (d .accepted)) (c .answer ∙ sym (d .answer))

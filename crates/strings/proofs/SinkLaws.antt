@@ -8,7 +8,7 @@ use lib.ListN.{length, length-append, take, replicate, length-replicate}
 use Rattle.definition.specs.Records.{Item, item, itemOf, inner, raw, top, covers, wordsOf, recordAt}
 use Rattle.definition.specs.Numbers.{isBytes}
 use Rattle.definition.specs.Chars.{if_then_else_, part}
-use Rattle.definition.specs.Body.{Piece, literal, field, spec, filled, direct, selfDocumenting}
+use Rattle.definition.specs.Body.{Signs, Piece, literal, field, spec, filled, direct, selfDocumenting}
 use Rattle.buffers.proofs.Over.{over-nil, over-append, over-before, over-part, over-again, length-over}
 use lib.Dec.{eqb}
 use borrow.Author.Tests.{eq-eqb, ne-eqb}
@@ -122,10 +122,10 @@ unfolding filled
 some-text depth [] n = absurd (n refl)
 some-text depth (b ∷ t) n = refl
 
-pub put-field : (fr : Frame) (depth conversion parts at place : ℕ) (t words words′ T : List ℕ) (k r : Sink) → place ≡ fr .base + at → Writes fr 2 conversion parts place t words words′ T k r
-    → Emits fr depth (field depth t conversion parts at ∷ []) words T words′ (over T (k .used) t) k r
+pub put-field : (fr : Frame) (depth conversion parts at place : ℕ) (g : Signs) (t words words′ T : List ℕ) (k r : Sink) → place ≡ fr .base + at → Writes fr 2 conversion parts place t words words′ T k r
+    → Emits fr depth (field depth t conversion parts at g ∷ []) words T words′ (over T (k .used) t) k r
 unfolding emits emit itemOf item covers direct
-put-field fr depth conversion parts at place t words words′ T k r e h =
+put-field fr depth conversion parts at place g t words words′ T k r e h =
     record {
       out = h .out ∙ ap (λ n. put (item inner 2 t (fr .start) (fr .end) conversion parts n) (closed (wholeOf (fr .whole)) (outOf k words T))) e;
       parts = h .parts-more ∙ one;
@@ -139,7 +139,7 @@ direct-append : (depth : ℕ) (ps qs : List Piece) → direct depth (ps ++ qs) �
 unfolding direct
 direct-append depth [] qs = omega arith
 direct-append depth (literal d t ∷ ps) qs = omega (arith, direct-append depth ps qs)
-direct-append depth (field d e c n i ∷ ps) qs = omega (arith, direct-append depth ps qs)
+direct-append depth (field d e c n i g ∷ ps) qs = omega (arith, direct-append depth ps qs)
 direct-append depth (spec n ∷ ps) qs = direct-append depth ps qs
 
 pub emits-both : (fr : Frame) (depth : ℕ) (ps qs : List Piece) (words text words₁ text₁ words′ text′ : List ℕ) (k a r : Sink)
@@ -301,13 +301,13 @@ unfolding selfDocumenting filled
 documents-none fr depth e spaces T words text k p =
     record { emitted = no-text fr depth [] words T k refl; used = omega arith; again = p ∙ ap (λ b. over b (k .used) e) (sym (over-nil T (k .used))) }
 
-pub documented-field : (fr : Frame) (depth : ℕ) (d : Bool) (e : List ℕ) (spaces c parts at : ℕ) (T words words₁ words′ text : List ℕ) (k a r : Sink)
+pub documented-field : (fr : Frame) (depth : ℕ) (d : Bool) (e : List ℕ) (spaces c parts at : ℕ) (g : Signs) (T words words₁ words′ text : List ℕ) (k a r : Sink)
     → Documents fr depth d e spaces words T words₁ text k a
-    → ((T : List ℕ) → Emits fr depth (field depth e c parts at ∷ []) words₁ T words′ (over T (a .used) e) a r)
-    → Emits fr depth (selfDocumenting depth d e spaces ++ (field depth e c parts at ∷ [])) words T words′ text k r
-documented-field fr depth d e spaces c parts at T words words₁ words′ text k a r g f =
-    rw (g .again)
-    (emits-both fr depth (selfDocumenting depth d e spaces) (field depth e c parts at ∷ []) words T words₁ D words′ _ k a r (g .emitted) (f D))
+    → ((T : List ℕ) → Emits fr depth (field depth e c parts at g ∷ []) words₁ T words′ (over T (a .used) e) a r)
+    → Emits fr depth (selfDocumenting depth d e spaces ++ (field depth e c parts at g ∷ [])) words T words′ text k r
+documented-field fr depth d e spaces c parts at g T words words₁ words′ text k a r h f =
+    rw (h .again)
+    (emits-both fr depth (selfDocumenting depth d e spaces) (field depth e c parts at g ∷ []) words T words₁ D words′ _ k a r (h .emitted) (f D))
   where
     D : List ℕ
     D = over T (k .used) (documentation d e spaces)

@@ -62,7 +62,7 @@ module _ (w : e.Whole) (b : Bool) (k : w .kind ≡ (if b then 4 else 1)) where
   unfolding itemOf covers item
   top-item kind start end base h (literal zero t) c = rw h (made w b t start end k)
   top-item kind start end base h (literal (suc d) t) c = absurd (false≢true c)
-  top-item kind start end base h (field d x m n i) c = absurd (false≢true c)
+  top-item kind start end base h (field d x m n i g) c = absurd (false≢true c)
   top-item kind start end base h (spec n) c = absurd (false≢true c)
 
   tops-pieces : (kind start end base : ℕ) → isBytes kind ≡ b → (ps : List Piece) → Tops w role (map (itemOf kind start end base) ps)

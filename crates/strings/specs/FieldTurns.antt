@@ -3,12 +3,12 @@ use Prim.Native.Nat.{ℕ, zero, suc, _+_, _*_, _/_, _%_, _^_, _≤_, _<_}
 use mathlib.Core.Path.{_≡_}
 use mathlib.Core.Bool.{Bool, true, false, _&&_, _||_}
 use mathlib.Core.List.{List, [], _∷_, _++_}
-use lib.Dec.{eqb}
+use lib.Dec.{ltb, eqb}
 use lib.ListN.{length, getD}
 use Rattle.definition.specs.Numbers.{emptyExpression}
 use Rattle.definition.specs.Chars.{if_then_else_, byte, _to_, inside, part, next}
 use Rattle.definition.specs.Escapes.{fault, refused}
-use Rattle.definition.specs.Body.{Bracket, Move, goes, stops, calls, ends, Field, state, fresh, FieldCase, pair, converts, documents, formats, opener, closes, closer, quote, space, backslash, stray, plain, fieldMove, fieldN, enough}
+use Rattle.definition.specs.Body.{Bracket, signs, Move, goes, stops, calls, ends, Field, state, fresh, FieldCase, pair, converts, documents, formats, opener, closes, closer, quote, space, backslash, stray, plain, fieldMove, fieldN, enough}
 use Rattle.definition.proofs.Moves.{fieldSize}
 use Rattle.buffers.specs.Over.{over}
 use Rattle.utf8.specs.declared.Cursor.{Cursor}
@@ -46,13 +46,23 @@ plainCase documented = if documented then stray else plain
 abbrev pub pending : List ℕ → State → List ℕ
 pending s f = part s (f .run) (f .at)
 
--- a state is in the body, and what is still to come fits
+-- whether a place stands for a sign that was met; 0 is none
+abbrev pub isMarked : ℕ → Bool
+isMarked n = ltb 0 n
+
+-- a place, or another where it is none
+abbrev pub firstOf : ℕ → ℕ → ℕ
+firstOf a b = if eqb a 0 then b else a
+
+-- a state is in the body, and its signs before it, and what is still to come fits
 pub record Room (s : List ℕ) (f : State) : Type 0 where
   pub run : f .run ≤ f .at
   pub within : f .at ≤ length s
   pub text : f .used + length s < 2 ^ 40
   pub spaces : f .spaces + length s < 2 ^ 40
   pub deep : f .depth ≤ 64
+  pub equals-in : f .equals ≤ f .at
+  pub bang-in : f .bang ≤ f .at
   pub small : length s ≤ 1048576
 
 -- and stands at a character
@@ -63,12 +73,12 @@ pub record Fits (s : List ℕ) (f : State) (c : ℕ) (k : Cursor) : Type 0 where
 -- the state at another place, with the bytes up to there in the expression
 abbrev pub keptTo : State → ℕ → ℕ → Bool → State
 keptTo f place depth blank =
-    record { at = place; run = f .run; used = f .used; depth = depth; spaces = f .spaces; conversion = f .conversion; blank = blank; documented = f .documented }
+    record { at = place; run = f .run; used = f .used; depth = depth; spaces = f .spaces; equals = f .equals; bang = f .bang; conversion = f .conversion; blank = blank }
 
 -- and without them, where what the expression has so far is written
 abbrev pub skippedTo : List ℕ → State → ℕ → State
 skippedTo s f place =
-    record { at = place; run = place; used = f .used + length (pending s f); depth = f .depth; spaces = f .spaces; conversion = f .conversion; blank = f .blank; documented = f .documented }
+    record { at = place; run = place; used = f .used + length (pending s f); depth = f .depth; spaces = f .spaces; equals = f .equals; bang = f .bang; conversion = f .conversion; blank = f .blank }
 
 -- a byte that has no rule of its own in a field: of * to 9, ? to Z and ^ to z
 abbrev pub passing : ℕ → Bool
@@ -80,13 +90,13 @@ pub record Passed (s : List ℕ) (f r : State) : Type 0 where
   pub on : f .at ≤ end
   pub within : end ≤ length s
   pub all : (k : ℕ) → f .at ≤ k → k < end → passing (byte s k) ≡ true
-  pub undocumented : f .at < end → f .documented ≡ false
+  pub undocumented : f .at < end → isMarked (f .equals) ≡ false
   pub is : r ≡ keptTo f end (f .depth) (f .blank && eqb end (f .at))
 
 -- the head of a state, with the cursor after it
 abbrev pub headAt : State → Cursor → Head
 headAt f k =
-    record { at = k; used = f .used; spaces = f .spaces; conversion = f .conversion; blank = f .blank; documented = f .documented }
+    record { at = k; used = f .used; spaces = f .spaces; equals = f .equals; bang = f .bang; conversion = f .conversion; blank = f .blank }
 
 -- a bracket and the bytes taken just after it, as one number
 abbrev pub unpacked : ℕ → Bracket
@@ -99,11 +109,11 @@ brackets (suc n) places = unpacked (getD places n 0) ∷ brackets n places
 
 -- the definition's state, whose expression is e
 abbrev pub stateOf : List ℕ → State → List ℕ → Field
-stateOf e f places = state e (f .blank) (brackets (f .depth) places) (f .conversion) (f .documented) (f .spaces)
+stateOf e f places = state e (f .blank) (brackets (f .depth) places) (f .conversion) (isMarked (f .equals)) (f .spaces) (signs (f .equals) (f .bang) 0 0)
 
 -- and that of a head
 abbrev pub headState : List ℕ → Head → Field
-headState e h = state e (h .blank) [] (h .conversion) (h .documented) (h .spaces)
+headState e h = state e (h .blank) [] (h .conversion) (isMarked (h .equals)) (h .spaces) (signs (h .equals) (h .bang) 0 0)
 
 -- a reader of the definition
 abbrev pub Mover : Type 0
@@ -117,6 +127,8 @@ pub record Went (m : Mover) (s : List ℕ) (f g : State) (places places′ text 
   pub wrote : text′ ≡ over text (f .used) added
   pub grown : g .used ≡ f .used + length added
   pub deep : g .depth ≤ 64
+  pub equals-in : g .equals ≤ g .at
+  pub bang-in : g .bang ≤ g .at
   pub full : length places′ ≡ length places
 
 -- the head ends as h, with the expression written
@@ -150,6 +162,8 @@ pub record HeadIs (move : Move Field) (s : List ℕ) (from used : ℕ) (h : Head
   pub wrote : text′ ≡ over text used expression
   pub grown : h .used ≡ used + length expression
   pub small : fieldSize (headState expression h) + 4 * from ≤ 4 * place
+  pub equals-in : h .equals ≤ place
+  pub bang-in : h .bang ≤ place
 
 -- how a head ends, by the number of its field's parts: 0 at a `}`, 1 at a `:`
 abbrev pub endOf : ℕ → Move Field

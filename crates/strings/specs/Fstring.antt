@@ -13,7 +13,10 @@ use Rattle.strings.specs.declared.emit.Frame.{Frame}
 use Rattle.strings.specs.declared.emit.Sink.{Sink}
 use Rattle.strings.specs.declared.fstring.Read.{Read}
 use Rattle.strings.specs.declared.fstring.Read.the-variants.{Done, Refused}
+use Rattle.strings.specs.declared.fstring.End.{End}
+use Rattle.strings.specs.declared.fstring.End.the-variants as end
 use Rattle.strings.specs.Text.{refusal}
+use Rattle.strings.specs.Rows.{Signed}
 use Rattle.strings.specs.Sinks.{loadOf, Emits}
 
 -- the body fits, its places too, and all that is still to come
@@ -26,9 +29,9 @@ pub record Room (s : List ℕ) (at : ℕ) (fr : Frame) (k : Sink) : Type 0 where
 
 -- what is read and written is the definition's reading of pieces at a depth, of which `more` makes the records
 abbrev pub Written : (List Piece → List Piece) → d.Read (List Piece) → Frame → ℕ → List ℕ → List ℕ → List ℕ → List ℕ → Sink → Read → Type 0
-Written more (got ps j) fr depth words text words′ text′ k (Done at r) = (at .at ≡ j) × Emits fr depth (more ps) words text words′ text′ k r
+Written more (got ps j) fr depth words text words′ text′ k (Done at r n) = (at .at ≡ j) × Emits fr depth (more ps) words text words′ text′ k r
 Written more (got ps j) fr depth words text words′ text′ k (Refused x) = ⊥
-Written more (refused y) fr depth words text words′ text′ k (Done at r) = ⊥
+Written more (refused y) fr depth words text words′ text′ k (Done at r n) = ⊥
 Written more (refused y) fr depth words text words′ text′ k (Refused x) = x ≡ refusal y
 
 abbrev pub ReadIs : d.Read (List Piece) → Frame → ℕ → List ℕ → List ℕ → List ℕ → List ℕ → Sink → Read → Type 0
@@ -38,8 +41,17 @@ ReadIs = Written (λ ps. ps)
 abbrev pub SpecIs : d.Read (List Piece) → Frame → ℕ → List ℕ → List ℕ → List ℕ → List ℕ → Sink → Read → Type 0
 SpecIs read fr depth = Written (λ ps. spec (direct (suc depth) ps) ∷ ps) read fr depth
 
+-- and the rows of those pieces, after so many fields, are written
+abbrev pub SignedBy : d.Read (List Piece) → Frame → List ℕ → List ℕ → ℕ → ℕ → Type 0
+SignedBy (got ps j) fr rows rows′ fields n = Signed fr ps rows rows′ fields n
+SignedBy (refused y) fr rows rows′ fields n = Unit {0}
+
+abbrev pub SignedIs : Read → d.Read (List Piece) → Frame → List ℕ → List ℕ → ℕ → Type 0
+SignedIs (Done at r n) read fr rows rows′ fields = SignedBy read fr rows rows′ fields n
+SignedIs (Refused x) read fr rows rows′ fields = Unit {0}
+
 -- the end of a field after its spec
-abbrev pub fieldEnd : List ℕ → ℕ → Bool → Sink → Read
-fieldEnd s j blank k =
-    if atEnd s j then Refused (refusal (detail unclosedLbrace j inField)) else
-    if blank then Refused (refusal (fault emptyExpression (next s j))) else Done (record { at = next s j }) k
+abbrev pub fieldEnd : List ℕ → ℕ → Bool → End
+fieldEnd s j blank =
+    if atEnd s j then end.Refused (refusal (detail unclosedLbrace j inField)) else
+    if blank then end.Refused (refusal (fault emptyExpression (next s j))) else end.At (record { at = next s j })

@@ -13,9 +13,10 @@ ghost use lib.ListN.{length};
 ghost use Rattle.buffers.specs.Over.{over};
 ghost use Rattle.marks.specs.Marks.{converted};
 ghost use Rattle.strings.specs.Emit.{reserved, filledIn};
+ghost use Rattle.strings.specs.FieldTurns.{isMarked};
 ghost use Rattle.strings.specs.Sinks.{isHeld, loadOf, Fits, outOf, Closes, Writes, Emits, Documents, UpTo, specWords};
 ghost use Rattle.definition.specs.Chars.{if_then_else_};
-ghost use Rattle.definition.specs.Body.{literal as aLiteral, field as aField, filled, selfDocumenting};
+ghost use Rattle.definition.specs.Body.{Signs, literal as aLiteral, field as aField, filled, selfDocumenting};
 
 // What every top-level record of a call carries: its kind, the call's first start and last end, and its u mark.
 pub(crate) struct Whole {
@@ -170,7 +171,7 @@ fn put_field(
 ) -> Sink
     requires { ⌜ Fits k ⌝ }
     requires { ⌜ (k .used ≤ to) × (to < 4294967296) × (fr .base + at < 4294967296) ⌝ }
-    ensures { λ r. ⌜ ((depth : ℕ) (t T : List ℕ) → to ≡ k .used + length t → Emits fr depth (aField depth t conversion parts at ∷ []) (now (words .entry)) T (now (words .exit)) (over T (k .used) t) k r) ⌝ }
+    ensures { λ r. ⌜ ((depth : ℕ) (t T : List ℕ) (g : Signs) → to ≡ k .used + length t → Emits fr depth (aField depth t conversion parts at g ∷ []) (now (words .entry)) T (now (words .exit)) (over T (k .used) t) k r) ⌝ }
 {
     let base = fr.base as usize;
     let place = (base + at) as u32;
@@ -230,9 +231,9 @@ fn put_documented(
     requires { ⌜ Fits k ⌝ }
     requires { ⌜ (k .used ≤ h .used) × (loadOf k + h .used + h .used + h .spaces < 4294967280) ⌝ }
     ensures { λ r. ⌜ UpTo 2 (r .used) k r × (r .used ≤ h .used + 1 + h .spaces) ⌝ }
-    ensures { λ r. ⌜ ((e T : List ℕ) → h .used ≡ k .used + length e → now (text .entry) ≡ over T (k .used) e → Documents fr nested (h .documented) e (h .spaces) (now (words .entry)) T (now (words .exit)) (now (text .exit)) k r) ⌝ }
+    ensures { λ r. ⌜ ((e T : List ℕ) → h .used ≡ k .used + length e → now (text .entry) ≡ over T (k .used) e → Documents fr nested (isMarked (h .equals)) e (h .spaces) (now (words .entry)) T (now (words .exit)) (now (text .exit)) k r) ⌝ }
 {
-    if h.documented {
+    if 0 < h.equals {
         let to = h.used;
         let equal = to + 1;
         let end = equal + h.spaces;
@@ -258,10 +259,10 @@ pub(crate) fn emit_field(
 ) -> Sink
     requires { ⌜ Fits k ⌝ }
     requires { ⌜ (k .used ≤ h .used) × (loadOf k + h .used + h .used + h .used + h .spaces + h .spaces < 4294967200) × (fr .base + at < 4294967296) ⌝ }
-    ensures { λ r. ⌜ ((e T : List ℕ) → h .used ≡ k .used + length e → now (text .entry) ≡ over T (k .used) e → Emits fr nested (selfDocumenting nested (h .documented) e (h .spaces) ++ (aField nested e (converted (h .documented) (h .conversion) parts) parts at ∷ [])) (now (words .entry)) T (now (words .exit)) (now (text .exit)) k r) ⌝ }
+    ensures { λ r. ⌜ ((e T : List ℕ) (g : Signs) → h .used ≡ k .used + length e → now (text .entry) ≡ over T (k .used) e → Emits fr nested (selfDocumenting nested (isMarked (h .equals)) e (h .spaces) ++ (aField nested e (converted (isMarked (h .equals)) (h .conversion) parts) parts at g ∷ [])) (now (words .entry)) T (now (words .exit)) (now (text .exit)) k r) ⌝ }
 {
     let a = put_documented(words, text, fr, k, h, nested);
     let to = a.used + (h.used - k.used);
-    let conversion = conversion_of(h.documented, h.conversion, parts);
+    let conversion = conversion_of(0 < h.equals, h.conversion, parts);
     put_field(words, fr, a, to, conversion, parts, at)
 }

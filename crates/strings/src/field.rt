@@ -23,7 +23,7 @@ ghost use Rattle.definition.specs.Body.{pair, isBlank, fieldCase, conversionMov
 ghost use Rattle.utf8.proofs.Steps.{Stepped};
 ghost use Rattle.buffers.specs.Over.{over};
 ghost use Rattle.strings.specs.Text.{refusal};
-ghost use Rattle.strings.specs.FieldTurns.{unpacked, caseIs, plainCase, passing, Passed, pending, keptTo, skippedTo, headAt, Room, Fits, TurnIs, closedAs, OpenedIs};
+ghost use Rattle.strings.specs.FieldTurns.{unpacked, caseIs, plainCase, passing, Passed, pending, keptTo, skippedTo, firstOf, headAt, Room, Fits, TurnIs, closedAs, OpenedIs};
 
 const INVALID_CONVERSION_FLAG: u32 = 21;
 
@@ -33,14 +33,16 @@ const UNTERMINATED_STRING: u32 = 27;
 
 const TOO_MANY_BRACKETS: u32 = 28;
 
-// A head as read: the cursor after its `}` or `:`, the text's used length, the spaces after a self-documenting `=`, the conversion.
+// A head as read: the cursor after its `}` or `:`, the text's used length, the spaces after a self-documenting `=`, the bytes taken just after
+// the first such `=` and after the `!`, 0 where there is none, and the conversion.
 pub(crate) struct Head {
     pub(crate) at: Cursor,
     pub(crate) used: usize,
     pub(crate) spaces: usize,
+    pub(crate) equals: usize,
+    pub(crate) bang: usize,
     pub(crate) conversion: u32,
     pub(crate) blank: bool,
-    pub(crate) documented: bool,
 }
 
 // A head that was read, with the number of its field's parts, 0 if a `}` ends it and 1 if a `:` does; or a refusal.
@@ -56,9 +58,10 @@ struct State {
     used: usize,
     depth: usize,
     spaces: usize,
+    equals: usize,
+    bang: usize,
     conversion: u32,
     blank: bool,
-    documented: bool,
 }
 
 // What a character does: the head goes on, a `:` or a `}` ends it, or it is refused.
@@ -167,9 +170,10 @@ fn kept(f: State, to: usize, depth: usize, blank: bool) -> State
         used: f.used,
         depth,
         spaces: f.spaces,
+        equals: f.equals,
+        bang: f.bang,
         conversion: f.conversion,
         blank,
-        documented: f.documented,
     }
 }
 
@@ -188,10 +192,18 @@ fn skip(s: &[u8], f: State, to: usize, text: &mut [u8]) -> State
         used: used + (at - run),
         depth: f.depth,
         spaces: f.spaces,
+        equals: f.equals,
+        bang: f.bang,
         conversion: f.conversion,
         blank: f.blank,
-        documented: f.documented,
     }
+}
+
+// A place, or another where it is 0.
+fn first_of(a: usize, b: usize) -> usize
+    ensures { λ r. ⌜ r ≡ firstOf a b ⌝ }
+{
+    if a == 0 { b } else { a }
 }
 
 // The head of a state, with the cursor after it.
@@ -202,9 +214,10 @@ fn head_of(f: State, at: Cursor) -> Head
         at,
         used: f.used,
         spaces: f.spaces,
+        equals: f.equals,
+        bang: f.bang,
         conversion: f.conversion,
         blank: f.blank,
-        documented: f.documented,
     }
 }
 
@@ -336,6 +349,7 @@ fn convert(s: &[u8], f: State, flag: Cursor, text: &mut [u8]) -> Turn
         if ends_head(after.peek(s)) {
             let mut g = skip(s, f, to, text);
             g.conversion = conversion;
+            g.bang = at;
             return Turn::On(g);
         }
         return Turn::Refused(unclosed(Unclosed::AfterConversion, to));
@@ -354,13 +368,13 @@ fn read_turn(s: &[u8], f: State, text: &mut [u8], places: &mut [u32; 64]) -> Tur
         return Turn::Refused(unclosed(Unclosed::InField, at));
     };
     let to = after.at;
-    let class = class_of(s, at, c, after, f.depth == 0, f.documented);
+    let class = class_of(s, at, c, after, f.depth == 0, 0 < f.equals);
     match class {
         Class::Pair => Turn::On(kept(f, to + 1, f.depth, false)),
         Class::Converts => convert(s, f, after, text),
         Class::Documents => {
             let mut g = skip(s, f, to, text);
-            g.documented = true;
+            g.equals = first_of(f.equals, to);
             Turn::On(g)
         }
         Class::Formats => Turn::Formats(head_of(skip(s, f, to, text), after)),
@@ -419,7 +433,7 @@ fn pass(s: &[u8], f: State) -> State
     requires { ⌜ f .at ≤ length (now s) ⌝ }
     ensures { λ r. ⌜ Passed (now (s .entry)) f r ⌝ }
 {
-    if f.documented {
+    if 0 < f.equals {
         return f;
     }
     let end = passing_end(s, f.at);
@@ -458,9 +472,10 @@ pub(crate) fn read_head(s: &[u8], from: Cursor, text: &mut [u8], used: usize) ->
         used,
         depth: 0,
         spaces: 0,
+        equals: 0,
+        bang: 0,
         conversion: 0,
         blank: true,
-        documented: false,
     };
     loop {
         let here = pass(s, f);

@@ -9,6 +9,7 @@ use crate::emit::fill_spec;
 use crate::emit::reserve;
 use crate::field::Opened;
 use crate::field::read_head;
+use crate::rows::put_signs;
 use crate::text::Run;
 use crate::text::text_run;
 use crate::unclosed;
@@ -28,13 +29,19 @@ ghost use Rattle.definition.specs.Body.{firstEnd, textN, fieldN, fresh, specN, 
 ghost use Rattle.buffers.specs.Over.{over};
 ghost use Rattle.strings.specs.Sinks.{isHeld, loadOf};
 ghost use Rattle.strings.specs.Text.{refusal};
-ghost use Rattle.strings.specs.Fstring.{Room, ReadIs, SpecIs, fieldEnd};
+ghost use Rattle.strings.specs.Fstring.{Room, ReadIs, SpecIs, SignedIs, fieldEnd};
 
 const EXPRESSION_NESTED_TOO_DEEPLY: u32 = 24;
 
-// A text, field or spec that was read up to a cursor and written; or a refusal.
+// A text, field or spec that was read up to a cursor and written, with the count of fields so far; or a refusal.
 pub(crate) enum Read {
-    Done(Cursor, Sink),
+    Done(Cursor, Sink, usize),
+    Refused(Refusal),
+}
+
+// Where a field ends, after its `}`; or why it is refused there.
+enum End {
+    At(Cursor),
     Refused(Refusal),
 }
 
@@ -59,28 +66,28 @@ fn read_first(s: &[u8], from: Cursor, text: &mut [u8], used: usize) -> Raw
 }
 
 // A field whose spec has ended at a cursor, at its `}` or at the body's end.
-fn end_field(s: &[u8], at: Cursor, blank: bool, k: Sink) -> Read
-    ensures { λ r. ⌜ r ≡ fieldEnd (now (s .entry)) (at .at) blank k ⌝ }
+fn end_field(s: &[u8], at: Cursor, blank: bool) -> End
+    ensures { λ r. ⌜ r ≡ fieldEnd (now (s .entry)) (at .at) blank ⌝ }
 {
     let Step::Char(_, after) = at.next_char(s) else {
-        return Read::Refused(unclosed(Unclosed::InField, at.at));
+        return End::Refused(unclosed(Unclosed::InField, at.at));
     };
     if blank {
-        return refuse(EMPTY_EXPRESSION, after.at);
+        return End::Refused(refuse(EMPTY_EXPRESSION, after.at));
     }
-    Read::Done(after, k)
+    End::At(after)
 }
 
-fn refuse(number: u32, taken: usize) -> Read
-    ensures { λ r. ⌜ r ≡ Read.Refused (refusal (fault number taken)) ⌝ }
+fn refuse(number: u32, taken: usize) -> Refusal
+    ensures { λ r. ⌜ r ≡ refusal (fault number taken) ⌝ }
 {
-    Read::Refused(Refusal {
+    Refusal {
         number,
         opened: 0,
         taken,
         a: 0,
         b: 0,
-    })
+    }
 }
 
 // A spec, from after its `:`: its record, its first piece as it stands, and from the first `{` on text one depth further.
@@ -91,21 +98,24 @@ fn parse_spec(
     fr: Frame,
     words: &mut [u32],
     text: &mut [u8],
+    rows: &mut [u32],
     k: Sink,
+    fields: usize,
 ) -> Read
     requires { ⌜ Room (now s) (at .at) fr k ⌝ }
     requires { ⌜ (nested ≤ 1) × (isHeld k ≡ false) × (loadOf k + 8 * (length (now s) - at .at) < 16777216) ⌝ }
-    ensures { λ r. ⌜ SpecIs (specN (enough (now (s .entry))) (fr .kind) (now (s .entry)) nested (at .at)) fr nested (now (words .entry)) (now (text .entry)) (now (words .exit)) (now (text .exit)) k r ⌝ }
+    requires { ⌜ fields ≤ k .count ⌝ }
+    ensures { λ r. ⌜ SpecIs (specN (enough (now (s .entry))) (fr .kind) (now (s .entry)) nested (at .at)) fr nested (now (words .entry)) (now (text .entry)) (now (words .exit)) (now (text .exit)) k r × SignedIs r (specN (enough (now (s .entry))) (fr .kind) (now (s .entry)) nested (at .at)) fr (now (rows .entry)) (now (rows .exit)) fields ⌝ }
 {
     let first = read_first(s, at, text, k.used);
     let end = first.at;
     let a = end_text(words, fr, reserve(k), first.used, nested + 1);
     if end.peek(s) != 0x7B {
-        return Read::Done(end, fill_spec(words, fr, k, a));
+        return Read::Done(end, fill_spec(words, fr, k, a), fields);
     }
-    match parse_fstring(s, end, nested + 1, fr, words, text, a) {
+    match parse_fstring(s, end, nested + 1, fr, words, text, rows, a, fields) {
         Read::Refused(r) => Read::Refused(r),
-        Read::Done(next, b) => Read::Done(next, fill_spec(words, fr, k, b)),
+        Read::Done(next, b, n) => Read::Done(next, fill_spec(words, fr, k, b), n),
     }
 }
 
@@ -117,23 +127,34 @@ fn parse_formatted_value(
     fr: Frame,
     words: &mut [u32],
     text: &mut [u8],
+    rows: &mut [u32],
     k: Sink,
+    fields: usize,
 ) -> Read
     requires { ⌜ Room (now s) (at .at) fr k ⌝ }
     requires { ⌜ nested ≤ 1 ⌝ }
-    ensures { λ r. ⌜ ReadIs (fieldN (enough (now (s .entry))) (fr .kind) (now (s .entry)) nested (at .at) (at .at) fresh) fr nested (now (words .entry)) (now (text .entry)) (now (words .exit)) (now (text .exit)) k r ⌝ }
+    requires { ⌜ fields ≤ k .count ⌝ }
+    ensures { λ r. ⌜ ReadIs (fieldN (enough (now (s .entry))) (fr .kind) (now (s .entry)) nested (at .at) (at .at) fresh) fr nested (now (words .entry)) (now (text .entry)) (now (words .exit)) (now (text .exit)) k r × SignedIs r (fieldN (enough (now (s .entry))) (fr .kind) (now (s .entry)) nested (at .at) (at .at) fresh) fr (now (rows .entry)) (now (rows .exit)) fields ⌝ }
 {
     match read_head(s, at, text, k.used) {
         Opened::Refused(r) => Read::Refused(r),
         Opened::Ended(h, parts) => {
             let after = h.at;
+            let size = h.used - k.used;
             let a = emit_field(words, text, fr, k, h, parts, at.at, nested);
             if parts == 0 {
-                return Read::Done(after, a);
+                put_signs(rows, fields, fr, h, size, parts, at.at, 0, after.at);
+                return Read::Done(after, a, fields + 1);
             }
-            match parse_spec(s, after, nested, fr, words, text, a) {
+            match parse_spec(s, after, nested, fr, words, text, rows, a, fields + 1) {
                 Read::Refused(r) => Read::Refused(r),
-                Read::Done(next, b) => end_field(s, next, h.blank, b),
+                Read::Done(next, b, n) => match end_field(s, next, h.blank) {
+                    End::Refused(r) => Read::Refused(r),
+                    End::At(close) => {
+                        put_signs(rows, fields, fr, h, size, parts, at.at, after.at, close.at);
+                        Read::Done(close, b, n)
+                    }
+                },
             }
         }
     }
@@ -147,30 +168,35 @@ pub(crate) fn parse_fstring(
     fr: Frame,
     words: &mut [u32],
     text: &mut [u8],
+    rows: &mut [u32],
     k: Sink,
+    fields: usize,
 ) -> Read
     requires { ⌜ Room (now s) (at .at) fr k ⌝ }
     requires { ⌜ nested ≤ 2 ⌝ }
-    ensures { λ r. ⌜ ReadIs (textN (enough (now (s .entry))) (fr .kind) (now (s .entry)) nested (at .at) [] []) fr nested (now (words .entry)) (now (text .entry)) (now (words .exit)) (now (text .exit)) k r ⌝ }
+    requires { ⌜ fields ≤ k .count ⌝ }
+    ensures { λ r. ⌜ ReadIs (textN (enough (now (s .entry))) (fr .kind) (now (s .entry)) nested (at .at) [] []) fr nested (now (words .entry)) (now (text .entry)) (now (words .exit)) (now (text .exit)) k r × SignedIs r (textN (enough (now (s .entry))) (fr .kind) (now (s .entry)) nested (at .at) [] []) fr (now (rows .entry)) (now (rows .exit)) fields ⌝ }
 {
     if 2 <= nested {
-        return refuse(EXPRESSION_NESTED_TOO_DEEPLY, at.at);
+        return Read::Refused(refuse(EXPRESSION_NESTED_TOO_DEEPLY, at.at));
     }
     let mut cursor = at;
     let mut sink = k;
+    let mut count = fields;
     loop {
         match text_run(s, cursor, nested, fr.kind, text, sink.used) {
             Run::Refused(r) => return Read::Refused(r),
             Run::Over(next, used) => {
-                return Read::Done(next, end_text(words, fr, sink, used, nested));
+                return Read::Done(next, end_text(words, fr, sink, used, nested), count);
             }
             Run::Field(next, used) => {
                 let a = end_text(words, fr, sink, used, nested);
-                match parse_formatted_value(s, next, nested, fr, words, text, a) {
+                match parse_formatted_value(s, next, nested, fr, words, text, rows, a, count) {
                     Read::Refused(r) => return Read::Refused(r),
-                    Read::Done(after, b) => {
+                    Read::Done(after, b, n) => {
                         cursor = after;
                         sink = b;
+                        count = n;
                     }
                 }
             }

@@ -2,6 +2,7 @@
 mod emit;
 mod field;
 mod fstring;
+mod rows;
 mod text;
 
 use emit::Frame;
@@ -22,7 +23,7 @@ use utf8::Cursor;
 ghost use mathlib.Core.Path.{_≡_};
 ghost use mathlib.Core.Bool.{true};
 ghost use mathlib.Core.List.{List};
-ghost use Prim.Native.Nat.{ℕ, _<_};
+ghost use Prim.Native.Nat.{ℕ, _<_, _≤_};
 ghost use lib.ListN.{length};
 ghost use Rattle.definition.specs.Numbers.{isBytes, isUnicode, unclosedLbrace};
 ghost use Rattle.definition.specs.Chars.{if_then_else_};
@@ -31,6 +32,7 @@ ghost use Rattle.definition.specs.Records.{Role, covers, Item};
 ghost use Rattle.definition.specs.Entry.{placeOf, body, anyOf};
 ghost use Rattle.definition.specs.Body.{readBody};
 ghost use Rattle.definition.specs.Reading.{accepts, allChars, openedAt, sortOf, sortNumber, answered, roomed, called, readNumbers, zeros};
+ghost use Rattle.definition.specs.Rows.{signsNumbers};
 ghost use Rattle.entry.specs.Answers.{described, refusalOf};
 ghost use Rattle.entry.specs.Literals.{literals};
 ghost use Rattle.entry.proofs.Passed.{Passed};
@@ -39,8 +41,8 @@ ghost use Rattle.marks.specs.Marks.{reasonOf};
 ghost use Rattle.strings.specs.Emit.{Tops};
 ghost use Rattle.strings.specs.Sinks.{Fits, wholeOf};
 ghost use Rattle.strings.specs.Text.{refusal, faultOf};
-ghost use Rattle.strings.specs.Fstring.{Room as BodyRoom, ReadIs};
-ghost use Rattle.strings.specs.Strings.{CallIs, wholeFor, Room, Stands, First, refusedAt, frameOf, Wrote, ListIs};
+ghost use Rattle.strings.specs.Fstring.{Room as BodyRoom, ReadIs, SignedIs};
+ghost use Rattle.strings.specs.Strings.{CallIs, wholeFor, Room, Stands, First, refusedAt, frameOf, Wrote, ListIs, RowsAre, SignsIs, RowsFinished};
 
 // Why a body is refused: the number, the bytes taken just after the bracket that it names and at its place, two details.
 pub(crate) struct Refusal {
@@ -68,9 +70,9 @@ pub enum Outcome {
     Refused(entry::Refusal),
 }
 
-// A list that was read and written; or the first refusal.
+// A list that was read and written, with the count of its fields; or the first refusal.
 pub(crate) enum Listed {
-    Done(Sink),
+    Done(Sink, usize),
     Refused(entry::Refusal),
 }
 
@@ -94,16 +96,31 @@ pub(crate) fn unclosed(why: Unclosed, taken: usize) -> Refusal
 }
 
 // A literal's body, read and written.
-fn read_body(s: &[u8], fr: Frame, words: &mut [u32], text: &mut [u8], k: Sink) -> Read
+fn read_body(
+    s: &[u8],
+    fr: Frame,
+    words: &mut [u32],
+    text: &mut [u8],
+    rows: &mut [u32],
+    k: Sink,
+    fields: usize,
+) -> Read
     requires { ⌜ BodyRoom (now s) 0 fr k ⌝ }
-    ensures { λ r. ⌜ ReadIs (readBody (fr .kind) (now (s .entry))) fr 0 (now (words .entry)) (now (text .entry)) (now (words .exit)) (now (text .exit)) k r ⌝ }
+    requires { ⌜ fields ≤ k .count ⌝ }
+    ensures { λ r. ⌜ ReadIs (readBody (fr .kind) (now (s .entry))) fr 0 (now (words .entry)) (now (text .entry)) (now (words .exit)) (now (text .exit)) k r × SignedIs r (readBody (fr .kind) (now (s .entry))) fr (now (rows .entry)) (now (rows .exit)) fields ⌝ }
 {
     if entry::is_of(Class::FStrings, fr.kind) {
-        return parse_fstring(s, Cursor { at: 0 }, 0, fr, words, text, k);
+        return parse_fstring(s, Cursor { at: 0 }, 0, fr, words, text, rows, k, fields);
     }
     match parse_string(s, fr.kind, text, k.used) {
         Text::Refused(r) => Read::Refused(r),
-        Text::Done(used) => Read::Done(Cursor { at: s.len() }, literal(words, fr, k, used, 0)),
+        Text::Done(used) => {
+            Read::Done(
+                Cursor { at: s.len() },
+                literal(words, fr, k, used, 0),
+                fields,
+            )
+        }
     }
 }
 
@@ -114,10 +131,13 @@ fn read_literal(
     whole: Whole,
     words: &mut [u32],
     text: &mut [u8],
+    rows: &mut [u32],
     k: Sink,
+    fields: usize,
 ) -> Read
     requires { ⌜ Room (now script) l k ⌝ }
-    ensures { λ r. ⌜ ReadIs (readBody (l .kind) (body (now (script .entry)) (described l))) (frameOf l whole) 0 (now (words .entry)) (now (text .entry)) (now (words .exit)) (now (text .exit)) k r ⌝ }
+    requires { ⌜ fields ≤ k .count ⌝ }
+    ensures { λ r. ⌜ ReadIs (readBody (l .kind) (body (now (script .entry)) (described l))) (frameOf l whole) 0 (now (words .entry)) (now (text .entry)) (now (words .exit)) (now (text .exit)) k r × SignedIs r (readBody (l .kind) (body (now (script .entry)) (described l))) (frameOf l whole) (now (rows .entry)) (now (rows .exit)) fields ⌝ }
 {
     let from = l.offset as usize;
     let to = from + l.size as usize;
@@ -129,7 +149,7 @@ fn read_literal(
         base,
         whole,
     };
-    read_body(&script[from..to], fr, words, text, k)
+    read_body(&script[from..to], fr, words, text, rows, k, fields)
 }
 
 // The place just after the bracket that a body's refusal names; 0 if it names none.
@@ -189,9 +209,10 @@ fn read_list(
     whole: Whole,
     words: &mut [u32],
     text: &mut [u8],
+    rows: &mut [u32],
 ) -> Listed
     requires { ⌜ Passed (now script) (now numbers) count ⌝ }
-    ensures { λ r. ⌜ ListIs (now (script .entry)) (literals (now (numbers .entry)) 0 count) (wholeOf whole) (now (words .entry)) (now (text .entry)) (now (words .exit)) (now (text .exit)) r ⌝ }
+    ensures { λ r. ⌜ ListIs (now (script .entry)) (literals (now (numbers .entry)) 0 count) (wholeOf whole) (now (words .entry)) (now (text .entry)) (now (words .exit)) (now (text .exit)) r × RowsAre (now (script .entry)) (literals (now (numbers .entry)) 0 count) (now (rows .entry)) (now (rows .exit)) r ⌝ }
 {
     let mut sink = Sink {
         count: 0,
@@ -200,20 +221,22 @@ fn read_list(
         from: 0,
         parts: 0,
     };
+    let mut fields = 0;
     let mut i: u32 = 0;
     while i < count {
         let l = entry::literal_at(numbers, i);
-        match read_literal(script, l, whole, words, text, sink) {
+        match read_literal(script, l, whole, words, text, rows, sink, fields) {
             Read::Refused(x) => {
                 return Listed::Refused(refusal_in(script, numbers, i, l, x));
             }
-            Read::Done(_, next) => {
+            Read::Done(_, next, n) => {
                 sink = next;
+                fields = n;
             }
         }
         i += 1;
     }
-    Listed::Done(sink)
+    Listed::Done(sink, fields)
 }
 
 // The kind of a top-level record: 4 in bytes, else 1.
@@ -316,9 +339,10 @@ fn read_all(
     ensures { λ r. ⌜ CallIs (readNumbers (now (script .entry)) (now (numbers .entry)) (now (words .entry)) (now (text .entry))) (now (words .exit)) (now (text .exit)) r ⌝ }
 {
     let whole = whole_of(numbers, count);
-    match read_list(script, numbers, count, whole, words, text) {
+    let mut rows = [0u32; 0];
+    match read_list(script, numbers, count, whole, words, text, &mut rows) {
         Listed::Refused(r) => refuse(words, text, r),
-        Listed::Done(sink) => finish(numbers, count, chars, whole, words, text, sink),
+        Listed::Done(sink, _) => finish(numbers, count, chars, whole, words, text, sink),
     }
 }
 
@@ -331,6 +355,69 @@ pub fn parse_strings(script: &[u8], numbers: &[u32], words: &mut [u32], text: &m
         Checked::Passed(chars) => {
             let count = (numbers.len() / 6) as u32;
             read_all(script, numbers, count, chars, words, text)
+        }
+    }
+}
+
+// A refusal: the row buffer is filled with zeros.
+fn refuse_rows(rows: &mut [u32], r: entry::Refusal) -> Outcome
+    ensures { λ x. ⌜ (x ≡ Refused r) × (now (rows .exit) ≡ zeros (now (rows .entry))) ⌝ }
+{
+    buffers::fill_words(rows, 0);
+    Outcome::Refused(r)
+}
+
+// The answer, if the row buffer has room for the rows of so many fields.
+fn finish_rows(
+    numbers: &[u32],
+    count: u32,
+    chars: u32,
+    whole: Whole,
+    rows: &mut [u32],
+    fields: u32,
+) -> Outcome
+    ensures { λ r. ⌜ RowsFinished whole (literals (now (numbers .entry)) 0 count) chars (now (rows .entry)) fields (now (rows .exit)) r ⌝ }
+{
+    match entry::room(rows.len() / 10, 0, fields, 0, chars) {
+        Checked::Refused(r) => refuse_rows(rows, r),
+        Checked::Passed(_) => Outcome::Accepted(Answer {
+            sort: sort_of(numbers, count),
+            mark: whole.mark,
+            start: whole.start,
+            end: whole.end,
+            records: fields,
+            text: 0,
+            chars,
+        }),
+    }
+}
+
+// The literals that passed the checks, read for their rows.
+fn read_rows(script: &[u8], numbers: &[u32], count: u32, chars: u32, rows: &mut [u32]) -> Outcome
+    requires { ⌜ Passed (now script) (now numbers) count × (chars ≡ allChars (now script) (literals (now numbers) 0 count)) ⌝ }
+    ensures { λ r. ⌜ SignsIs (signsNumbers (now (script .entry)) (now (numbers .entry)) (now (rows .entry))) (now (rows .exit)) r ⌝ }
+{
+    let whole = whole_of(numbers, count);
+    let mut words = [0u32; 0];
+    let mut text = [0u8; 0];
+    match read_list(script, numbers, count, whole, &mut words, &mut text, rows) {
+        Listed::Refused(r) => refuse_rows(rows, r),
+        Listed::Done(_, fields) => {
+            finish_rows(numbers, count, chars, whole, rows, fields as u32)
+        }
+    }
+}
+
+// Reads the literals whose numbers are listed, as `parse_strings` does, and writes the row of each field, ten numbers for each. An answer's
+// records are the fields.
+pub fn parse_signs(script: &[u8], numbers: &[u32], rows: &mut [u32]) -> Outcome
+    ensures { λ r. ⌜ SignsIs (signsNumbers (now (script .entry)) (now (numbers .entry)) (now (rows .entry))) (now (rows .exit)) r ⌝ }
+{
+    match entry::check(script, numbers) {
+        Checked::Refused(r) => refuse_rows(rows, r),
+        Checked::Passed(chars) => {
+            let count = (numbers.len() / 6) as u32;
+            read_rows(script, numbers, count, chars, rows)
         }
     }
 }

@@ -4,6 +4,7 @@ use mathlib.Core.Path.{_≡_}
 use mathlib.Core.List.{List, _++_}
 use lib.ListN.{length, replicate}
 use Rattle.definition.specs.Reading.{Call, numbers}
+use Rattle.definition.specs.Rows.{SignsCall, rowedNumbers}
 use Rattle.definition.specs.Literals.{ListCall, listNumbers}
 
 -- a list of numbers, and zeros up to twelve
@@ -15,6 +16,11 @@ pub record CallIs (call : Call) (answer words text : List ℕ) : Type 0 where
   pub numbered : answer ≡ twelve (numbers (call .outcome))
   pub words-left : words ≡ call .words
   pub text-left : text ≡ call .text
+
+-- the same of a call for rows
+pub record SignsIs (call : SignsCall) (answer rows : List ℕ) : Type 0 where
+  pub numbered : answer ≡ twelve (rowedNumbers (call .outcome))
+  pub rows-left : rows ≡ call .rows
 
 -- the same of a call for the literals from an offset on
 pub record ListIs (call : ListCall) (answer list : List ℕ) : Type 0 where

@@ -2,13 +2,15 @@
 use literals::Listing;
 use literals::list_literals;
 use strings::Outcome;
+use strings::parse_signs;
 use strings::parse_strings;
 ghost use mathlib.Core.Path.{_≡_};
 ghost use Rattle.definition.specs.Reading.{readNumbers};
+ghost use Rattle.definition.specs.Rows.{signsNumbers};
 ghost use Rattle.definition.specs.Literals.{literalsInto};
 ghost use Rattle.strings.specs.Strings.{says};
 ghost use Rattle.literals.specs.Answers as listing;
-ghost use Rattle.stumpgarret.specs.Twelve.{twelve, CallIs, ListIs};
+ghost use Rattle.stumpgarret.specs.Twelve.{twelve, CallIs, SignsIs, ListIs};
 
 const TOO_LITTLE_LIST_ROOM: u32 = 53;
 
@@ -60,6 +62,19 @@ pub extern "C" fn stumpgarret_read(
     ensures { λ _. ⌜ CallIs (readNumbers (now (script .entry)) (now (literals .entry)) (now (words .entry)) (now (text .entry))) (now (answer .exit)) (now (words .exit)) (now (text .exit)) ⌝ }
 {
     *answer = twelve(parse_strings(script, literals, words, text));
+}
+
+// Reads the literals as `stumpgarret_read` does, writes the row of each field, ten numbers for each, and answers in twelve numbers.
+#[no_mangle]
+pub extern "C" fn stumpgarret_signs(
+    script: &[u8],
+    literals: &[u32],
+    rows: &mut [u32],
+    answer: &mut [u32; 12],
+)
+    ensures { λ _. ⌜ SignsIs (signsNumbers (now (script .entry)) (now (literals .entry)) (now (rows .entry))) (now (answer .exit)) (now (rows .exit)) ⌝ }
+{
+    *answer = twelve(parse_signs(script, literals, rows));
 }
 
 // A listing's numbers, and zeros up to twelve.

@@ -9,7 +9,7 @@ use std::process::{Child, ChildStdin, ChildStdout, Command, Stdio};
 
 use inputs::{FILL_BYTE, FILL_WORD};
 
-use crate::check::{Answer, Room};
+use crate::check::{Answer, Room, ROWS};
 
 /// Requests that go together, and their answers, are less than a pipe holds, so that neither
 /// end waits for the other to read.
@@ -52,13 +52,15 @@ impl Server {
 
     /// Puts a request behind those that are to go, with both buffers filled.
     fn ask(&mut self, script: &[u8], list: &[u32], (words, text): Room) {
-        for size in [list.len(), script.len(), words, text] {
-            self.bytes.extend(u32::try_from(size).expect("sizes fit 32 bits").to_le_bytes());
+        let size = |size: usize| u32::try_from(size).expect("sizes fit 32 bits");
+        let text_size = if text == ROWS { u32::MAX } else { size(text) };
+        for size in [size(list.len()), size(script.len()), size(words), text_size] {
+            self.bytes.extend(size.to_le_bytes());
         }
         self.bytes.extend(list.iter().flat_map(|word| word.to_le_bytes()));
         self.bytes.extend(script);
         self.bytes.extend((0..words).flat_map(|_| FILL_WORD.to_le_bytes()));
-        self.bytes.extend((0..text).map(|_| FILL_BYTE));
+        self.bytes.extend((0..text_lent(text)).map(|_| FILL_BYTE));
     }
 
     fn send(&mut self) {
@@ -102,7 +104,16 @@ impl Server {
 
 /// Twelve numbers, the words and the text: as many bytes as both buffers take in a request.
 fn size_of_answer((words, text): Room) -> usize {
-    48 + 4 * words + text
+    48 + 4 * words + text_lent(text)
+}
+
+/// How many text bytes are lent: none where rows are asked for.
+fn text_lent(text: usize) -> usize {
+    if text == ROWS {
+        0
+    } else {
+        text
+    }
 }
 
 /// What is answered with each room.

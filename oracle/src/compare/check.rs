@@ -3,8 +3,8 @@
 use std::fmt;
 
 use inputs::{Case, FILL_BYTE, FILL_WORD};
-use oracle::answer::{Numbers, Outcome};
-use oracle::rules::{self, RECORD_WORDS};
+use oracle::answer::{Numbers, Outcome, Row};
+use oracle::rules::{self, RECORD_WORDS, ROW_NUMBERS};
 
 use crate::candidate;
 
@@ -12,8 +12,10 @@ use crate::candidate;
 const RECORDS_SHOWN: usize = 40;
 const TEXT_SHOWN: usize = 2_000;
 
-/// Words and text bytes that are lent.
+/// Words and text bytes that are lent; ROWS in place of the text bytes asks for the rows of the
+/// fields, in the words.
 pub type Room = (usize, usize);
+pub const ROWS: usize = usize::MAX;
 
 /// The numbers answered, and both buffers. What stands around them is watched by server.c.
 #[derive(PartialEq)]
@@ -24,8 +26,13 @@ pub struct Answer {
 }
 
 impl Answer {
-    /// What an outcome answers and leaves with a room.
-    fn expected(outcome: &Outcome, room: Room) -> Answer {
+    /// What an outcome, whose rows are these, answers and leaves with a room.
+    fn expected(outcome: &Outcome, rows: &[Row], room: Room) -> Answer {
+        if room.1 == ROWS {
+            let mut words = vec![FILL_WORD; room.0];
+            let numbers = rules::lay_out_rows(outcome, rows, &mut words);
+            return Answer { numbers, words, text: Vec::new() };
+        }
         let (mut words, mut text) = (vec![FILL_WORD; room.0], vec![FILL_BYTE; room.1]);
         let numbers = rules::lay_out(outcome, &mut words, &mut text);
         Answer { numbers, words, text }
@@ -79,14 +86,23 @@ impl Checker {
     pub fn check(&mut self, case: &Case) -> Option<Difference> {
         let outcome = rules::reading(&case.script, &case.list);
         self.readings[outcome.as_ref().map_or_else(|refusal| refusal.number as usize, |_| 0)] += 1;
-        let rooms = rooms(&outcome);
+        let rows = outcome
+            .as_ref()
+            .map_or(Vec::new(), |accepted| rules::rows(&case.script, &case.list, accepted));
+        let rooms = rooms(&outcome, rows.len());
         let given = candidate::read(&case.script, &case.list, &rooms);
         let mut answers = rooms.into_iter().zip(given);
-        answers.find_map(|(room, given)| self.compare(&outcome, room, given))
+        answers.find_map(|(room, given)| self.compare(&outcome, &rows, room, given))
     }
 
-    fn compare(&mut self, outcome: &Outcome, room: Room, given: Answer) -> Option<Difference> {
-        let expected = Answer::expected(outcome, room);
+    fn compare(
+        &mut self,
+        outcome: &Outcome,
+        rows: &[Row],
+        room: Room,
+        given: Answer,
+    ) -> Option<Difference> {
+        let expected = Answer::expected(outcome, rows, room);
         self.calls += 1;
         if let number @ (30 | 31) = expected.numbers[0] {
             self.short_of_room[number as usize] += 1;
@@ -116,13 +132,18 @@ impl Checker {
 }
 
 /// Rooms to try: for an acceptance more than needed, just enough, one word less than the
-/// records need, one byte less than the text, both, and none at all.
-fn rooms(outcome: &Outcome) -> Vec<Room> {
+/// records need, one byte less than the text, both, and none at all; and the same for the rows of so
+/// many fields.
+fn rooms(outcome: &Outcome, fields: usize) -> Vec<Room> {
     let Ok(accepted) = outcome else {
-        return vec![(11, 5), (0, 0)];
+        return vec![(11, 5), (0, 0), (11, ROWS)];
     };
+    let numbers = fields * ROW_NUMBERS;
     let (words, text) = (accepted.records.len() * RECORD_WORDS, accepted.text.len());
-    let mut rooms = vec![(words + 11, text + 3), (words, text)];
+    let mut rooms = vec![(words + 11, text + 3), (words, text), (numbers + 7, ROWS)];
+    if fields > 0 {
+        rooms.extend([(numbers, ROWS), (numbers - 1, ROWS)]);
+    }
     if words > 0 {
         rooms.extend([(words - 1, text), (0, 0)]);
     }

@@ -6,6 +6,10 @@
    the list, the script, the words and the text as they are before the call.
    Answer: 12 u32, the words, the text after the call.
 
+   The same with u32 FFFFFFFF for the text bytes asks for the rows of the fields: the words are lent
+   for them, and no text.
+   Answer: 12 u32, the words after the call.
+
    Request for the literals of a script: u32 FFFFFFFF, u32 script bytes, u32 numbers lent,
    u32 offset, the script, the numbers as they are before the call.
    Answer: 12 u32, the numbers after the call.
@@ -20,7 +24,7 @@
 #include "stumpgarret.h"
 
 enum { GUARD = 16, FILL = 0x5A };
-static const uint32_t LITERALS = UINT32_MAX;
+static const uint32_t LITERALS = UINT32_MAX, ROWS = UINT32_MAX;
 
 static void *lend(size_t size)
 {
@@ -121,6 +125,32 @@ static void answer_reading(const uint32_t size[4])
     give_back(list, list_size, "the list");
 }
 
+static void answer_rows(const uint32_t size[4])
+{
+    size_t list_size = 4 * (size_t)size[0], rows_size = 4 * (size_t)size[2];
+    uint32_t *list = lend(list_size), *rows = lend(rows_size);
+    uint8_t *script = lend(size[1]);
+    take(list, list_size);
+    take(script, size[1]);
+    take(rows, rows_size);
+    void *list_before = lend(list_size), *script_before = lend(size[1]);
+    memcpy(list_before, list, list_size);
+    memcpy(script_before, script, size[1]);
+    uint32_t *answer = lend(48);
+    memset(answer, 0xFF, 48);
+    stumpgarret_signs(script, size[1], list, size[0], rows, size[2], answer);
+    put(answer, 48);
+    put(rows, rows_size);
+    unchanged(list, list_before, list_size, "the list");
+    unchanged(script, script_before, size[1], "the script");
+    give_back(list_before, list_size, "a copy of the list");
+    give_back(script_before, size[1], "a copy of the script");
+    give_back(answer, 48, "the answer");
+    give_back(rows, rows_size, "the rows");
+    give_back(script, size[1], "the script");
+    give_back(list, list_size, "the list");
+}
+
 static void answer_literals(const uint32_t size[4])
 {
     size_t numbers_size = 4 * (size_t)size[2];
@@ -150,6 +180,8 @@ int main(void)
         take(size, sizeof size);
         if (size[0] == LITERALS)
             answer_literals(size);
+        else if (size[3] == ROWS)
+            answer_rows(size);
         else
             answer_reading(size);
     }

@@ -4,3 +4,4 @@ mod literals;
 mod readings;
 mod refusals;
 mod room;
+mod signs;

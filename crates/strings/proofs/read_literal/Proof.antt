@@ -21,4 +21,5 @@ read-literal-spec =
     (λ c κs. search needs)  -- read-body-requires
     (λ c. search needs)  -- same-length
     (λ c. search needs)  -- same-length-2
-    (λ c. rw (c .before .before .before .before .before .before .before .before .before .opening .ensures) at (c .before .before .before .before .read-body .ensures)))  -- returns
+    (λ c. search needs)  -- same-length-3
+    (λ c. rw (c .before .before .before .before .before .before .before .before .before .before .before .before .opening .ensures) at (c .before .before .before .before .before .before .read-body .ensures)))  -- returns

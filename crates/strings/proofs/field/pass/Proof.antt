@@ -1,6 +1,6 @@
 -- `strings::field::pass` meets its contract. Assumes nothing.
 use borrow.Author.Needs.{needs}
-use borrow.Author.Tests.{eq-eqb, ne-eqb}
+use borrow.Author.Tests.{eq-eqb, ne-eqb, le-ltb}
 use native.Mathlib.Omega.{arith}
 use mathlib.Core.Path.{refl, _∙_}
 use mathlib.Core.List.{List}
@@ -28,18 +28,18 @@ pub pass-spec : {M : Type 1} → statement M
 pass-spec =
     tie.close
     (tie.spec
-    (λ c. nothing _ _ (c .before .before .pre))  -- returns
+    (λ c. nothing _ _ (c .before .before .before .pre))  -- returns
     (λ c κs. search needs)  -- passing-end-requires
-    (λ c. nothing _ _ (c .before .before .before .before .before .pre))  -- returns-2
+    (λ c. nothing _ _ (c .before .before .before .before .before .before .pre))  -- returns-2
     (λ c κs. search needs)  -- kept-requires
     (λ c.
-    let f = c .before .before .before .before .before .before .args .f in
-    let e = c .before .before .before .passing-end .ensures in
+    let f = (c .before .before .before .before .before .before .before .args .f) in
+    let e = (c .before .before .before .passing-end .ensures) in
     record {
-      end = c .before .before .before .passing-end .result;
+      end = (c .before .before .before .passing-end .result);
       on = e .0;
       within = e .1;
       all = e .2;
-      undocumented = λ _. c .before .before .before .before .if1 .left;
-      is = c .kept .ensures ∙ rw (ne-eqb _ (f .at) (c .before .if2 .left), and-false (f .blank));
+      undocumented = λ _. le-ltb _ _ (c .before .before .before .before .if1 .left);
+      is = (c .kept .ensures) ∙ rw (ne-eqb _ (f .at) (c .before .if2 .left), and-false (f .blank));
     }))  -- returns-3

@@ -20,4 +20,4 @@ skip-spec =
     (λ c. search needs)  -- same-length
     (λ c.
     let a = c .before .before .before .before .before .before .before .args in
-    (ap (λ (n : ℕ). record { at = a .to; run = a .to; used = n; depth = a .f .depth; spaces = a .f .spaces; conversion = a .f .conversion; blank = a .f .blank; documented = a .f .documented }) (omega (arith, length-part (a .s .now) (a .f .run) (a .f .at) (c .before .before .before .before .before .before .before .pre .within))), c .before .before .add-run .ensures)))  -- returns
+    (ap (λ (n : ℕ). record { at = a .to; run = a .to; used = n; depth = a .f .depth; spaces = a .f .spaces; equals = a .f .equals; bang = a .f .bang; conversion = a .f .conversion; blank = a .f .blank }) (omega (arith, length-part (a .s .now) (a .f .run) (a .f .at) (c .before .before .before .before .before .before .before .pre .within))), c .before .before .add-run .ensures)))  -- returns

@@ -1,15 +1,18 @@
 -- The cycle of `strings::fstring::parse_formatted_value`, `parse_fstring` and `parse_spec` meets its contracts. Assumes nothing.
 use borrow.Author.Needs.{needs}
 use native.Mathlib.Omega.{arith}
-use mathlib.Core.Path.{_≡_, refl, sym, _∙_}
+use mathlib.Core.Path.{_≡_, refl, sym, ap, _∙_}
 use Prim.Native.Nat.{_+_, _-_}
 use native.Mathlib.Numerals.{add-one}
 use borrow.Author.Tests.{eq-eqb, ne-eqb}
 use Rattle.definition.proofs.CharLaws.{next-past, next-in}
 use Rattle.definition.proofs.Fuel.{first-in}
 use lib.ListN.{length}
-use Rattle.strings.proofs.FstringLaws.{gave, refuses, to-refuse, fits, small-head, one-part, spec-room, closed-field, unformatted-field, specified-field, Sofar, start, deep-result, run-ended, room-text, text-over, field-refused, field-read, field-further, kept, first-room, spec-plain, spec-braced, spec-refused, spec-fits}
-use Prim.Native.Nat.{ℕ, _<_}
+use Rattle.definition.specs.Body.{signs}
+use Rattle.strings.specs.declared.fstring.Read.the-variants.{Refused}
+use Rattle.strings.proofs.FstringLaws.{signsOf, gave, refuses, to-refuse, fits, small-head, one-part, spec-room, closed-field, closed-reads, unformatted-field, spec-unended, spec-ended, specified-field, deep-result, run-ended, room-text, over-reads, text-over, field-refused, field-further, kept, first-emits, first-room, plain-reads, spec-plain, braced-reads, spec-braced, spec-refused, spec-fits}
+use Rattle.strings.proofs.RowLaws.{Rowing, begun, text-few, goes-on, both-signed, filled-signed, text-signed, closed-signed, field-signed, read-signed, to-sign, few-on, few-field, placed, head-in}
+use Prim.Native.Nat.{ℕ, suc, _<_, _≤_}
 use borrow.Fn.Kinds.{In}
 use borrow.Fn.PlainCycle.{Measures, is, falls, and}
 use Rattle.strings.proofs.fstring.parse_formatted_value.Reads as parse-formatted-value
@@ -29,6 +32,7 @@ use Rattle.strings.proofs.field.read_head.Reads as read-head-reads
 use Rattle.strings.proofs.fstring.end_field.Reads as end-field-reads
 use Rattle.strings.proofs.fstring.read_first.Reads as read-first-reads
 use Rattle.strings.proofs.fstring.refuse.Reads as refuse-reads
+use Rattle.strings.proofs.rows.put_signs.Reads as put-signs-reads
 use Rattle.strings.proofs.text.text_run.Reads as text-run-reads
 use Rattle.utf8.proofs.Cursor.peek.Reads as peek-reads
 use Rattle.strings.proofs.fstring.+parse_formatted_value+parse_fstring+parse_spec.{
@@ -38,53 +42,53 @@ use Rattle.strings.proofs.fstring.+parse_formatted_value+parse_fstring+
   close,
 }
 
-abbrev μ-parse-formatted-value : Measures 3 parse-formatted-value-kinds.ps ℕ
+abbrev μ-parse-formatted-value : Measures 4 parse-formatted-value-kinds.ps ℕ
 μ-parse-formatted-value κs a = (length (a .0 .now) - a .1 .0 .at) + (2 - a .1 .1 .0)
 
-abbrev μ-parse-fstring : Measures 3 parse-fstring-kinds.ps ℕ
+abbrev μ-parse-fstring : Measures 4 parse-fstring-kinds.ps ℕ
 μ-parse-fstring κs a = (length (a .0 .now) - a .1 .0 .at) + (2 - a .1 .1 .0)
 
-abbrev μ-parse-spec : Measures 3 parse-spec-kinds.ps ℕ
+abbrev μ-parse-spec : Measures 4 parse-spec-kinds.ps ℕ
 μ-parse-spec κs a = (length (a .0 .now) - a .1 .0 .at) + (2 - a .1 .1 .0)
 
-abbrev parse-formatted-value-at : ℕ → In 3 parse-formatted-value-kinds.ps
+abbrev parse-formatted-value-at : ℕ → In 4 parse-formatted-value-kinds.ps
 parse-formatted-value-at t =
     and
-    3
+    4
     parse-formatted-value-kinds.ps
-    (is 3 parse-formatted-value-kinds.ps μ-parse-formatted-value t)
+    (is 4 parse-formatted-value-kinds.ps μ-parse-formatted-value t)
     parse-formatted-value.Pre
 
-abbrev parse-formatted-value-below : ℕ → In 3 parse-formatted-value-kinds.ps
+abbrev parse-formatted-value-below : ℕ → In 4 parse-formatted-value-kinds.ps
 parse-formatted-value-below t =
     and
-    3
+    4
     parse-formatted-value-kinds.ps
-    (falls 3 parse-formatted-value-kinds.ps _<_ μ-parse-formatted-value t)
+    (falls 4 parse-formatted-value-kinds.ps _<_ μ-parse-formatted-value t)
     parse-formatted-value.Pre
 
-abbrev parse-fstring-at : ℕ → In 3 parse-fstring-kinds.ps
+abbrev parse-fstring-at : ℕ → In 4 parse-fstring-kinds.ps
 parse-fstring-at t =
-    and 3 parse-fstring-kinds.ps (is 3 parse-fstring-kinds.ps μ-parse-fstring t) parse-fstring.Pre
+    and 4 parse-fstring-kinds.ps (is 4 parse-fstring-kinds.ps μ-parse-fstring t) parse-fstring.Pre
 
-abbrev parse-fstring-below : ℕ → In 3 parse-fstring-kinds.ps
+abbrev parse-fstring-below : ℕ → In 4 parse-fstring-kinds.ps
 parse-fstring-below t =
     and
-    3
+    4
     parse-fstring-kinds.ps
-    (falls 3 parse-fstring-kinds.ps _<_ μ-parse-fstring t)
+    (falls 4 parse-fstring-kinds.ps _<_ μ-parse-fstring t)
     parse-fstring.Pre
 
-abbrev parse-spec-at : ℕ → In 3 parse-spec-kinds.ps
+abbrev parse-spec-at : ℕ → In 4 parse-spec-kinds.ps
 parse-spec-at t =
-    and 3 parse-spec-kinds.ps (is 3 parse-spec-kinds.ps μ-parse-spec t) parse-spec.Pre
+    and 4 parse-spec-kinds.ps (is 4 parse-spec-kinds.ps μ-parse-spec t) parse-spec.Pre
 
-abbrev parse-spec-below : ℕ → In 3 parse-spec-kinds.ps
+abbrev parse-spec-below : ℕ → In 4 parse-spec-kinds.ps
 parse-spec-below t =
-    and 3 parse-spec-kinds.ps (falls 3 parse-spec-kinds.ps _<_ μ-parse-spec t) parse-spec.Pre
+    and 4 parse-spec-kinds.ps (falls 4 parse-spec-kinds.ps _<_ μ-parse-spec t) parse-spec.Pre
 
 abbrev parse-formatted-value-calls : ℕ → parse-formatted-value-lts.Claims
-parse-formatted-value-calls t = (read-head-reads.Asked, read-head-reads.Learnt, emit-field-reads.Asked, emit-field-reads.Learnt, parse-spec-below t, parse-spec.Post, end-field-reads.Asked, end-field-reads.Learnt)
+parse-formatted-value-calls t = (read-head-reads.Asked, read-head-reads.Learnt, emit-field-reads.Asked, emit-field-reads.Learnt, put-signs-reads.Asked, put-signs-reads.Learnt, parse-spec-below t, parse-spec.Post, end-field-reads.Asked, end-field-reads.Learnt)
 
 abbrev parse-fstring-calls : ℕ → parse-fstring-lts.Claims
 parse-fstring-calls t = (refuse-reads.Asked, refuse-reads.Learnt, text-run-reads.Asked, text-run-reads.Learnt, end-text-reads.Asked, end-text-reads.Learnt, parse-formatted-value-below t, parse-formatted-value.Post)
@@ -93,10 +97,66 @@ abbrev parse-spec-calls : ℕ → parse-spec-lts.Claims
 parse-spec-calls t = (read-first-reads.Asked, read-first-reads.Learnt, reserve-reads.Asked, reserve-reads.Learnt, end-text-reads.Asked, end-text-reads.Learnt, peek-reads.Asked, peek-reads.Learnt, fill-spec-reads.Asked, fill-spec-reads.Learnt, parse-fstring-below t, parse-fstring.Post)
 
 abbrev parse-fstring-Inv-loop : parse-fstring-lts.InvT-loop
-parse-fstring-Inv-loop s nested fr words₀ text₀ cursor₀ sink₀ words text cursor sink = (length words ≡ length words₀) × (length text ≡ length text₀) × Sofar s (fr .kind) nested (cursor₀ .at) fr words₀ text₀ words text sink₀ (cursor .at) sink
+parse-fstring-Inv-loop s nested fr words₀ text₀ rows₀ fields cursor₀ sink₀ count₀ words text rows cursor sink count =
+    (length words ≡ length words₀)
+    × (length text ≡ length text₀)
+    × (length rows ≡ length rows₀)
+    × Rowing s (fr .kind) nested (cursor₀ .at) fr words₀ text₀ words text rows₀ rows sink₀ fields (cursor .at) sink count
 
 abbrev parse-fstring-μ-loop : parse-fstring-lts.MeasureT-loop
-parse-fstring-μ-loop s nested fr words₀ text₀ cursor₀ sink₀ words text cursor sink = length s - cursor .at
+parse-fstring-μ-loop s nested fr words₀ text₀ rows₀ fields cursor₀ sink₀ count₀ words text rows cursor sink count = length s - cursor .at
+
+parse-formatted-value-returns : (t : ℕ) → parse-formatted-value-lts.Need-returns (parse-formatted-value-calls t) (parse-formatted-value-at t) parse-formatted-value.Post
+parse-formatted-value-returns t c =
+    let a = (c .before .before .before .before .before .before .before .before .before .before .before .before .before .before .before .before .before .before .before .before .before .before .before .before .before .before .args) in let E = rw (c .before .before .before .before .before .before .before .before .before .before .before .before .before .before .before .before .h .given .1) at (c .before .before .before .before .before .before .before .before .before .before .before .before .before .before .before .before .before .before .before .before .read-head .ensures) in let C = rw (c .before .before .before .before .if1 .taken) at E in let m = (c .before .before .before .before .before .before .before .before .before .emit-field .ensures) (C .head .expression) (a .text .now) (signsOf (c .before .before .before .before .before .before .before .before .before .before .before .before .before .before .before .before .h .given .0 .0) 0 ((c .before .before .before .before .before .before .before .before .before .before .before .before .before .before .before .before .h .given .0 .0) .at .at)) (C .head .grown) (C .head .wrote) in (closed-field (a .s .now) (a .nested) (a .at .at) _ (a .fr) _ _ (c .before .before .before .before .before .before .before .before .before .before .before .before .before .before .before .before .h .given .0 .0) C _ _ _ (a .k) _ _ (rw (c .before .before .before .before .if1 .taken) at m), to-sign _ _ _ _ (a .fr) _ _ (a .fields) (closed-reads (a .s .now) (a .nested) (a .at .at) _ (a .fr) _ _ (c .before .before .before .before .before .before .before .before .before .before .before .before .before .before .before .before .h .given .0 .0) C) (closed-signed (a .fr) (a .nested) (C .head .expression) (c .before .before .before .before .before .before .before .before .before .before .before .before .before .before .before .before .h .given .0 .0) 0 (a .at .at) 0 ((c .before .before .before .before .before .before .before .before .before .before .before .before .before .before .before .before .h .given .0 .0) .at .at) _ _ _ _ (a .fields) (omega (arith, C .head .grown)) (rw (c .before .before .before .before .if1 .taken) at (c .before .before .put-signs .ensures)) refl))
+
+parse-formatted-value-parse-spec-requires : (t : ℕ) → parse-formatted-value-lts.Need-parse-spec-requires (parse-formatted-value-calls t) (parse-formatted-value-at t) parse-formatted-value.Post
+parse-formatted-value-parse-spec-requires t c κs =
+    let a = (c .before .before .before .before .before .before .before .before .before .before .before .before .before .before .before .before .before .before .before .before .before .before .before .before .before .args) in let R = (c .before .before .before .before .before .before .before .before .before .before .before .before .before .before .before .before .before .before .before .before .before .before .before .before .before .pre .1 .0) in let E = rw (c .before .before .before .before .before .before .before .before .before .before .before .before .before .before .before .h .given .1) at (c .before .before .before .before .before .before .before .before .before .before .before .before .before .before .before .before .before .before .before .read-head .ensures) in let p = one-part _ _ _ _ _ _ _ E (c .before .before .before .if1 .left) in let C = rw p at E in let m = (c .before .before .before .before .before .before .before .before .emit-field .ensures) (C .head .expression) (a .text .now) in let q = spec-room _ _ _ _ _ _ _ _ _ _ _ _ _ (C .head) R (signs 0 0 0 0) (rw p at (m (signs 0 0 0 0) (C .head .grown) (C .head .wrote))) in let e = (c .before .before .before .before .before .before .before .before .before .before .before .before .before .before .before .before .before .before .before .before .before .before .before .before .before .pre .0) in (omega (arith, e, q .further, q .room .low), (q .room, (((c .before .before .before .before .before .before .before .before .before .before .before .before .before .before .before .before .before .before .before .before .before .before .before .before .before .pre .1 .1 .0), q .free, q .strict), few-field (a .fr) (a .nested) (C .head .expression) (c .before .before .before .before .before .before .before .before .before .before .before .before .before .before .before .h .given .0 .0) 1 (a .at .at) _ _ _ _ (a .k) _ (a .fields) (λ g. rw p at (m g (C .head .grown) (C .head .wrote))) (c .before .before .before .before .before .before .before .before .before .before .before .before .before .before .before .before .before .before .before .before .before .before .before .before .before .pre .1 .1 .1))))
+
+parse-formatted-value-put-signs-requires-2 : (t : ℕ) → parse-formatted-value-lts.Need-put-signs-requires-2 (parse-formatted-value-calls t) (parse-formatted-value-at t) parse-formatted-value.Post
+parse-formatted-value-put-signs-requires-2 t c κs =
+    let a = (c .before .before .before .before .before .before .before .before .before .before .before .before .before .before .before .before .before .before .before .before .before .before .before .before .before .before .before .before .before .before .before .before .before .before .before .before .before .before .before .before .args) in let E = rw (c .before .before .before .before .before .before .before .before .before .before .before .before .before .before .before .before .before .before .before .before .before .before .before .before .before .before .before .before .before .before .h .given .1) at (c .before .before .before .before .before .before .before .before .before .before .before .before .before .before .before .before .before .before .before .before .before .before .before .before .before .before .before .before .before .before .before .before .before .before .read-head .ensures) in let p = one-part _ _ _ _ _ _ _ E (c .before .before .before .before .before .before .before .before .before .before .before .before .before .before .before .before .before .before .if1 .left) in let C = rw p at E in let Q = rw (c .before .before .before .before .before .before .next .given .1) at (c .before .before .before .before .before .before .before .before .before .before .before .before .before .before .parse-spec .ensures) in let G = gave _ _ _ _ _ _ _ _ _ _ _ _ (Q .0) in let z = spec-ended (a .s .now) (a .nested) (a .at .at) _ (a .fr) _ _ (c .before .before .before .before .before .before .before .before .before .before .before .before .before .before .before .before .before .before .before .before .before .before .before .before .before .before .before .before .before .before .h .given .0 .0) (C .head) (G .pieces) _ (G .reads) _ (sym (c .before .before .close .given .1) ∙ (c .before .before .before .before .end-field .ensures)) in placed _ _ _ _ _ _ _ _ _ _ _ (C .head) (c .before .before .before .before .before .before .before .before .before .before .before .before .before .before .before .before .before .before .before .before .before .before .before .before .before .before .before .before .before .before .before .before .before .before .before .before .before .before .before .before .pre .1 .0) (head-in _ _ _ _ _ _ _ (C .head)) (z .1)
+
+parse-formatted-value-returns-3 : (t : ℕ) → parse-formatted-value-lts.Need-returns-3 (parse-formatted-value-calls t) (parse-formatted-value-at t) parse-formatted-value.Post
+parse-formatted-value-returns-3 t c =
+    let E = rw (c .before .before .before .before .before .before .before .before .before .before .before .before .before .before .before .before .before .before .before .before .before .before .before .before .before .h .given .1) at (c .before .before .before .before .before .before .before .before .before .before .before .before .before .before .before .before .before .before .before .before .before .before .before .before .before .before .before .before .before .read-head .ensures) in let p = one-part _ _ _ _ _ _ _ E (c .before .before .before .before .before .before .before .before .before .before .before .before .before .if1 .left) in let C = rw p at E in let Q = rw (c .before .r2 .given .1) at (c .before .before .before .before .before .before .before .before .before .parse-spec .ensures) in let z = refuses _ _ _ _ _ _ _ _ _ _ (Q .0) in (to-refuse (λ l. l) _ _ _ _ _ _ _ _ _ (unformatted-field _ _ _ _ _ _ _ _ (C .head) _ z), tt)
+
+parse-formatted-value-returns-4 : (t : ℕ) → parse-formatted-value-lts.Need-returns-4 (parse-formatted-value-calls t) (parse-formatted-value-at t) parse-formatted-value.Post
+parse-formatted-value-returns-4 t c =
+    let a = (c .before .before .before .before .before .before .before .before .before .before .before .before .before .before .before .before .before .before .before .before .before .before .before .before .before .before .before .before .before .before .before .before .before .before .before .before .before .before .before .args) in let E = rw (c .before .before .before .before .before .before .before .before .before .before .before .before .before .before .before .before .before .before .before .before .before .before .before .before .before .before .before .before .before .h .given .1) at (c .before .before .before .before .before .before .before .before .before .before .before .before .before .before .before .before .before .before .before .before .before .before .before .before .before .before .before .before .before .before .before .before .before .read-head .ensures) in let p = one-part _ _ _ _ _ _ _ E (c .before .before .before .before .before .before .before .before .before .before .before .before .before .before .before .before .before .if1 .left) in let C = rw p at E in let Q = rw (c .before .before .before .before .before .next .given .1) at (c .before .before .before .before .before .before .before .before .before .before .before .before .before .parse-spec .ensures) in let G = gave _ _ _ _ _ _ _ _ _ _ _ _ (Q .0) in (to-refuse (λ l. l) _ _ _ _ _ _ _ _ _ (spec-unended (a .s .now) (a .nested) (a .at .at) _ (a .fr) _ _ (c .before .before .before .before .before .before .before .before .before .before .before .before .before .before .before .before .before .before .before .before .before .before .before .before .before .before .before .before .before .h .given .0 .0) (C .head) (G .pieces) _ (G .reads) _ (sym (c .before .r3 .given .1) ∙ (c .before .before .before .end-field .ensures))), tt)
+
+parse-formatted-value-returns-5 : (t : ℕ) → parse-formatted-value-lts.Need-returns-5 (parse-formatted-value-calls t) (parse-formatted-value-at t) parse-formatted-value.Post
+parse-formatted-value-returns-5 t c =
+    let a = (c .before .before .before .before .before .before .before .before .before .before .before .before .before .before .before .before .before .before .before .before .before .before .before .before .before .before .before .before .before .before .before .before .before .before .before .before .before .before .before .before .before .before .before .args) in let E = rw (c .before .before .before .before .before .before .before .before .before .before .before .before .before .before .before .before .before .before .before .before .before .before .before .before .before .before .before .before .before .before .before .before .before .h .given .1) at (c .before .before .before .before .before .before .before .before .before .before .before .before .before .before .before .before .before .before .before .before .before .before .before .before .before .before .before .before .before .before .before .before .before .before .before .before .before .read-head .ensures) in let p = one-part _ _ _ _ _ _ _ E (c .before .before .before .before .before .before .before .before .before .before .before .before .before .before .before .before .before .before .before .before .before .if1 .left) in let C = rw p at E in let m = (c .before .before .before .before .before .before .before .before .before .before .before .before .before .before .before .before .before .before .before .before .before .before .before .before .before .before .emit-field .ensures) (C .head .expression) (a .text .now) in let Q = rw (c .before .before .before .before .before .before .before .before .before .next .given .1) at (c .before .before .before .before .before .before .before .before .before .before .before .before .before .before .before .before .before .parse-spec .ensures) in let G = gave _ _ _ _ _ _ _ _ _ _ _ _ (Q .0) in let w = sym (c .before .before .before .before .before .close .given .1) ∙ (c .before .before .before .before .before .before .before .end-field .ensures) in (specified-field (a .s .now) (a .nested) (a .at .at) _ (a .fr) _ _ (c .before .before .before .before .before .before .before .before .before .before .before .before .before .before .before .before .before .before .before .before .before .before .before .before .before .before .before .before .before .before .before .before .before .h .given .0 .0) (C .head) (G .pieces) _ (G .reads) (c .before .before .before .before .before .close .given .0 .0) w _ _ _ _ _ (a .k) _ _ _ (λ g. rw p at (m g (C .head .grown) (C .head .wrote))) (G .emits), to-sign _ _ _ _ (a .fr) _ _ (a .fields) (spec-ended (a .s .now) (a .nested) (a .at .at) _ (a .fr) _ _ (c .before .before .before .before .before .before .before .before .before .before .before .before .before .before .before .before .before .before .before .before .before .before .before .before .before .before .before .before .before .before .before .before .before .h .given .0 .0) (C .head) (G .pieces) _ (G .reads) (c .before .before .before .before .before .close .given .0 .0) w .0) (field-signed (a .fr) (a .nested) (C .head .expression) (c .before .before .before .before .before .before .before .before .before .before .before .before .before .before .before .before .before .before .before .before .before .before .before .before .before .before .before .before .before .before .before .before .before .h .given .0 .0) 1 (a .at .at) ((c .before .before .before .before .before .before .before .before .before .before .before .before .before .before .before .before .before .before .before .before .before .before .before .before .before .before .before .before .before .before .before .before .before .h .given .0 .0) .at .at) _ _ _ _ _ (a .fields) (omega (arith, C .head .grown)) (rw p at (c .before .before .put-signs2 .ensures)) (G .pieces) _ _ (read-signed _ _ _ _ _ _ _ _ (G .reads) (Q .1))))
+
+parse-spec-end-text-requires : (t : ℕ) → parse-spec-lts.Need-end-text-requires (parse-spec-calls t) (parse-spec-at t) parse-spec.Post
+parse-spec-end-text-requires t c κs =
+    let a = (c .before .before .before .before .before .before .before .before .before .before .before .args) in let R = (c .before .before .before .before .before .before .before .before .before .before .before .pre .1 .0) in let K = kept (a .k) (c .reserve .result) (c .reserve .ensures .0) (c .reserve .ensures .1) in let F = (c .before .before .before .before .before .read-first .ensures) in let lo = first-in (a .s .now) (a .at .at) (R .low) in (record { small = omega (arith, K .load, R .load); ordered = K .ordered (R .ordered) }, (omega (arith, K .used, F .0, F .1), omega (arith, F .0, F .1, R .load, R .small)))
+
+parse-spec-fill-spec-requires : (t : ℕ) → parse-spec-lts.Need-fill-spec-requires (parse-spec-calls t) (parse-spec-at t) parse-spec.Post
+parse-spec-fill-spec-requires t c κs =
+    let a = (c .before .before .before .before .before .before .before .before .before .before .before .before .before .before .before .before .before .args) in let R = (c .before .before .before .before .before .before .before .before .before .before .before .before .before .before .before .before .before .pre .1 .0) in let Z = (c .before .before .before .before .before .before .before .before .before .before .before .before .before .before .before .before .before .pre .1 .1 .0) in let K = kept (a .k) (c .before .before .before .before .before .before .reserve .result) (c .before .before .before .before .before .before .reserve .ensures .0) (c .before .before .before .before .before .before .reserve .ensures .1) in let F = (c .before .before .before .before .before .before .before .before .before .before .before .read-first .ensures) in let g = rw (add-one (a .nested)) at (c .before .before .before .before .before .end-text .ensures) in (fits _ _ _ _ R, fits _ _ _ _ (first-room (a .s .now) (a .nested) (a .at .at) (a .fr) _ _ _ _ (a .k) _ _ _ _ R (Z .2) K (F .0) (F .1) (F .2) g))
+
+parse-spec-returns : (t : ℕ) → parse-spec-lts.Need-returns (parse-spec-calls t) (parse-spec-at t) parse-spec.Post
+parse-spec-returns t c =
+    let a = (c .before .before .before .before .before .before .before .before .before .before .before .before .before .before .before .before .before .before .before .before .args) in let R = (c .before .before .before .before .before .before .before .before .before .before .before .before .before .before .before .before .before .before .before .before .pre .1 .0) in let Z = (c .before .before .before .before .before .before .before .before .before .before .before .before .before .before .before .before .before .before .before .before .pre .1 .1 .0) in let K = kept (a .k) (c .before .before .before .before .before .before .before .before .before .reserve .result) (c .before .before .before .before .before .before .before .before .before .reserve .ensures .0) (c .before .before .before .before .before .before .before .before .before .reserve .ensures .1) in let F = (c .before .before .before .before .before .before .before .before .before .before .before .before .before .before .read-first .ensures) in let g = rw (add-one (a .nested)) at (c .before .before .before .before .before .before .before .before .end-text .ensures) in let n = ne-eqb _ _ (λ e. (c .before .before .before .before .if1 .taken) ((c .before .before .before .before .before .peek .ensures) ∙ e)) in (spec-plain (a .s .now) (a .nested) (a .at .at) (a .fr) _ _ _ _ (a .k) _ _ _ _ R (Z .2) K (F .0) (F .1) (F .2) g (Z .1) (c .before .before .before .before .before .before .before .before .before .reserve .ensures .0) (c .before .before .before .before .before .before .before .before .before .reserve .ensures .1) _ _ _ _ refl n (c .before .before .fill-spec .ensures .0) (c .before .before .fill-spec .ensures .1), to-sign _ _ _ _ (a .fr) _ _ (a .fields) (plain-reads (a .s .now) (a .nested) (a .at .at) (a .fr) _ _ _ _ (a .k) _ _ _ _ R (Z .2) K (F .0) (F .1) (F .2) g (Z .1) (c .before .before .before .before .before .before .before .before .before .reserve .ensures .0) (c .before .before .before .before .before .before .before .before .before .reserve .ensures .1) _ refl n) (filled-signed (a .fr) (suc (a .nested)) _ _ (a .fields)))
+
+parse-spec-parse-fstring-requires : (t : ℕ) → parse-spec-lts.Need-parse-fstring-requires (parse-spec-calls t) (parse-spec-at t) parse-spec.Post
+parse-spec-parse-fstring-requires t c κs =
+    let a = (c .before .before .before .before .before .before .before .before .before .before .before .before .before .before .before .before .before .before .before .args) in let R = (c .before .before .before .before .before .before .before .before .before .before .before .before .before .before .before .before .before .before .before .pre .1 .0) in let Z = (c .before .before .before .before .before .before .before .before .before .before .before .before .before .before .before .before .before .before .before .pre .1 .1 .0) in let K = kept (a .k) (c .before .before .before .before .before .before .before .before .reserve .result) (c .before .before .before .before .before .before .before .before .reserve .ensures .0) (c .before .before .before .before .before .before .before .before .reserve .ensures .1) in let F = (c .before .before .before .before .before .before .before .before .before .before .before .before .before .read-first .ensures) in let g = rw (add-one (a .nested)) at (c .before .before .before .before .before .before .before .end-text .ensures) in let lo = first-in (a .s .now) (a .at .at) (R .low) in let q = first-room (a .s .now) (a .nested) (a .at .at) (a .fr) _ _ _ _ (a .k) _ _ _ _ R (Z .2) K (F .0) (F .1) (F .2) g in (omega (arith, (c .before .before .before .before .before .before .before .before .before .before .before .before .before .before .before .before .before .before .before .pre .0), Z .0, F .0, q .low), (q, (omega (arith, Z .0), few-on (a .fr) (suc (a .nested)) _ _ _ _ _ _ _ _ _ _ _ (first-emits (a .s .now) (a .nested) (a .at .at) (a .fr) _ _ _ _ (a .k) _ _ _ _ R (Z .2) K (F .0) (F .1) (F .2) g) (filled-signed (a .fr) (suc (a .nested)) _ (a .rows .now) _) (omega (arith, K .count, (c .before .before .before .before .before .before .before .before .before .before .before .before .before .before .before .before .before .before .before .pre .1 .1 .1))))))
+
+parse-spec-fill-spec-requires-2 : (t : ℕ) → parse-spec-lts.Need-fill-spec-requires-2 (parse-spec-calls t) (parse-spec-at t) parse-spec.Post
+parse-spec-fill-spec-requires-2 t c κs =
+    let a = (c .before .before .before .before .before .before .before .before .before .before .before .before .before .before .before .before .before .before .before .before .before .before .before .before .before .before .before .before .before .before .args) in let R = (c .before .before .before .before .before .before .before .before .before .before .before .before .before .before .before .before .before .before .before .before .before .before .before .before .before .before .before .before .before .before .pre .1 .0) in let Z = (c .before .before .before .before .before .before .before .before .before .before .before .before .before .before .before .before .before .before .before .before .before .before .before .before .before .before .before .before .before .before .pre .1 .1 .0) in let K = kept (a .k) (c .before .before .before .before .before .before .before .before .before .before .before .before .before .before .before .before .before .before .before .reserve .result) (c .before .before .before .before .before .before .before .before .before .before .before .before .before .before .before .before .before .before .before .reserve .ensures .0) (c .before .before .before .before .before .before .before .before .before .before .before .before .before .before .before .before .before .before .before .reserve .ensures .1) in let F = (c .before .before .before .before .before .before .before .before .before .before .before .before .before .before .before .before .before .before .before .before .before .before .before .before .read-first .ensures) in let g = rw (add-one (a .nested)) at (c .before .before .before .before .before .before .before .before .before .before .before .before .before .before .before .before .before .before .end-text .ensures) in let Q = rw (add-one (a .nested), (c .before .before .next .given .1)) at (c .before .before .before .before .before .before .before .before .before .before .parse-fstring .ensures) in let H = gave _ _ _ _ _ _ _ _ _ _ _ _ (Q .0) in (fits _ _ _ _ R, spec-fits (a .s .now) (a .nested) (a .at .at) (a .fr) _ _ _ _ (a .k) _ _ _ _ R (Z .2) K (F .0) (F .1) (F .2) g (Z .1) (c .before .before .before .before .before .before .before .before .before .before .before .before .before .before .before .before .before .before .before .reserve .ensures .0) (c .before .before .before .before .before .before .before .before .before .before .before .before .before .before .before .before .before .before .before .reserve .ensures .1) _ _ _ _ H)
+
+parse-spec-returns-2 : (t : ℕ) → parse-spec-lts.Need-returns-2 (parse-spec-calls t) (parse-spec-at t) parse-spec.Post
+parse-spec-returns-2 t c =
+    let a = (c .before .before .before .before .before .before .before .before .before .before .before .before .before .before .before .before .before .before .before .before .before .before .before .before .before .before .before .before .before .args) in let R = (c .before .before .before .before .before .before .before .before .before .before .before .before .before .before .before .before .before .before .before .before .before .before .before .before .before .before .before .before .before .pre .1 .0) in let Z = (c .before .before .before .before .before .before .before .before .before .before .before .before .before .before .before .before .before .before .before .before .before .before .before .before .before .before .before .before .before .pre .1 .1 .0) in let K = kept (a .k) (c .before .before .before .before .before .before .before .before .before .before .before .before .before .before .before .before .before .before .reserve .result) (c .before .before .before .before .before .before .before .before .before .before .before .before .before .before .before .before .before .before .reserve .ensures .0) (c .before .before .before .before .before .before .before .before .before .before .before .before .before .before .before .before .before .before .reserve .ensures .1) in let F = (c .before .before .before .before .before .before .before .before .before .before .before .before .before .before .before .before .before .before .before .before .before .before .before .read-first .ensures) in let g = rw (add-one (a .nested)) at (c .before .before .before .before .before .before .before .before .before .before .before .before .before .before .before .before .before .end-text .ensures) in let Q = rw (add-one (a .nested), (c .before .r .given .1)) at (c .before .before .before .before .before .before .before .before .before .parse-fstring .ensures) in (spec-refused (a .s .now) (a .nested) (a .at .at) (a .fr) _ _ _ _ (a .k) _ _ _ _ R (Z .2) K (F .0) (F .1) (F .2) g (Z .1) (c .before .before .before .before .before .before .before .before .before .before .before .before .before .before .before .before .before .before .reserve .ensures .0) (c .before .before .before .before .before .before .before .before .before .before .before .before .before .before .before .before .before .before .reserve .ensures .1) (eq-eqb _ _ (sym (c .before .before .before .before .before .before .before .before .before .before .before .before .before .before .peek .ensures) ∙ (c .before .before .before .before .before .before .before .before .before .before .before .before .before .if1 .left))) _ _ _ (refuses _ _ _ _ _ _ _ _ _ _ (Q .0)), tt)
+
+parse-spec-returns-3 : (t : ℕ) → parse-spec-lts.Need-returns-3 (parse-spec-calls t) (parse-spec-at t) parse-spec.Post
+parse-spec-returns-3 t c =
+    let a = (c .before .before .before .before .before .before .before .before .before .before .before .before .before .before .before .before .before .before .before .before .before .before .before .before .before .before .before .before .before .before .before .before .before .args) in let R = (c .before .before .before .before .before .before .before .before .before .before .before .before .before .before .before .before .before .before .before .before .before .before .before .before .before .before .before .before .before .before .before .before .before .pre .1 .0) in let Z = (c .before .before .before .before .before .before .before .before .before .before .before .before .before .before .before .before .before .before .before .before .before .before .before .before .before .before .before .before .before .before .before .before .before .pre .1 .1 .0) in let K = kept (a .k) (c .before .before .before .before .before .before .before .before .before .before .before .before .before .before .before .before .before .before .before .before .before .before .reserve .result) (c .before .before .before .before .before .before .before .before .before .before .before .before .before .before .before .before .before .before .before .before .before .before .reserve .ensures .0) (c .before .before .before .before .before .before .before .before .before .before .before .before .before .before .before .before .before .before .before .before .before .before .reserve .ensures .1) in let F = (c .before .before .before .before .before .before .before .before .before .before .before .before .before .before .before .before .before .before .before .before .before .before .before .before .before .before .before .read-first .ensures) in let g = rw (add-one (a .nested)) at (c .before .before .before .before .before .before .before .before .before .before .before .before .before .before .before .before .before .before .before .before .before .end-text .ensures) in let Q = rw (add-one (a .nested), (c .before .before .before .before .before .next .given .1)) at (c .before .before .before .before .before .before .before .before .before .before .before .before .before .parse-fstring .ensures) in let H = gave _ _ _ _ _ _ _ _ _ _ _ _ (Q .0) in let b = eq-eqb _ _ (sym (c .before .before .before .before .before .before .before .before .before .before .before .before .before .before .before .before .before .before .peek .ensures) ∙ (c .before .before .before .before .before .before .before .before .before .before .before .before .before .before .before .before .before .if1 .left)) in (spec-braced (a .s .now) (a .nested) (a .at .at) (a .fr) _ _ _ _ (a .k) _ _ _ _ R (Z .2) K (F .0) (F .1) (F .2) g (Z .1) (c .before .before .before .before .before .before .before .before .before .before .before .before .before .before .before .before .before .before .before .before .before .before .reserve .ensures .0) (c .before .before .before .before .before .before .before .before .before .before .before .before .before .before .before .before .before .before .before .before .before .before .reserve .ensures .1) b _ _ _ _ _ _ _ H (c .before .before .fill-spec2 .ensures .0) (c .before .before .fill-spec2 .ensures .1), to-sign _ _ _ _ (a .fr) _ _ (a .fields) (braced-reads (a .s .now) (a .nested) (a .at .at) (a .fr) _ _ _ _ (a .k) _ _ _ _ R (Z .2) K (F .0) (F .1) (F .2) g (Z .1) (c .before .before .before .before .before .before .before .before .before .before .before .before .before .before .before .before .before .before .before .before .before .before .reserve .ensures .0) (c .before .before .before .before .before .before .before .before .before .before .before .before .before .before .before .before .before .before .before .before .before .before .reserve .ensures .1) b (H .pieces) _ (H .reads)) (both-signed (a .fr) _ (H .pieces) _ _ _ _ _ _ (filled-signed (a .fr) (suc (a .nested)) _ _ (a .fields)) (read-signed _ _ _ _ _ _ _ _ (H .reads) (Q .1))))
 
 pub +parse-formatted-value+parse-fstring+parse-spec-spec : {M : Type 1} → statement M
 +parse-formatted-value+parse-fstring+parse-spec-spec =
@@ -108,66 +168,85 @@ pub +parse-formatted-value+parse-fstring+parse-spec-spec : {M : Type 1} → stat
     (λ c κs. search needs)  -- read-head-requires
     (λ c. search needs)  -- enum-known-r
     (λ c. search needs)  -- enum-known-h
-    (λ c κs. let R = c .before .before .before .before .before .before .before .before .before .before .before .before .before .pre .1 .0 in let E = rw (c .before .before .before .before .h .given .1) at (c .before .before .before .before .before .before .before .before .read-head .ensures) in let S = small-head _ _ _ _ _ _ _ (E .head) in (fits _ _ _ _ R, (S .more, omega (arith, R .load, R .small, S .bounded), omega (arith, R .places, R .low))))  -- emit-field-requires
-    (λ c. search needs)  -- same-length
-    (λ c. search needs)  -- same-length-2
-    (λ c. let a = c .before .before .before .before .before .before .before .before .before .before .before .before .before .before .before .before .before .before .before .args in let E = rw (c .before .before .before .before .before .before .before .before .before .before .h .given .1) at (c .before .before .before .before .before .before .before .before .before .before .before .before .before .before .read-head .ensures) in let C = rw (c .if1 .taken) at E in closed-field _ (a .nested) _ _ (a .fr) _ _ _ _ _ (a .k) _ _ C (rw (c .if1 .taken) at (c .before .before .before .before .before .emit-field .ensures (C .head .expression) (a .text .now) (C .head .grown) (C .head .wrote))))  -- returns
-    (λ c κs. let s = c .before .before .before .before .before .before .before .before .before .before .before .before .before .before .before .before .before .before .before .before .before in let a = s .args in let R = s .pre .1 .0 in let E = rw (c .before .before .before .before .before .before .before .before .before .before .before .before .h .given .1) at (c .before .before .before .before .before .before .before .before .before .before .before .before .before .before .before .before .read-head .ensures) in let p = one-part _ _ _ _ _ _ _ E (c .before .before .if1 .left) in let C = rw p at E in let m = rw p at (c .before .before .before .before .before .before .before .emit-field .ensures (C .head .expression) (a .text .now) (C .head .grown) (C .head .wrote)) in let q = spec-room _ _ _ _ _ _ _ _ _ _ _ _ _ (C .head) R m in let e = s .pre .0 in (omega (arith, e, q .further, q .room .low), (q .room, (s .pre .1 .1, q .free, q .strict))))  -- parse-spec-requires
+    (λ c. let E = rw (c .before .before .before .before .h .given .1) at (c .before .before .before .before .before .before .before .before .read-head .ensures) in let S = small-head _ _ _ _ _ _ _ (E .head) in omega (arith, S .more))  -- sub-size
+    (λ c κs. let R = (c .before .before .before .before .before .before .before .before .before .before .before .before .before .before .before .before .pre .1 .0) in let E = rw (c .before .before .before .before .before .before .h .given .1) at (c .before .before .before .before .before .before .before .before .before .before .read-head .ensures) in let S = small-head _ _ _ _ _ _ _ (E .head) in (fits _ _ _ _ R, (S .more, omega (arith, R .load, R .small, S .bounded), omega (arith, R .places, R .low))))  -- emit-field-requires
+    (λ c κs. let E = rw (c .before .before .before .before .before .before .before .before .before .before .before .before .before .h .given .1) at (c .before .before .before .before .before .before .before .before .before .before .before .before .before .before .before .before .before .read-head .ensures) in placed _ _ _ _ _ _ _ _ _ _ _ (E .head) (c .before .before .before .before .before .before .before .before .before .before .before .before .before .before .before .before .before .before .before .before .before .before .before .pre .1 .0) (omega arith) (head-in _ _ _ _ _ _ _ (E .head)))  -- put-signs-requires
+    (λ c. let R = (c .before .before .before .before .before .before .before .before .before .before .before .before .before .before .before .before .before .before .before .before .before .before .before .before .before .before .pre .1 .0) in omega (arith, R .load, (c .before .before .before .before .before .before .before .before .before .before .before .before .before .before .before .before .before .before .before .before .before .before .before .before .before .before .pre .1 .1 .1)))  -- add-t34
+    (λ c. let l0 = (c .before .rows .given) in let l1 = (c .before .before .before .before .before .before .text2 .given) in let l2 = (c .before .before .before .before .before .before .before .before .words .given) in let l3 = (c .before .before .before .before .before .before .before .before .before .before .before .before .before .before .before .before .before .before .before .text .given) in search needs)  -- same-length
+    (λ c. let l0 = (c .before .rows .given) in let l1 = (c .before .before .before .before .before .before .text2 .given) in let l2 = (c .before .before .before .before .before .before .before .before .words .given) in let l3 = (c .before .before .before .before .before .before .before .before .before .before .before .before .before .before .before .before .before .before .before .text .given) in search needs)  -- same-length-2
+    (λ c. let l0 = (c .before .rows .given) in let l1 = (c .before .before .before .before .before .before .text2 .given) in let l2 = (c .before .before .before .before .before .before .before .before .words .given) in let l3 = (c .before .before .before .before .before .before .before .before .before .before .before .before .before .before .before .before .before .before .before .text .given) in search needs)  -- same-length-3
+    (parse-formatted-value-returns t)  -- returns
+    (λ c. let R = (c .before .before .before .before .before .before .before .before .before .before .before .before .before .before .before .before .before .before .before .before .before .before .before .before .before .pre .1 .0) in omega (arith, R .load, (c .before .before .before .before .before .before .before .before .before .before .before .before .before .before .before .before .before .before .before .before .before .before .before .before .before .pre .1 .1 .1)))  -- add-parse-spec
+    (parse-formatted-value-parse-spec-requires t)  -- parse-spec-requires
     (λ c. search needs)  -- enum-known-r-2
     (λ c. search needs)  -- enum-known-next
     (λ c κs. search needs)  -- end-field-requires
-    (λ c. search needs)  -- same-length-3
-    (λ c. let a = c .before .before .before .before .before .before .before .before .before .before .args in let E = rw (c .before .r .given .1) at (c .before .before .before .before .before .read-head .ensures) in to-refuse (λ l. l) _ _ _ _ _ _ _ _ _ (E (a .fr .kind) (a .nested)))  -- returns-2
-    (λ c. let l0 = (c .before .before .before .before .text3 .given) in let l1 = (c .before .before .before .before .before .before .words2 .given) in let l2 = (c .before .before .before .before .before .before .before .before .before .before .before .before .text2 .given) in let l3 = (c .before .before .before .before .before .before .before .before .before .before .before .before .before .before .words .given) in let l4 = (c .before .before .before .before .before .before .before .before .before .before .before .before .before .before .before .before .before .before .before .before .before .before .before .text .given) in search needs)  -- same-length-4
-    (λ c. let l0 = (c .before .before .before .before .text3 .given) in let l1 = (c .before .before .before .before .before .before .words2 .given) in let l2 = (c .before .before .before .before .before .before .before .before .before .before .before .before .text2 .given) in let l3 = (c .before .before .before .before .before .before .before .before .before .before .before .before .before .before .words .given) in let l4 = (c .before .before .before .before .before .before .before .before .before .before .before .before .before .before .before .before .before .before .before .before .before .before .before .text .given) in search needs)  -- same-length-5
-    (λ c. let a = c .before .before .before .before .before .before .before .before .before .before .before .before .before .before .before .before .before .before .before .before .before .before .before .before .before .before .before .before .before .args in let E = rw (c .before .before .before .before .before .before .before .before .before .before .before .before .before .before .before .before .before .before .before .before .h .given .1) at (c .before .before .before .before .before .before .before .before .before .before .before .before .before .before .before .before .before .before .before .before .before .before .before .before .read-head .ensures) in let p = one-part _ _ _ _ _ _ _ E (c .before .before .before .before .before .before .before .before .before .before .if1 .left) in let C = rw p at E in let Q = rw (c .before .r2 .given .1) at (c .before .before .before .before .before .before .before .parse-spec .ensures) in let z = refuses _ _ _ _ _ _ _ _ _ _ Q in to-refuse (λ l. l) _ _ _ _ _ _ _ _ _ (unformatted-field _ _ _ _ _ _ _ _ (C .head) _ z))  -- returns-3
-    (λ c. let l0 = (c .before .before .before .before .before .text3 .given) in let l1 = (c .before .before .before .before .before .before .before .words2 .given) in let l2 = (c .before .before .before .before .before .before .before .before .before .before .before .before .before .text2 .given) in let l3 = (c .before .before .before .before .before .before .before .before .before .before .before .before .before .before .before .words .given) in let l4 = (c .before .before .before .before .before .before .before .before .before .before .before .before .before .before .before .before .before .before .before .before .before .before .before .before .text .given) in search needs)  -- same-length-6
-    (λ c. let l0 = (c .before .before .before .before .before .text3 .given) in let l1 = (c .before .before .before .before .before .before .before .words2 .given) in let l2 = (c .before .before .before .before .before .before .before .before .before .before .before .before .before .text2 .given) in let l3 = (c .before .before .before .before .before .before .before .before .before .before .before .before .before .before .before .words .given) in let l4 = (c .before .before .before .before .before .before .before .before .before .before .before .before .before .before .before .before .before .before .before .before .before .before .before .before .text .given) in search needs)  -- same-length-7
-    (λ c. let a = c .before .before .before .before .before .before .before .before .before .before .before .before .before .before .before .before .before .before .before .before .before .before .before .before .before .before .before .before .before .before .args in let E = rw (c .before .before .before .before .before .before .before .before .before .before .before .before .before .before .before .before .before .before .before .before .before .h .given .1) at (c .before .before .before .before .before .before .before .before .before .before .before .before .before .before .before .before .before .before .before .before .before .before .before .before .before .read-head .ensures) in let p = one-part _ _ _ _ _ _ _ E (c .before .before .before .before .before .before .before .before .before .before .before .if1 .left) in let C = rw p at E in let m = rw p at (c .before .before .before .before .before .before .before .before .before .before .before .before .before .before .before .before .emit-field .ensures (C .head .expression) (a .text .now) (C .head .grown) (C .head .wrote)) in let Q = rw (c .before .before .next .given .1) at (c .before .before .before .before .before .before .before .before .parse-spec .ensures) in specified-field (a .s .now) (a .nested) (a .at .at) _ (a .fr) _ _ _ _ _ _ _ (a .k) _ _ _ _ _ (C .head) m (gave _ _ _ _ _ _ _ _ _ _ _ Q) (c .end-field .ensures)))  -- returns-4
+    (λ c. search needs)  -- enum-known-r-3
+    (λ c. search needs)  -- enum-known-close
+    (parse-formatted-value-put-signs-requires-2 t)  -- put-signs-requires-2
+    (λ c. let l0 = (c .before .before .before .before .text .given) in search needs)  -- same-length-4
+    (λ c. let a = (c .before .before .before .before .before .before .before .before .before .before .before .args) in let E = rw (c .before .r .given .1) at (c .before .before .before .before .before .read-head .ensures) in (to-refuse (λ l. l) _ _ _ _ _ _ _ _ _ (E (a .fr .kind) (a .nested)), tt))  -- returns-2
+    (λ c. let l0 = (c .before .before .before .before .rows2 .given) in let l1 = (c .before .before .before .before .before .before .text3 .given) in let l2 = (c .before .before .before .before .before .before .before .before .words2 .given) in let l3 = (c .before .before .before .before .before .before .before .before .before .before .before .before .before .before .before .text2 .given) in let l4 = (c .before .before .before .before .before .before .before .before .before .before .before .before .before .before .before .before .before .words .given) in let l5 = (c .before .before .before .before .before .before .before .before .before .before .before .before .before .before .before .before .before .before .before .before .before .before .before .before .before .before .before .before .text .given) in search needs)  -- same-length-5
+    (λ c. let l0 = (c .before .before .before .before .rows2 .given) in let l1 = (c .before .before .before .before .before .before .text3 .given) in let l2 = (c .before .before .before .before .before .before .before .before .words2 .given) in let l3 = (c .before .before .before .before .before .before .before .before .before .before .before .before .before .before .before .text2 .given) in let l4 = (c .before .before .before .before .before .before .before .before .before .before .before .before .before .before .before .before .before .words .given) in let l5 = (c .before .before .before .before .before .before .before .before .before .before .before .before .before .before .before .before .before .before .before .before .before .before .before .before .before .before .before .before .text .given) in search needs)  -- same-length-6
+    (λ c. let l0 = (c .before .before .before .before .rows2 .given) in let l1 = (c .before .before .before .before .before .before .text3 .given) in let l2 = (c .before .before .before .before .before .before .before .before .words2 .given) in let l3 = (c .before .before .before .before .before .before .before .before .before .before .before .before .before .before .before .text2 .given) in let l4 = (c .before .before .before .before .before .before .before .before .before .before .before .before .before .before .before .before .before .words .given) in let l5 = (c .before .before .before .before .before .before .before .before .before .before .before .before .before .before .before .before .before .before .before .before .before .before .before .before .before .before .before .before .text .given) in search needs)  -- same-length-7
+    (parse-formatted-value-returns-3 t)  -- returns-3
+    (λ c. let l0 = (c .before .before .before .before .before .before .before .before .rows2 .given) in let l1 = (c .before .before .before .before .before .before .before .before .before .before .text3 .given) in let l2 = (c .before .before .before .before .before .before .before .before .before .before .before .before .words2 .given) in let l3 = (c .before .before .before .before .before .before .before .before .before .before .before .before .before .before .before .before .before .before .before .text2 .given) in let l4 = (c .before .before .before .before .before .before .before .before .before .before .before .before .before .before .before .before .before .before .before .before .before .words .given) in let l5 = (c .before .before .before .before .before .before .before .before .before .before .before .before .before .before .before .before .before .before .before .before .before .before .before .before .before .before .before .before .before .before .before .before .text .given) in search needs)  -- same-length-8
+    (λ c. let l0 = (c .before .before .before .before .before .before .before .before .rows2 .given) in let l1 = (c .before .before .before .before .before .before .before .before .before .before .text3 .given) in let l2 = (c .before .before .before .before .before .before .before .before .before .before .before .before .words2 .given) in let l3 = (c .before .before .before .before .before .before .before .before .before .before .before .before .before .before .before .before .before .before .before .text2 .given) in let l4 = (c .before .before .before .before .before .before .before .before .before .before .before .before .before .before .before .before .before .before .before .before .before .words .given) in let l5 = (c .before .before .before .before .before .before .before .before .before .before .before .before .before .before .before .before .before .before .before .before .before .before .before .before .before .before .before .before .before .before .before .before .text .given) in search needs)  -- same-length-9
+    (λ c. let l0 = (c .before .before .before .before .before .before .before .before .rows2 .given) in let l1 = (c .before .before .before .before .before .before .before .before .before .before .text3 .given) in let l2 = (c .before .before .before .before .before .before .before .before .before .before .before .before .words2 .given) in let l3 = (c .before .before .before .before .before .before .before .before .before .before .before .before .before .before .before .before .before .before .before .text2 .given) in let l4 = (c .before .before .before .before .before .before .before .before .before .before .before .before .before .before .before .before .before .before .before .before .before .words .given) in let l5 = (c .before .before .before .before .before .before .before .before .before .before .before .before .before .before .before .before .before .before .before .before .before .before .before .before .before .before .before .before .before .before .before .before .text .given) in search needs)  -- same-length-10
+    (parse-formatted-value-returns-4 t)  -- returns-4
+    (λ c. let l0 = (c .before .rows3 .given) in let l1 = (c .before .before .before .before .before .before .before .before .before .before .before .before .rows2 .given) in let l2 = (c .before .before .before .before .before .before .before .before .before .before .before .before .before .before .text3 .given) in let l3 = (c .before .before .before .before .before .before .before .before .before .before .before .before .before .before .before .before .words2 .given) in let l4 = (c .before .before .before .before .before .before .before .before .before .before .before .before .before .before .before .before .before .before .before .before .before .before .before .text2 .given) in let l5 = (c .before .before .before .before .before .before .before .before .before .before .before .before .before .before .before .before .before .before .before .before .before .before .before .before .before .words .given) in let l6 = (c .before .before .before .before .before .before .before .before .before .before .before .before .before .before .before .before .before .before .before .before .before .before .before .before .before .before .before .before .before .before .before .before .before .before .before .before .text .given) in search needs)  -- same-length-11
+    (λ c. let l0 = (c .before .rows3 .given) in let l1 = (c .before .before .before .before .before .before .before .before .before .before .before .before .rows2 .given) in let l2 = (c .before .before .before .before .before .before .before .before .before .before .before .before .before .before .text3 .given) in let l3 = (c .before .before .before .before .before .before .before .before .before .before .before .before .before .before .before .before .words2 .given) in let l4 = (c .before .before .before .before .before .before .before .before .before .before .before .before .before .before .before .before .before .before .before .before .before .before .before .text2 .given) in let l5 = (c .before .before .before .before .before .before .before .before .before .before .before .before .before .before .before .before .before .before .before .before .before .before .before .before .before .words .given) in let l6 = (c .before .before .before .before .before .before .before .before .before .before .before .before .before .before .before .before .before .before .before .before .before .before .before .before .before .before .before .before .before .before .before .before .before .before .before .before .text .given) in search needs)  -- same-length-12
+    (λ c. let l0 = (c .before .rows3 .given) in let l1 = (c .before .before .before .before .before .before .before .before .before .before .before .before .rows2 .given) in let l2 = (c .before .before .before .before .before .before .before .before .before .before .before .before .before .before .text3 .given) in let l3 = (c .before .before .before .before .before .before .before .before .before .before .before .before .before .before .before .before .words2 .given) in let l4 = (c .before .before .before .before .before .before .before .before .before .before .before .before .before .before .before .before .before .before .before .before .before .before .before .text2 .given) in let l5 = (c .before .before .before .before .before .before .before .before .before .before .before .before .before .before .before .before .before .before .before .before .before .before .before .before .before .words .given) in let l6 = (c .before .before .before .before .before .before .before .before .before .before .before .before .before .before .before .before .before .before .before .before .before .before .before .before .before .before .before .before .before .before .before .before .before .before .before .before .text .given) in search needs)  -- same-length-13
+    (parse-formatted-value-returns-5 t))  -- returns-5
     (λ t. parse-fstring-lts.spec (parse-fstring-calls t) (parse-fstring-at t) parse-fstring.Post
     parse-fstring-Inv-loop
     parse-fstring-μ-loop
     (λ c κs. search needs)  -- refuse-requires
-    (λ c. let a = (c .before .before .before .before .before .args) in deep-result (a .s .now) (a .nested) (a .at .at) (a .fr) _ _ _ _ (a .k) _ (c .before .if1 .taken) (c .refuse .ensures))  -- returns
-    (λ c. (refl, refl, start _ _ _ _ _ _ _ _ (c .before .before .before .before .pre .1 .0)))  -- loop-holds
-    (λ c κs. let I = (c .before .loop .inv .2) in let R = I .room in (R .low, omega (arith, (c .before .before .if1 .left)), R .small, omega (arith, R .load)))  -- text-run-requires
+    (λ c. let a = (c .before .before .before .before .before .before .args) in (deep-result (a .s .now) (a .nested) (a .at .at) (a .fr) _ _ _ _ (a .k) _ (c .before .if1 .taken) (ap Refused (c .refuse .ensures)), tt))  -- returns
+    (λ c. let a = (c .before .before .before .before .before .args) in (refl, refl, refl, begun (a .s .now) (a .fr .kind) (a .nested) (a .at .at) (a .fr) (a .words .now) (a .text .now) (a .rows .now) (a .k) (a .fields) (c .before .before .before .before .before .pre .1 .0) (c .before .before .before .before .before .pre .1 .1 .1)))  -- loop-holds
+    (λ c κs. let I = (c .before .loop .inv .3 .0) in let R = I .room in (R .low, omega (arith, (c .before .before .if1 .left)), R .small, omega (arith, R .load)))  -- text-run-requires
     (λ c. search needs)  -- enum-known-r
-    (λ c. let i0 = (c .before .before .before .before .before .before .before .loop .inv .0) in let i1 = (c .before .before .before .before .before .before .before .loop .inv .1) in let l0 = (c .before .before .before .before .text .given) in search needs)  -- same-length
-    (λ c. let i0 = (c .before .before .before .before .before .before .before .loop .inv .0) in let i1 = (c .before .before .before .before .before .before .before .loop .inv .1) in let l0 = (c .before .before .before .before .text .given) in search needs)  -- same-length-2
-    (λ c. let I = (c .before .before .before .before .before .before .before .loop .inv .2) in let E = rw (c .before .r .given .1) at (c .before .before .before .before .before .text-run .ensures) in to-refuse (λ l. l) _ _ _ _ _ _ _ _ _ (I .same ∙ E (I .pieces)))  -- returns-2
+    (λ c. let i0 = (c .before .before .before .before .before .before .before .loop .inv .0) in let i1 = (c .before .before .before .before .before .before .before .loop .inv .1) in let i2 = (c .before .before .before .before .before .before .before .loop .inv .2) in let l0 = (c .before .before .before .before .text .given) in search needs)  -- same-length
+    (λ c. let i0 = (c .before .before .before .before .before .before .before .loop .inv .0) in let i1 = (c .before .before .before .before .before .before .before .loop .inv .1) in let i2 = (c .before .before .before .before .before .before .before .loop .inv .2) in let l0 = (c .before .before .before .before .text .given) in search needs)  -- same-length-2
+    (λ c. let i0 = (c .before .before .before .before .before .before .before .loop .inv .0) in let i1 = (c .before .before .before .before .before .before .before .loop .inv .1) in let i2 = (c .before .before .before .before .before .before .before .loop .inv .2) in let l0 = (c .before .before .before .before .text .given) in search needs)  -- same-length-3
+    (λ c. let I = (c .before .before .before .before .before .before .before .loop .inv .3 .0) in let E = rw (c .before .r .given .1) at (c .before .before .before .before .before .text-run .ensures) in (to-refuse (λ l. l) _ _ _ _ _ _ _ _ _ (I .same ∙ E (I .pieces)), tt))  -- returns-2
     (λ c. search needs)  -- enum-known-next
-    (λ c κs. let I = (c .before .before .before .before .before .before .before .before .loop .inv .2) in let U = rw (c .before .before .next .given .1) at (c .before .before .before .before .before .before .text-run .ensures) in let R = I .room in let D = run-ended _ _ _ _ _ _ _ _ _ _ U in (fits _ _ _ _ R, (D .more, omega (arith, D .bounded, R .load, R .small))))  -- end-text-requires
-    (λ c. let i0 = (c .before .before .before .before .before .before .before .before .before .before .before .loop .inv .0) in let i1 = (c .before .before .before .before .before .before .before .before .before .before .before .loop .inv .1) in let l0 = (c .before .words .given) in let l1 = (c .before .before .before .before .before .before .before .before .text .given) in search needs)  -- same-length-3
-    (λ c. let i0 = (c .before .before .before .before .before .before .before .before .before .before .before .loop .inv .0) in let i1 = (c .before .before .before .before .before .before .before .before .before .before .before .loop .inv .1) in let l0 = (c .before .words .given) in let l1 = (c .before .before .before .before .before .before .before .before .text .given) in search needs)  -- same-length-4
-    (λ c. let I = (c .before .before .before .before .before .before .before .before .before .before .before .loop .inv .2) in let U = rw (c .before .before .before .before .before .next .given .1) at (c .before .before .before .before .before .before .before .before .before .text-run .ensures) in text-over _ _ _ _ _ _ _ _ _ _ _ I _ _ _ _ U _ _ (c .before .before .end-text .ensures) _ refl refl)  -- returns-3
+    (λ c κs. let I = (c .before .before .before .before .before .before .before .before .loop .inv .3 .0) in let U = rw (c .before .before .next .given .1) at (c .before .before .before .before .before .before .text-run .ensures) in let R = I .room in let D = run-ended _ _ _ _ _ _ _ _ _ _ U in (fits _ _ _ _ R, (D .more, omega (arith, D .bounded, R .load, R .small))))  -- end-text-requires
+    (λ c. let i0 = (c .before .before .before .before .before .before .before .before .before .before .before .loop .inv .0) in let i1 = (c .before .before .before .before .before .before .before .before .before .before .before .loop .inv .1) in let i2 = (c .before .before .before .before .before .before .before .before .before .before .before .loop .inv .2) in let l0 = (c .before .words .given) in let l1 = (c .before .before .before .before .before .before .before .before .text .given) in search needs)  -- same-length-4
+    (λ c. let i0 = (c .before .before .before .before .before .before .before .before .before .before .before .loop .inv .0) in let i1 = (c .before .before .before .before .before .before .before .before .before .before .before .loop .inv .1) in let i2 = (c .before .before .before .before .before .before .before .before .before .before .before .loop .inv .2) in let l0 = (c .before .words .given) in let l1 = (c .before .before .before .before .before .before .before .before .text .given) in search needs)  -- same-length-5
+    (λ c. let i0 = (c .before .before .before .before .before .before .before .before .before .before .before .loop .inv .0) in let i1 = (c .before .before .before .before .before .before .before .before .before .before .before .loop .inv .1) in let i2 = (c .before .before .before .before .before .before .before .before .before .before .before .loop .inv .2) in let l0 = (c .before .words .given) in let l1 = (c .before .before .before .before .before .before .before .before .text .given) in search needs)  -- same-length-6
+    (λ c. let a = (c .before .before .before .before .before .before .before .before .before .before .before .before .before .before .before .before .before .args) in let I = (c .before .before .before .before .before .before .before .before .before .before .before .loop .inv .3 .0) in let U = rw (c .before .before .before .before .before .next .given .1) at (c .before .before .before .before .before .before .before .before .before .text-run .ensures) in (text-over _ _ _ _ _ _ _ _ _ _ _ I _ _ _ _ U _ _ (c .before .before .end-text .ensures) _ _ refl refl, to-sign _ _ _ _ (a .fr) _ _ _ (over-reads _ _ _ _ _ _ _ _ _ _ _ I _ _ _ _ U _ _ (c .before .before .end-text .ensures) _ refl refl) (text-signed (a .fr) (I .pieces) (a .nested) _ _ _ _ _ (c .before .before .before .before .before .before .before .before .before .before .before .loop .inv .3 .1))))  -- returns-3
     (λ c. search needs)  -- enum-known-next-2
-    (λ c κs. let I = (c .before .before .before .before .before .before .before .before .loop .inv .2) in let U = rw (c .before .before .next2 .given .1) at (c .before .before .before .before .before .before .text-run .ensures) in let R = I .room in let D = run-ended _ _ _ _ _ _ _ _ _ _ (U .stops) in (fits _ _ _ _ R, (D .more, omega (arith, D .bounded, R .load, R .small))))  -- end-text-requires-2
-    (λ c κs. let a = (c .before .before .before .before .before .before .before .before .before .before .before .before .before .before .before .before .before .before .args) in let I = (c .before .before .before .before .before .before .before .before .before .before .before .before .before .loop .inv .2) in let U = rw (c .before .before .before .before .before .before .before .next2 .given .1) at (c .before .before .before .before .before .before .before .before .before .before .before .text-run .ensures) in let n = next-past (a .s .now) (U .brace) (U .there) in let v = U .stops .upto .ahead in let lo = next-in (a .s .now) (U .brace) (U .stops .upto .inside) in let w = U .after in (omega (arith, (c .before .before .before .before .before .before .before .before .before .before .before .before .before .before .before .before .before .before .pre .0), I .later, v, n, lo, w), (room-text _ _ _ _ _ _ _ _ _ _ _ I _ _ _ _ (U .stops) _ _ (c .before .before .before .before .end-text2 .ensures) _ (omega (arith, n, w)) (omega (arith, lo, w)), omega (arith, (c .before .before .before .before .before .before .before .before .before .before .before .before .before .before .if1 .left)))))  -- parse-formatted-value-requires
+    (λ c κs. let I = (c .before .before .before .before .before .before .before .before .loop .inv .3 .0) in let U = rw (c .before .before .next2 .given .1) at (c .before .before .before .before .before .before .text-run .ensures) in let R = I .room in let D = run-ended _ _ _ _ _ _ _ _ _ _ (U .stops) in (fits _ _ _ _ R, (D .more, omega (arith, D .bounded, R .load, R .small))))  -- end-text-requires-2
+    (λ c κs. let a = (c .before .before .before .before .before .before .before .before .before .before .before .before .before .before .before .before .before .before .before .before .args) in let I = (c .before .before .before .before .before .before .before .before .before .before .before .before .before .before .loop .inv .3 .0) in let U = rw (c .before .before .before .before .before .before .before .before .next2 .given .1) at (c .before .before .before .before .before .before .before .before .before .before .before .before .text-run .ensures) in let n = next-past (a .s .now) (U .brace) (U .there) in let v = U .stops .upto .ahead in let lo = next-in (a .s .now) (U .brace) (U .stops .upto .inside) in let w = U .after in (omega (arith, (c .before .before .before .before .before .before .before .before .before .before .before .before .before .before .before .before .before .before .before .before .pre .0), I .later, v, n, lo, w), (room-text _ _ _ _ _ _ _ _ _ _ _ I _ _ _ _ (U .stops) _ _ (c .before .before .before .before .before .end-text2 .ensures) _ (omega (arith, n, w)) (omega (arith, lo, w)), (omega (arith, (c .before .before .before .before .before .before .before .before .before .before .before .before .before .before .before .if1 .left)), text-few _ _ _ _ _ _ _ _ _ _ _ I _ _ _ _ (U .stops) _ _ (c .before .before .before .before .before .end-text2 .ensures) _ (c .before .before .before .before .before .before .before .before .before .before .before .before .before .before .loop .inv .3 .2)))))  -- parse-formatted-value-requires
     (λ c. search needs)  -- enum-known-r-2
-    (λ c. let i0 = (c .before .before .before .before .before .before .before .before .before .before .before .before .before .before .before .before .before .before .before .before .before .loop .inv .0) in let i1 = (c .before .before .before .before .before .before .before .before .before .before .before .before .before .before .before .before .before .before .before .before .before .loop .inv .1) in let l0 = (c .before .before .before .before .text2 .given) in let l1 = (c .before .before .before .before .before .before .words3 .given) in let l2 = (c .before .before .before .before .before .before .before .before .before .before .before .words2 .given) in let l3 = (c .before .before .before .before .before .before .before .before .before .before .before .before .before .before .before .before .before .before .text .given) in search needs)  -- same-length-5
-    (λ c. let i0 = (c .before .before .before .before .before .before .before .before .before .before .before .before .before .before .before .before .before .before .before .before .before .loop .inv .0) in let i1 = (c .before .before .before .before .before .before .before .before .before .before .before .before .before .before .before .before .before .before .before .before .before .loop .inv .1) in let l0 = (c .before .before .before .before .text2 .given) in let l1 = (c .before .before .before .before .before .before .words3 .given) in let l2 = (c .before .before .before .before .before .before .before .before .before .before .before .words2 .given) in let l3 = (c .before .before .before .before .before .before .before .before .before .before .before .before .before .before .before .before .before .before .text .given) in search needs)  -- same-length-6
-    (λ c. let I = (c .before .before .before .before .before .before .before .before .before .before .before .before .before .before .before .before .before .before .before .before .before .loop .inv .2) in let U = rw (c .before .before .before .before .before .before .before .before .before .before .before .before .before .before .before .next2 .given .1) at (c .before .before .before .before .before .before .before .before .before .before .before .before .before .before .before .before .before .before .before .text-run .ensures) in let Q = rw (c .before .r2 .given .1) at (c .before .before .before .before .before .before .before .parse-formatted-value .ensures) in let z = refuses _ _ _ _ _ _ _ _ _ _ Q in field-refused _ _ _ _ _ _ _ _ _ _ _ I _ _ _ _ (U .stops) _ _ (c .before .before .before .before .before .before .before .before .before .before .before .before .end-text2 .ensures) _ _ refl (U .there) (U .after) z _ _)  -- returns-4
+    (λ c. let i0 = (c .before .before .before .before .before .before .before .before .before .before .before .before .before .before .before .before .before .before .before .before .before .before .before .before .loop .inv .0) in let i1 = (c .before .before .before .before .before .before .before .before .before .before .before .before .before .before .before .before .before .before .before .before .before .before .before .before .loop .inv .1) in let i2 = (c .before .before .before .before .before .before .before .before .before .before .before .before .before .before .before .before .before .before .before .before .before .before .before .before .loop .inv .2) in let l0 = (c .before .before .before .before .rows .given) in let l1 = (c .before .before .before .before .before .before .text2 .given) in let l2 = (c .before .before .before .before .before .before .before .before .words3 .given) in let l3 = (c .before .before .before .before .before .before .before .before .before .before .before .before .before .before .words2 .given) in let l4 = (c .before .before .before .before .before .before .before .before .before .before .before .before .before .before .before .before .before .before .before .before .before .text .given) in search needs)  -- same-length-7
+    (λ c. let i0 = (c .before .before .before .before .before .before .before .before .before .before .before .before .before .before .before .before .before .before .before .before .before .before .before .before .loop .inv .0) in let i1 = (c .before .before .before .before .before .before .before .before .before .before .before .before .before .before .before .before .before .before .before .before .before .before .before .before .loop .inv .1) in let i2 = (c .before .before .before .before .before .before .before .before .before .before .before .before .before .before .before .before .before .before .before .before .before .before .before .before .loop .inv .2) in let l0 = (c .before .before .before .before .rows .given) in let l1 = (c .before .before .before .before .before .before .text2 .given) in let l2 = (c .before .before .before .before .before .before .before .before .words3 .given) in let l3 = (c .before .before .before .before .before .before .before .before .before .before .before .before .before .before .words2 .given) in let l4 = (c .before .before .before .before .before .before .before .before .before .before .before .before .before .before .before .before .before .before .before .before .before .text .given) in search needs)  -- same-length-8
+    (λ c. let i0 = (c .before .before .before .before .before .before .before .before .before .before .before .before .before .before .before .before .before .before .before .before .before .before .before .before .loop .inv .0) in let i1 = (c .before .before .before .before .before .before .before .before .before .before .before .before .before .before .before .before .before .before .before .before .before .before .before .before .loop .inv .1) in let i2 = (c .before .before .before .before .before .before .before .before .before .before .before .before .before .before .before .before .before .before .before .before .before .before .before .before .loop .inv .2) in let l0 = (c .before .before .before .before .rows .given) in let l1 = (c .before .before .before .before .before .before .text2 .given) in let l2 = (c .before .before .before .before .before .before .before .before .words3 .given) in let l3 = (c .before .before .before .before .before .before .before .before .before .before .before .before .before .before .words2 .given) in let l4 = (c .before .before .before .before .before .before .before .before .before .before .before .before .before .before .before .before .before .before .before .before .before .text .given) in search needs)  -- same-length-9
+    (λ c. let I = (c .before .before .before .before .before .before .before .before .before .before .before .before .before .before .before .before .before .before .before .before .before .before .before .before .loop .inv .3 .0) in let U = rw (c .before .before .before .before .before .before .before .before .before .before .before .before .before .before .before .before .before .before .next2 .given .1) at (c .before .before .before .before .before .before .before .before .before .before .before .before .before .before .before .before .before .before .before .before .before .before .text-run .ensures) in let Q = rw (c .before .r2 .given .1) at (c .before .before .before .before .before .before .before .before .before .parse-formatted-value .ensures) in let z = refuses _ _ _ _ _ _ _ _ _ _ (Q .0) in (field-refused _ _ _ _ _ _ _ _ _ _ _ I _ _ _ _ (U .stops) _ _ (c .before .before .before .before .before .before .before .before .before .before .before .before .before .before .before .end-text2 .ensures) _ _ refl (U .there) (U .after) z _ _, tt))  -- returns-4
     (λ c. search needs)  -- enum-known-after
-    (λ c. let I = (c .before .before .before .before .before .before .before .before .before .before .before .before .before .before .before .before .before .before .before .before .before .loop .inv .2) in let U = rw (c .before .before .before .before .before .before .before .before .before .before .before .before .before .before .before .next2 .given .1) at (c .before .before .before .before .before .before .before .before .before .before .before .before .before .before .before .before .before .before .before .text-run .ensures) in let Q = rw (c .before .after .given .1) at (c .before .before .before .before .before .before .before .parse-formatted-value .ensures) in let G = gave _ _ _ _ _ _ _ _ _ _ _ Q in let w = field-further _ _ _ _ _ _ _ _ _ _ _ I _ _ _ _ (U .stops) _ _ (c .before .before .before .before .before .before .before .before .before .before .before .before .end-text2 .ensures) _ (U .there) (U .after) _ _ _ _ G in omega (arith, w .0, w .1))  -- loop-less
-    (λ c. let v0 = (c .before .before .before .before .before .before .before .before .before .before .before .words2 .given) in let v1 = (c .before .before .before .before .before .before .words3 .given) in let v2 = (c .before .before .before .before .before .before .before .before .before .before .before .before .before .before .before .before .before .before .text .given) in let v3 = (c .before .before .before .before .text2 .given) in let v4 = (c .before .before .before .before .before .before .before .before .before .before .before .before .before .before .before .before .before .before .before .before .before .loop .inv .0) in let v5 = (c .before .before .before .before .before .before .before .before .before .before .before .before .before .before .before .before .before .before .before .before .before .loop .inv .1) in let I = (c .before .before .before .before .before .before .before .before .before .before .before .before .before .before .before .before .before .before .before .before .before .loop .inv .2) in let U = rw (c .before .before .before .before .before .before .before .before .before .before .before .before .before .before .before .next2 .given .1) at (c .before .before .before .before .before .before .before .before .before .before .before .before .before .before .before .before .before .before .before .text-run .ensures) in let Q = rw (c .before .after .given .1) at (c .before .before .before .before .before .before .before .parse-formatted-value .ensures) in let G = gave _ _ _ _ _ _ _ _ _ _ _ Q in (search needs, search needs, field-read _ _ _ _ _ _ _ _ _ _ _ I _ _ _ _ (U .stops) _ _ (c .before .before .before .before .before .before .before .before .before .before .before .before .end-text2 .ensures) _ refl (U .there) (U .after) _ _ _ _ G)))  -- loop-again
+    (λ c. let I = (c .before .before .before .before .before .before .before .before .before .before .before .before .before .before .before .before .before .before .before .before .before .before .before .before .loop .inv .3 .0) in let U = rw (c .before .before .before .before .before .before .before .before .before .before .before .before .before .before .before .before .before .before .next2 .given .1) at (c .before .before .before .before .before .before .before .before .before .before .before .before .before .before .before .before .before .before .before .before .before .before .text-run .ensures) in let Q = rw (c .before .after .given .1) at (c .before .before .before .before .before .before .before .before .before .parse-formatted-value .ensures) in let G = gave _ _ _ _ _ _ _ _ _ _ _ _ (Q .0) in let w = field-further _ _ _ _ _ _ _ _ _ _ _ I _ _ _ _ (U .stops) _ _ (c .before .before .before .before .before .before .before .before .before .before .before .before .before .before .before .end-text2 .ensures) _ (U .there) (U .after) _ _ _ _ G in omega (arith, w .0, w .1))  -- loop-less
+    (λ c. let a = (c .before .before .before .before .before .before .before .before .before .before .before .before .before .before .before .before .before .before .before .before .before .before .before .before .before .before .before .before .before .before .args) in let v0 = (c .before .before .before .before .before .before .before .before .before .before .before .before .before .before .words2 .given) in let v1 = (c .before .before .before .before .before .before .before .before .words3 .given) in let v2 = (c .before .before .before .before .before .before .before .before .before .before .before .before .before .before .before .before .before .before .before .before .before .text .given) in let v3 = (c .before .before .before .before .before .before .text2 .given) in let v6 = (c .before .before .before .before .rows .given) in let v4 = (c .before .before .before .before .before .before .before .before .before .before .before .before .before .before .before .before .before .before .before .before .before .before .before .before .loop .inv .0) in let v5 = (c .before .before .before .before .before .before .before .before .before .before .before .before .before .before .before .before .before .before .before .before .before .before .before .before .loop .inv .1) in let v7 = (c .before .before .before .before .before .before .before .before .before .before .before .before .before .before .before .before .before .before .before .before .before .before .before .before .loop .inv .2) in let I = (c .before .before .before .before .before .before .before .before .before .before .before .before .before .before .before .before .before .before .before .before .before .before .before .before .loop .inv .3 .0) in let U = rw (c .before .before .before .before .before .before .before .before .before .before .before .before .before .before .before .before .before .before .next2 .given .1) at (c .before .before .before .before .before .before .before .before .before .before .before .before .before .before .before .before .before .before .before .before .before .before .text-run .ensures) in let Q = rw (c .before .after .given .1) at (c .before .before .before .before .before .before .before .before .before .parse-formatted-value .ensures) in let G = gave _ _ _ _ _ _ _ _ _ _ _ _ (Q .0) in let S = read-signed _ _ _ _ _ _ _ _ (G .reads) (Q .1) in (search needs, search needs, search needs, goes-on _ _ _ _ _ _ _ _ _ _ _ I _ _ _ _ (U .stops) _ _ (c .before .before .before .before .before .before .before .before .before .before .before .before .before .before .before .end-text2 .ensures) _ refl (U .there) (U .after) _ _ _ _ G _ _ _ (a .fields) _ _ (c .before .before .before .before .before .before .before .before .before .before .before .before .before .before .before .before .before .before .before .before .before .before .before .before .loop .inv .3 .1) (c .before .before .before .before .before .before .before .before .before .before .before .before .before .before .before .before .before .before .before .before .before .before .before .before .loop .inv .3 .2) S)))  -- loop-again
     (λ t. parse-spec-lts.spec (parse-spec-calls t) (parse-spec-at t) parse-spec.Post
     (λ c κs. search needs)  -- read-first-requires
-    (λ c κs. let R = (c .before .before .before .before .before .before .before .before .before .pre .1 .0) in fits _ _ _ _ R)  -- reserve-requires
-    (λ c. let Z = (c .before .before .before .before .before .before .before .before .before .before .pre .1 .1) in let z = Z .0 in search needs)  -- add-end-text
-    (λ c κs. let a = (c .before .before .before .before .before .before .before .before .before .before .args) in let R = (c .before .before .before .before .before .before .before .before .before .before .pre .1 .0) in let K = kept (a .k) (c .reserve .result) (c .reserve .ensures .0) (c .reserve .ensures .1) in let F = (c .before .before .before .before .before .read-first .ensures) in let lo = first-in (a .s .now) (a .at .at) (R .low) in (record { small = omega (arith, K .load, R .load); ordered = K .ordered (R .ordered) }, (omega (arith, K .used, F .0, F .1), omega (arith, F .0, F .1, R .load, R .small))))  -- end-text-requires
+    (λ c κs. let R = (c .before .before .before .before .before .before .before .before .before .before .pre .1 .0) in fits _ _ _ _ R)  -- reserve-requires
+    (λ c. let Z = (c .before .before .before .before .before .before .before .before .before .before .before .pre .1 .1 .0) in let z = Z .0 in search needs)  -- add-end-text
+    (parse-spec-end-text-requires t)  -- end-text-requires
     (λ c κs. search needs)  -- peek-requires
-    (λ c κs. let a = (c .before .before .before .before .before .before .before .before .before .before .before .before .before .before .before .before .args) in let R = (c .before .before .before .before .before .before .before .before .before .before .before .before .before .before .before .before .pre .1 .0) in let Z = (c .before .before .before .before .before .before .before .before .before .before .before .before .before .before .before .before .pre .1 .1) in let K = kept (a .k) (c .before .before .before .before .before .before .reserve .result) (c .before .before .before .before .before .before .reserve .ensures .0) (c .before .before .before .before .before .before .reserve .ensures .1) in let F = (c .before .before .before .before .before .before .before .before .before .before .before .read-first .ensures) in let g = rw (add-one (a .nested)) at (c .before .before .before .before .before .end-text .ensures) in (fits _ _ _ _ R, fits _ _ _ _ (first-room (a .s .now) (a .nested) (a .at .at) (a .fr) _ _ _ _ (a .k) _ _ _ _ R (Z .2) K (F .0) (F .1) (F .2) g)))  -- fill-spec-requires
-    (λ c. search needs)  -- same-length
-    (λ c. search needs)  -- same-length-2
-    (λ c. let a = (c .before .before .before .before .before .before .before .before .before .before .before .before .before .before .before .before .before .before .before .args) in let R = (c .before .before .before .before .before .before .before .before .before .before .before .before .before .before .before .before .before .before .before .pre .1 .0) in let Z = (c .before .before .before .before .before .before .before .before .before .before .before .before .before .before .before .before .before .before .before .pre .1 .1) in let K = kept (a .k) (c .before .before .before .before .before .before .before .before .before .reserve .result) (c .before .before .before .before .before .before .before .before .before .reserve .ensures .0) (c .before .before .before .before .before .before .before .before .before .reserve .ensures .1) in let F = (c .before .before .before .before .before .before .before .before .before .before .before .before .before .before .read-first .ensures) in let g = rw (add-one (a .nested)) at (c .before .before .before .before .before .before .before .before .end-text .ensures) in spec-plain (a .s .now) (a .nested) (a .at .at) (a .fr) _ _ _ _ (a .k) _ _ _ _ R (Z .2) K (F .0) (F .1) (F .2) g (Z .1) (c .before .before .before .before .before .before .before .before .before .reserve .ensures .0) (c .before .before .before .before .before .before .before .before .before .reserve .ensures .1) _ _ _ refl (ne-eqb _ _ (λ e. (c .before .before .before .before .if1 .taken) ((c .before .before .before .before .before .peek .ensures) ∙ e))) (c .before .before .fill-spec .ensures .0) (c .before .before .fill-spec .ensures .1))  -- returns
-    (λ c. let Z = (c .before .before .before .before .before .before .before .before .before .before .before .before .before .before .before .pre .1 .1) in let z = Z .0 in search needs)  -- add-parse-fstring
-    (λ c κs. let a = (c .before .before .before .before .before .before .before .before .before .before .before .before .before .before .before .before .before .args) in let R = (c .before .before .before .before .before .before .before .before .before .before .before .before .before .before .before .before .before .pre .1 .0) in let Z = (c .before .before .before .before .before .before .before .before .before .before .before .before .before .before .before .before .before .pre .1 .1) in let K = kept (a .k) (c .before .before .before .before .before .before .before .reserve .result) (c .before .before .before .before .before .before .before .reserve .ensures .0) (c .before .before .before .before .before .before .before .reserve .ensures .1) in let F = (c .before .before .before .before .before .before .before .before .before .before .before .before .read-first .ensures) in let g = rw (add-one (a .nested)) at (c .before .before .before .before .before .before .end-text .ensures) in let lo = first-in (a .s .now) (a .at .at) (R .low) in let q = first-room (a .s .now) (a .nested) (a .at .at) (a .fr) _ _ _ _ (a .k) _ _ _ _ R (Z .2) K (F .0) (F .1) (F .2) g in (omega (arith, (c .before .before .before .before .before .before .before .before .before .before .before .before .before .before .before .before .before .pre .0), Z .0, F .0, q .low), (q, omega (arith, Z .0))))  -- parse-fstring-requires
+    (parse-spec-fill-spec-requires t)  -- fill-spec-requires
+    (λ c. let l0 = (c .before .words2 .given) in let l1 = (c .before .before .before .before .before .before .before .words .given) in let l2 = (c .before .before .before .before .before .before .before .before .before .before .before .before .before .text .given) in search needs)  -- same-length
+    (λ c. let l0 = (c .before .words2 .given) in let l1 = (c .before .before .before .before .before .before .before .words .given) in let l2 = (c .before .before .before .before .before .before .before .before .before .before .before .before .before .text .given) in search needs)  -- same-length-2
+    (parse-spec-returns t)  -- returns
+    (λ c. let Z = (c .before .before .before .before .before .before .before .before .before .before .before .before .before .before .before .before .pre .1 .1 .0) in let z = Z .0 in search needs)  -- add-parse-fstring
+    (parse-spec-parse-fstring-requires t)  -- parse-fstring-requires
     (λ c. search needs)  -- enum-known-r
     (λ c. search needs)  -- enum-known-next
-    (λ c κs. let a = (c .before .before .before .before .before .before .before .before .before .before .before .before .before .before .before .before .before .before .before .before .before .before .before .before .before .before .args) in let R = (c .before .before .before .before .before .before .before .before .before .before .before .before .before .before .before .before .before .before .before .before .before .before .before .before .before .before .pre .1 .0) in let Z = (c .before .before .before .before .before .before .before .before .before .before .before .before .before .before .before .before .before .before .before .before .before .before .before .before .before .before .pre .1 .1) in let K = kept (a .k) (c .before .before .before .before .before .before .before .before .before .before .before .before .before .before .before .before .reserve .result) (c .before .before .before .before .before .before .before .before .before .before .before .before .before .before .before .before .reserve .ensures .0) (c .before .before .before .before .before .before .before .before .before .before .before .before .before .before .before .before .reserve .ensures .1) in let F = (c .before .before .before .before .before .before .before .before .before .before .before .before .before .before .before .before .before .before .before .before .before .read-first .ensures) in let g = rw (add-one (a .nested)) at (c .before .before .before .before .before .before .before .before .before .before .before .before .before .before .before .end-text .ensures) in let Q = rw (add-one (a .nested), (c .before .before .next .given .1)) at (c .before .before .before .before .before .before .before .before .parse-fstring .ensures) in let H = gave _ _ _ _ _ _ _ _ _ _ _ Q in (fits _ _ _ _ R, spec-fits (a .s .now) (a .nested) (a .at .at) (a .fr) _ _ _ _ (a .k) _ _ _ _ R (Z .2) K (F .0) (F .1) (F .2) g (Z .1) (c .before .before .before .before .before .before .before .before .before .before .before .before .before .before .before .before .reserve .ensures .0) (c .before .before .before .before .before .before .before .before .before .before .before .before .before .before .before .before .reserve .ensures .1) _ _ _ _ H))  -- fill-spec-requires-2
-    (λ c. let l0 = (c .before .before .before .before .text2 .given) in let l1 = (c .before .before .before .before .before .before .words3 .given) in let l2 = (c .before .before .before .before .before .before .before .before .before .before .before .before .before .words .given) in let l3 = (c .before .before .before .before .before .before .before .before .before .before .before .before .before .before .before .before .before .before .before .text .given) in search needs)  -- same-length-3
-    (λ c. let l0 = (c .before .before .before .before .text2 .given) in let l1 = (c .before .before .before .before .before .before .words3 .given) in let l2 = (c .before .before .before .before .before .before .before .before .before .before .before .before .before .words .given) in let l3 = (c .before .before .before .before .before .before .before .before .before .before .before .before .before .before .before .before .before .before .before .text .given) in search needs)  -- same-length-4
-    (λ c. let a = (c .before .before .before .before .before .before .before .before .before .before .before .before .before .before .before .before .before .before .before .before .before .before .before .before .before .args) in let R = (c .before .before .before .before .before .before .before .before .before .before .before .before .before .before .before .before .before .before .before .before .before .before .before .before .before .pre .1 .0) in let Z = (c .before .before .before .before .before .before .before .before .before .before .before .before .before .before .before .before .before .before .before .before .before .before .before .before .before .pre .1 .1) in let K = kept (a .k) (c .before .before .before .before .before .before .before .before .before .before .before .before .before .before .before .reserve .result) (c .before .before .before .before .before .before .before .before .before .before .before .before .before .before .before .reserve .ensures .0) (c .before .before .before .before .before .before .before .before .before .before .before .before .before .before .before .reserve .ensures .1) in let F = (c .before .before .before .before .before .before .before .before .before .before .before .before .before .before .before .before .before .before .before .before .read-first .ensures) in let g = rw (add-one (a .nested)) at (c .before .before .before .before .before .before .before .before .before .before .before .before .before .before .end-text .ensures) in let Q = rw (add-one (a .nested), (c .before .r .given .1)) at (c .before .before .before .before .before .before .before .parse-fstring .ensures) in spec-refused (a .s .now) (a .nested) (a .at .at) (a .fr) _ _ _ _ (a .k) _ _ _ _ R (Z .2) K (F .0) (F .1) (F .2) g (Z .1) (c .before .before .before .before .before .before .before .before .before .before .before .before .before .before .before .reserve .ensures .0) (c .before .before .before .before .before .before .before .before .before .before .before .before .before .before .before .reserve .ensures .1) (eq-eqb _ _ (sym (c .before .before .before .before .before .before .before .before .before .before .before .peek .ensures) ∙ (c .before .before .before .before .before .before .before .before .before .before .if1 .left))) _ _ _ (refuses _ _ _ _ _ _ _ _ _ _ Q))  -- returns-2
-    (λ c. let l0 = (c .before .words4 .given) in let l1 = (c .before .before .before .before .before .before .before .before .text2 .given) in let l2 = (c .before .before .before .before .before .before .before .before .before .before .words3 .given) in let l3 = (c .before .before .before .before .before .before .before .before .before .before .before .before .before .before .before .before .before .words .given) in let l4 = (c .before .before .before .before .before .before .before .before .before .before .before .before .before .before .before .before .before .before .before .before .before .before .before .text .given) in search needs)  -- same-length-5
-    (λ c. let l0 = (c .before .words4 .given) in let l1 = (c .before .before .before .before .before .before .before .before .text2 .given) in let l2 = (c .before .before .before .before .before .before .before .before .before .before .words3 .given) in let l3 = (c .before .before .before .before .before .before .before .before .before .before .before .before .before .before .before .before .before .words .given) in let l4 = (c .before .before .before .before .before .before .before .before .before .before .before .before .before .before .before .before .before .before .before .before .before .before .before .text .given) in search needs)  -- same-length-6
-    (λ c. let a = (c .before .before .before .before .before .before .before .before .before .before .before .before .before .before .before .before .before .before .before .before .before .before .before .before .before .before .before .before .before .args) in let R = (c .before .before .before .before .before .before .before .before .before .before .before .before .before .before .before .before .before .before .before .before .before .before .before .before .before .before .before .before .before .pre .1 .0) in let Z = (c .before .before .before .before .before .before .before .before .before .before .before .before .before .before .before .before .before .before .before .before .before .before .before .before .before .before .before .before .before .pre .1 .1) in let K = kept (a .k) (c .before .before .before .before .before .before .before .before .before .before .before .before .before .before .before .before .before .before .before .reserve .result) (c .before .before .before .before .before .before .before .before .before .before .before .before .before .before .before .before .before .before .before .reserve .ensures .0) (c .before .before .before .before .before .before .before .before .before .before .before .before .before .before .before .before .before .before .before .reserve .ensures .1) in let F = (c .before .before .before .before .before .before .before .before .before .before .before .before .before .before .before .before .before .before .before .before .before .before .before .before .read-first .ensures) in let g = rw (add-one (a .nested)) at (c .before .before .before .before .before .before .before .before .before .before .before .before .before .before .before .before .before .before .end-text .ensures) in let Q = rw (add-one (a .nested), (c .before .before .before .before .before .next .given .1)) at (c .before .before .before .before .before .before .before .before .before .before .before .parse-fstring .ensures) in spec-braced (a .s .now) (a .nested) (a .at .at) (a .fr) _ _ _ _ (a .k) _ _ _ _ R (Z .2) K (F .0) (F .1) (F .2) g (Z .1) (c .before .before .before .before .before .before .before .before .before .before .before .before .before .before .before .before .before .before .before .reserve .ensures .0) (c .before .before .before .before .before .before .before .before .before .before .before .before .before .before .before .before .before .before .before .reserve .ensures .1) (eq-eqb _ _ (sym (c .before .before .before .before .before .before .before .before .before .before .before .before .before .before .before .peek .ensures) ∙ (c .before .before .before .before .before .before .before .before .before .before .before .before .before .before .if1 .left))) _ _ _ _ _ _ (gave _ _ _ _ _ _ _ _ _ _ _ Q) (c .before .before .fill-spec2 .ensures .0) (c .before .before .fill-spec2 .ensures .1)))  -- returns-3
+    (parse-spec-fill-spec-requires-2 t)  -- fill-spec-requires-2
+    (λ c. let l0 = (c .before .before .before .before .rows .given) in let l1 = (c .before .before .before .before .before .before .text2 .given) in let l2 = (c .before .before .before .before .before .before .before .before .words3 .given) in let l3 = (c .before .before .before .before .before .before .before .before .before .before .before .before .before .before .before .before .words .given) in let l4 = (c .before .before .before .before .before .before .before .before .before .before .before .before .before .before .before .before .before .before .before .before .before .before .text .given) in search needs)  -- same-length-3
+    (λ c. let l0 = (c .before .before .before .before .rows .given) in let l1 = (c .before .before .before .before .before .before .text2 .given) in let l2 = (c .before .before .before .before .before .before .before .before .words3 .given) in let l3 = (c .before .before .before .before .before .before .before .before .before .before .before .before .before .before .before .before .words .given) in let l4 = (c .before .before .before .before .before .before .before .before .before .before .before .before .before .before .before .before .before .before .before .before .before .before .text .given) in search needs)  -- same-length-4
+    (λ c. let l0 = (c .before .before .before .before .rows .given) in let l1 = (c .before .before .before .before .before .before .text2 .given) in let l2 = (c .before .before .before .before .before .before .before .before .words3 .given) in let l3 = (c .before .before .before .before .before .before .before .before .before .before .before .before .before .before .before .before .words .given) in let l4 = (c .before .before .before .before .before .before .before .before .before .before .before .before .before .before .before .before .before .before .before .before .before .before .text .given) in search needs)  -- same-length-5
+    (parse-spec-returns-2 t)  -- returns-2
+    (λ c. let l0 = (c .before .words4 .given) in let l1 = (c .before .before .before .before .before .before .before .before .rows .given) in let l2 = (c .before .before .before .before .before .before .before .before .before .before .text2 .given) in let l3 = (c .before .before .before .before .before .before .before .before .before .before .before .before .words3 .given) in let l4 = (c .before .before .before .before .before .before .before .before .before .before .before .before .before .before .before .before .before .before .before .before .words .given) in let l5 = (c .before .before .before .before .before .before .before .before .before .before .before .before .before .before .before .before .before .before .before .before .before .before .before .before .before .before .text .given) in search needs)  -- same-length-6
+    (λ c. let l0 = (c .before .words4 .given) in let l1 = (c .before .before .before .before .before .before .before .before .rows .given) in let l2 = (c .before .before .before .before .before .before .before .before .before .before .text2 .given) in let l3 = (c .before .before .before .before .before .before .before .before .before .before .before .before .words3 .given) in let l4 = (c .before .before .before .before .before .before .before .before .before .before .before .before .before .before .before .before .before .before .before .before .words .given) in let l5 = (c .before .before .before .before .before .before .before .before .before .before .before .before .before .before .before .before .before .before .before .before .before .before .before .before .before .before .text .given) in search needs)  -- same-length-7
+    (λ c. let l0 = (c .before .words4 .given) in let l1 = (c .before .before .before .before .before .before .before .before .rows .given) in let l2 = (c .before .before .before .before .before .before .before .before .before .before .text2 .given) in let l3 = (c .before .before .before .before .before .before .before .before .before .before .before .before .words3 .given) in let l4 = (c .before .before .before .before .before .before .before .before .before .before .before .before .before .before .before .before .before .before .before .before .words .given) in let l5 = (c .before .before .before .before .before .before .before .before .before .before .before .before .before .before .before .before .before .before .before .before .before .before .before .before .before .before .text .given) in search needs)  -- same-length-8
+    (parse-spec-returns-3 t))  -- returns-3

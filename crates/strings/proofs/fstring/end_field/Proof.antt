@@ -14,7 +14,7 @@ end-field-spec =
     (λ c. search needs)  -- enum-known-after
     (λ c. search needs)  -- enum-told
     (λ c κs. search needs)  -- unclosed-requires
-    (λ c. let h = step-end _ _ (sym (c .before .before .before .next-char .ensures) ∙ c .before .enum-told .given .1) in rw (le-leb _ _ h, c .unclosed .ensures))  -- returns
+    (λ c. let h = step-end _ _ (sym (c .before .before .before .next-char .ensures) ∙ (c .before .enum-told .given .1)) in rw (le-leb _ _ h, (c .unclosed .ensures)))  -- returns
     (λ c κs. search needs)  -- refuse-requires
-    (λ c. let t = step-char _ _ _ _ (sym (c .before .before .before .before .before .next-char .ensures) ∙ c .before .before .before .after .given .1) in rw (lt-leb _ _ (t .there), c .before .if1 .taken, t .next-is) (c .refuse .ensures))  -- returns-2
-    (λ c. let t = step-char _ _ _ _ (sym (c .before .before .before .before .next-char .ensures) ∙ c .before .before .after .given .1) in rw (lt-leb _ _ (t .there), c .if1 .left, t .next-is)))  -- returns-3
+    (λ c. let t = step-char _ _ _ _ (sym (c .before .before .before .before .before .next-char .ensures) ∙ (c .before .before .before .after .given .1)) in rw (lt-leb _ _ (t .there), (c .before .if1 .taken), t .next-is, (c .refuse .ensures)))  -- returns-2
+    (λ c. let t = step-char _ _ _ _ (sym (c .before .before .before .before .next-char .ensures) ∙ (c .before .before .after .given .1)) in rw (lt-leb _ _ (t .there), (c .if1 .left), t .next-is)))  -- returns-3

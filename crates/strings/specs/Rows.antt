@@ -1,0 +1,41 @@
+-- The rows that are written of a literal's fields, by the definition's.
+use Prim.Native.Nat.{ℕ, _+_, _*_, _<_}
+use mathlib.Core.Path.{_≡_}
+use mathlib.Core.List.{List}
+use lib.ListN.{length}
+use Rattle.definition.specs.Body.{signs, Piece}
+use Rattle.definition.specs.Rows.{Row, signsAt, fieldRows, allNumbers}
+use Rattle.buffers.specs.Over.{over}
+use Rattle.marks.specs.Marks.{converted}
+use Rattle.strings.specs.declared.emit.Frame.{Frame}
+use Rattle.strings.specs.declared.field.Head.{Head}
+use Rattle.strings.specs.FieldTurns.{isMarked}
+
+-- the row of a field, from its head and where its spec and it end
+abbrev pub rowOf : Frame → Head → (size parts at colon close : ℕ) → Row
+rowOf fr h size parts at colon close =
+    record {
+      start = fr .start;
+      place = fr .base + at;
+      expression = size;
+      conversion = converted (isMarked (h .equals)) (h .conversion) parts;
+      signs = signsAt (fr .base) (signs (h .equals) (h .bang) colon close);
+    }
+
+-- its places are numbers
+pub record Placed (fr : Frame) (h : Head) (size at colon close : ℕ) : Type 0 where
+  pub expression : size < 4294967296
+  pub place : fr .base + at < 4294967296
+  pub equals : fr .base + h .equals < 4294967296
+  pub bang : fr .base + h .bang < 4294967296
+  pub spec : fr .base + colon < 4294967296
+  pub end : fr .base + close < 4294967296
+
+-- the rows of a literal's pieces
+abbrev pub rowsOf : Frame → List Piece → List Row
+rowsOf fr ps = fieldRows (fr .start) (fr .base) ps
+
+-- those rows written after so many fields, and how many fields there are then
+pub record Signed (fr : Frame) (ps : List Piece) (rows rows′ : List ℕ) (fields n : ℕ) : Type 0 where
+  pub wrote : rows′ ≡ over rows (fields * 10) (allNumbers (rowsOf fr ps))
+  pub counted : n ≡ fields + length (rowsOf fr ps)
