@@ -10,7 +10,7 @@ use native.Mathlib.Omega.{arith, by-contra}
 use borrow.Author.Tests.{ltb-true, ltb-false, leb-true, leb-false, le-leb, lt-leb, eqb-true, eqb-false, ne-eqb}
 use lib.Dec.{ltb, leb, eqb, lit≤}
 use lib.ListN.{length, drop, getD, drop-of-length-le, length-drop, List·getD-eq-default}
-use lib.Seq.{drop-cons}
+use lib.Seq.{drop-cons, getD-drop}
 use Rattle.definition.specs.Chars.{if_then_else_, byte, atEnd, noCode, Range, _to_, inside, insideAny, table37, following, follow, width, decoded, code, next, formedFrom, wellFormed, before}
 
 -- a test is true or false
@@ -250,6 +250,38 @@ module _ (test : ℕ → Bool) (s : List ℕ) (i d : ℕ) where
   pub before-next : i < length s → test (getD s i d) ≡ false → i + before test (drop i s) ≡ i + 1 + before test (drop (i + 1) s)
   unfolding before
   before-next h t = rw (drop-cons s i d h) (rw (t, before, add-one i) (omega arith))
+
+-- no byte before it passes; it passes, if it is there
+before-fails : (test : ℕ → Bool) (l : List ℕ) (k : ℕ) → k < before test l → test (getD l k 256) ≡ false
+unfolding before
+before-fails test [] k h = absurd (not-suc-le-zero h)
+before-fails test (b ∷ l) k h = go (test b) refl k h (before-fails test l)
+  where
+    go : (t : Bool) → test b ≡ t → (k : ℕ) → k < before test (b ∷ l) → ((j : ℕ) → j < before test l → test (getD l j 256) ≡ false) → test (getD (b ∷ l) k 256) ≡ false
+    go true e k h ih = absurd (not-suc-le-zero (rw (e, before) at h))
+    go false e zero h ih = e
+    go false e (suc k) h ih = ih k (le-of-suc-le-suc (rw (e, before) at h))
+
+before-passes : (test : ℕ → Bool) (l : List ℕ) → before test l < length l → test (getD l (before test l) 256) ≡ true
+unfolding before
+before-passes test [] h = absurd (not-suc-le-zero h)
+before-passes test (b ∷ l) h = go (test b) refl (before-passes test l)
+  where
+    go : (t : Bool) → test b ≡ t → (before test l < length l → test (getD l (before test l) 256) ≡ true) → test (getD (b ∷ l) (before test (b ∷ l)) 256) ≡ true
+    go true e ih = rw (e, before) e
+    go false e ih = rw (e, before) (ih (le-of-suc-le-suc (rw (e, before) at h)))
+
+module _ (test : ℕ → Bool) (s : List ℕ) (i : ℕ) where
+  pub first-fails : (m : ℕ) → i ≤ m → m < i + before test (drop i s) → test (byte s m) ≡ false
+  first-fails m l h =
+      let e : i + (m - i) ≡ m = omega arith in
+      let f = before-fails test (drop i s) (m - i) (omega arith) in
+      rw (getD-drop i s (m - i) 256, e) at f
+
+  pub first-passes : i + before test (drop i s) < length s → test (byte s (i + before test (drop i s))) ≡ true
+  first-passes h =
+      let f = before-passes test (drop i s) (omega (arith, length-drop i s)) in
+      rw (getD-drop i s (before test (drop i s)) 256) at f
 
 -- WELL-FORMED TEXT: where no character begins, a tail stands
 abbrev pub Utf8 : List ℕ → Type 0

@@ -36,6 +36,7 @@ pub mod Held
 pub mod Raw
 pub mod FormedShown
 pub mod AssuredShown
+pub mod OpeningLaws
 pub mod LiteralLaws
 pub mod LiteralFound
 pub mod RunLaws
@@ -43,3 +44,9 @@ pub mod LiteralSteps
 pub mod ListLaw
 pub mod ListOne
 pub mod ListShown
+pub mod CutLaws
+pub mod CutOnce
+pub mod CutSteps
+pub mod RunInCut
+pub mod PartLaws
+pub mod CutShown

@@ -17,7 +17,7 @@ use Rattle.definition.specs.Opening.{noKind, opens}
 use Rattle.definition.specs.IsRun.{nextPlace, Adjacent, IsRun, NoRun, bytesTo}
 use Rattle.definition.specs.Literals.{Run, run, literalsFrom, flat, lists, short, listed, listAfter, listInto, literalsInto}
 use Rattle.definition.proofs.Adds.{part-split}
-use Rattle.definition.proofs.LiteralLaws.{opens-in}
+use Rattle.definition.proofs.OpeningLaws.{opens-in}
 use Rattle.definition.proofs.LiteralFound.{literal-lies, literal-good}
 use Rattle.definition.proofs.RunLaws.{passed-ahead, opens-known, RunAt, run-is, run-found}
 use Rattle.definition.proofs.LiteralSteps.{from-run}

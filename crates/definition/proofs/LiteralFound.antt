@@ -2,7 +2,7 @@
 use mathlib.Core.Path.{_≡_, refl, sym, subst, _∙_, ap, ap₂}
 use mathlib.Core.Bool.{true, false, _&&_}
 use mathlib.Core.List.{List}
-use Prim.Native.Nat.{ℕ, suc, _+_, _-_, _≤_}
+use Prim.Native.Nat.{ℕ, suc, _+_, _-_, _≤_, _<_}
 use native.Mathlib.Nat.{add-assoc}
 use native.Mathlib.Omega.{arith}
 use borrow.Author.Tests.{le-ltb}
@@ -16,7 +16,8 @@ use Rattle.definition.specs.Opening.{opens, quotesOf, tripled, quotes, q
 use Rattle.definition.specs.IsRun.{Units, bodyEnd, IsLiteral, NeverCloses}
 use Rattle.definition.specs.Literals.{Closing, closed, fails, closing, closedAt, literalAt}
 use Rattle.definition.proofs.CharLaws.{cases}
-use Rattle.definition.proofs.LiteralLaws.{quote-of, Closes, closing-is, units-ahead, quotes-in, closed-once}
+use Rattle.definition.proofs.OpeningLaws.{quote-of}
+use Rattle.definition.proofs.LiteralLaws.{Closes, closing-is, units-ahead, quotes-in, closes-once}
 
 -- FOUND, IT IS ONE
 abbrev pub LiteralAt : List ℕ → ℕ → Outcome Literal → Type 0
@@ -71,7 +72,7 @@ literal-is s l p = ap (closedAt (opens s i) (flagOf s i) (bodyOf s i) i) ends �
 
     ends : closing s (quoteOf s i) (flagOf s i) (bodyOf s i) ≡ closed (bodyEnd l)
     ends =
-        closed-once s (quoteOf s i) (flagOf s i) (quote-of s i (subst (λ (k : ℕ). k ≤ 6) (sym (p .opened)) (p .known))) (bodyOf s i) (bodyEnd l) (closing s (quoteOf s i) (flagOf s i) (bodyOf s i))
+        closes-once s (quoteOf s i) (flagOf s i) (quote-of s i (subst (λ (k : ℕ). k ≤ 6) (sym (p .opened)) (p .known))) (bodyOf s i) (closing s (quoteOf s i) (flagOf s i) (bodyOf s i)) (closed (bodyEnd l))
         (closing-is s (quoteOf s i) (flagOf s i) (suc (length s)) (bodyOf s i) (omega arith)) (units, ended)
 
     same : closedAt (opens s i) (flagOf s i) (bodyOf s i) i (closed (bodyEnd l)) ≡ accepts l
@@ -80,6 +81,29 @@ literal-is s l p = ap (closedAt (opens s i) (flagOf s i) (bodyOf s i) i) ends �
         let e : bodyEnd l + quotes (flagOf s i) ≡ l .end = ap (λ t. bodyEnd l + quotes t) (p .flagged) ∙ sym (p .last) in
         ap accepts (six (opens s i) (l .kind) (flagOf s i) (l .triple) (bodyOf s i) (l .offset) (bodyEnd l - bodyOf s i) (l .size) i (bodyEnd l + quotes (flagOf s i)) (l .end) (p .opened) (p .flagged) (sym o) z e)
 
+-- ONE THAT NEVER CLOSES IS REFUSED
+pub literal-fails : (s : List ℕ) (number i : ℕ) → opens s i ≤ 6 → NeverCloses s number i → literalAt s i ≡ refuses (refusal number 0 i 0 0)
+unfolding literalAt closing closedAt
+literal-fails s number i h p =
+    ap (closedAt (opens s i) (flagOf s i) (bodyOf s i) i)
+    (closes-once s (quoteOf s i) (flagOf s i) (quote-of s i h) (bodyOf s i) (closing s (quoteOf s i) (flagOf s i) (bodyOf s i)) (fails number) (closing-is s (quoteOf s i) (flagOf s i) (suc (length s)) (bodyOf s i) (omega arith)) p)
+
+-- so at one place stands one literal, and it closes or does not
+pub literal-once : (s : List ℕ) (l m : Literal) → IsLiteral s l → IsLiteral s m → l .start ≡ m .start → l ≡ m
+literal-once s l m p q e =
+    let h : accepts l ≡ accepts m = sym (literal-is s l p) ∙ ap (literalAt s) e ∙ literal-is s m q in cc
+
+pub literal-or-not : (s : List ℕ) (l : Literal) (number : ℕ) → IsLiteral s l → NeverCloses s number (l .start) → ⊥
+literal-or-not s l number p q =
+    let h : accepts l ≡ refuses (refusal number 0 (l .start) 0 0) = sym (literal-is s l p) ∙ literal-fails s number (l .start) (rw (p .opened) (p .known)) q in
+    let z : _≡_ {A = ℕ} 0 1 = cc in omega arith
+
+pub never-once : (s : List ℕ) (m n i : ℕ) → opens s i ≤ 6 → NeverCloses s m i → NeverCloses s n i → m ≡ n
+unfolding refusal
+never-once s m n i h p q =
+    let e : _≡_ {A = Outcome Literal} (refuses (refusal m 0 i 0 0)) (refuses (refusal n 0 i 0 0)) = sym (literal-fails s m i h p) ∙ literal-fails s n i h q in
+    let f : refusal m 0 i 0 0 ≡ refusal n 0 i 0 0 = cc in ap (λ r. r .number) f
+
 -- WHERE IT LIES
 pub record Lies (s : List ℕ) (l : Literal) : Type 0 where
   pub known : l .kind ≤ 6
@@ -87,7 +111,8 @@ pub record Lies (s : List ℕ) (l : Literal) : Type 0 where
   pub ahead : l .start + l .size + 2 ≤ l .end
   pub within : l .end ≤ length s
   pub body-within : l .offset + l .size ≤ length s
-  pub room : placeOf l (l .size) ≤ l .end
+  pub room : placeOf l (l .size) < l .end
+  pub begins : l .offset ≡ placeOf l 0
 
 pub literal-lies : (s : List ℕ) (l : Literal) → IsLiteral s l → Lies s l
 unfolding placeOf opening tripled
@@ -103,6 +128,7 @@ literal-lies s l p =
       within = omega arith;
       body-within = omega arith;
       room = omega arith;
+      begins = omega arith;
     }
   where
     some-quote : (f : ℕ) → 1 ≤ quotes f
@@ -112,9 +138,12 @@ literal-lies s l p =
     zero-or-one q = cases (eqb (byte s (q + 1)) (byte s q) && eqb (byte s (q + 2)) (byte s q)) (λ e. rw e (lit≤ tt)) (λ e. rw e (lit≤ tt))
 
 -- it passes entry check 4 after any literal that ends before it
-pub literal-good : (s : List ℕ) (previous : ℕ) (l : Literal) → IsLiteral s l → previous ≤ l .start → bad s previous l ≡ false
+pub lies-good : (s : List ℕ) (previous : ℕ) (l : Literal) → Lies s l → previous ≤ l .start → bad s previous l ≡ false
 unfolding bad
-literal-good s previous l p h =
-    let w = literal-lies s l p in
+lies-good s previous l w h =
     let a = w .ahead in
-    rw (le-ltb 6 (l .kind) (w .known), le-ltb 1 (l .triple) (w .flag), le-ltb (length s) (l .offset + l .size) (w .body-within), le-ltb (l .end) (l .start) (omega arith), le-ltb (l .start) previous h, le-ltb (l .end) (placeOf l (l .size)) (w .room))
+    let r = w .room in
+    rw (le-ltb 6 (l .kind) (w .known), le-ltb 1 (l .triple) (w .flag), le-ltb (length s) (l .offset + l .size) (w .body-within), le-ltb (l .end) (l .start) (omega arith), le-ltb (l .start) previous h, le-ltb (l .end) (placeOf l (l .size)) (omega arith))
+
+pub literal-good : (s : List ℕ) (previous : ℕ) (l : Literal) → IsLiteral s l → previous ≤ l .start → bad s previous l ≡ false
+literal-good s previous l p h = lies-good s previous l (literal-lies s l p) h

@@ -1,4 +1,4 @@
--- What opens a literal, and where its body closes. Assumes nothing.
+-- Where a body closes, and that it closes in one place. Assumes nothing.
 use mathlib.Core.Path.{_≡_, refl, sym, _∙_, ap}
 use mathlib.Core.Bool.{Bool, true, false, _&&_, not, _||_}
 use mathlib.Core.List.{List}
@@ -7,67 +7,13 @@ use native.Mathlib.Omega.{arith}
 use borrow.Author.Tests.{leb-true, leb-false, eqb-true, ne-eqb}
 use lib.Dec.{eqb}
 use lib.ListN.{length, List·getD-eq-default}
-use Rattle.definition.specs.Numbers.{prefix}
 use Rattle.definition.specs.Chars.{if_then_else_, _is_, byte, atEnd}
-use Rattle.definition.specs.Opening.{isQuote, noKind, oneLetter, twoLetters, opens, quotesOf, quotes, quoteOf, quotesAt, breaksAt}
+use Rattle.definition.specs.Opening.{isQuote, quotes, quotesAt, breaksAt}
 use Rattle.definition.specs.IsRun.{Units, done, pair, single, Unclosed, toEnd, toNewline}
 use Rattle.definition.specs.Literals.{BodyCase, over, takes, closes, breaks, plain, bodyCase, Closing, closed, fails, closingN}
-use Rattle.definition.proofs.CharLaws.{cases, no, either, byte-in}
+use Rattle.definition.proofs.CharLaws.{cases, no, byte-in}
 use Rattle.definition.proofs.Cases.{and-both}
-
--- a quote is 39 or 34
-pub quote-within : (c : ℕ) → isQuote c ≡ true → (34 ≤ c) × (c ≤ 39)
-quote-within c e =
-    either (eqb c 39) (eqb c 34) e (λ t. let h = eqb-true c 39 t in (omega arith, omega arith))
-    (λ t. let h = eqb-true c 34 t in (omega arith, omega arith))
-
--- OPENINGS: a prefix is as long as its kind says
-one-letter : (a : ℕ) → oneLetter a ≤ 6 → prefix (oneLetter a) ≡ 1
-unfolding oneLetter prefix
-one-letter a h = go (a is "fF") (a is "bB") (a is "rR") (a is "uU") h
-  where
-    go : (x y z w : Bool) → (if x then 1 else if y then 2 else if z then 3 else if w then 6 else noKind) ≤ 6 → prefix (if x then 1 else if y then 2 else if z then 3 else if w then 6 else noKind) ≡ 1
-    go true y z w h = refl
-    go false true z w h = refl
-    go false false true w h = refl
-    go false false false true h = refl
-    go false false false false h = absurd (omega arith)
-
-two-letters : (a b : ℕ) → twoLetters a b ≤ 6 → prefix (twoLetters a b) ≡ 2
-unfolding twoLetters prefix
-two-letters a b h = go (a is "fF" && b is "rR" || a is "rR" && b is "fF") (a is "bB" && b is "rR" || a is "rR" && b is "bB") h
-  where
-    go : (x y : Bool) → (if x then 4 else if y then 5 else noKind) ≤ 6 → prefix (if x then 4 else if y then 5 else noKind) ≡ 2
-    go true y h = refl
-    go false true h = refl
-    go false false h = absurd (omega arith)
-
--- so its quote stands behind it
-pub quote-of : (s : List ℕ) (i : ℕ) → opens s i ≤ 6 → isQuote (quoteOf s i) ≡ true
-unfolding quotesOf opens prefix
-quote-of s i h = go (isQuote (byte s i)) (isQuote (byte s (i + 1))) (isQuote (byte s (i + 2))) refl refl refl h
-  where
-    one : ℕ
-    one = oneLetter (byte s i)
-
-    two : ℕ
-    two = twoLetters (byte s i) (byte s (i + 1))
-
-    moved : (m n : ℕ) → m ≡ n → isQuote (byte s m) ≡ true → isQuote (byte s n) ≡ true
-    moved m n e h = rw (← e) h
-
-    go : (x y z : Bool) → isQuote (byte s i) ≡ x → isQuote (byte s (i + 1)) ≡ y → isQuote (byte s (i + 2)) ≡ z
-        → (if x then 0 else if y then one else if z then two else noKind) ≤ 6 → isQuote (byte s (i + prefix (if x then 0 else if y then one else if z then two else noKind))) ≡ true
-    go true y z e f g h = moved i (i + prefix 0) (omega arith) e
-    go false true z e f g h = rw (one-letter (byte s i) h) f
-    go false false true e f g h = rw (two-letters (byte s i) (byte s (i + 1)) h) g
-    go false false false e f g h = absurd (omega arith)
-
-pub opens-in : (s : List ℕ) (i : ℕ) → opens s i ≤ 6 → i < length s
-unfolding quotesOf
-opens-in s i h =
-    let q = quote-within (quoteOf s i) (quote-of s i h) in
-    omega (arith, byte-in s (quotesOf s i) (omega arith))
+use Rattle.definition.proofs.OpeningLaws.{quote-within}
 
 -- BODIES. What each case says
 abbrev pub Facts : List ℕ → (quote flag i : ℕ) → BodyCase → Type 0
@@ -190,7 +136,18 @@ module _ (s : List ℕ) (quote flag : ℕ) where
         let w = quote-within quote q in
         omega (arith, ap (λ n. byte s n) e, quotes-first j (c .1), newline-is k b)
 
-    -- what closes at j is found to close there
-    pub closed-once : (i j : ℕ) (r : Closing) → Closes s quote flag i r → Closes s quote flag i (closed j) → r ≡ closed j
-    closed-once i j (closed k) c d = ap closed (units-same (c .0) (d .0) (at-quotes k (c .1)) (at-quotes j (d .1)))
-    closed-once i j (fails m) c d = absurd (closed-or-not i j m d c)
+    -- why it does not, for one reason
+    fails-once : (i m n : ℕ) → Unclosed s quote flag i m → Unclosed s quote flag i n → m ≡ n
+    fails-once i m n (toEnd u l) (toEnd v k) = refl
+    fails-once i m n (toEnd {j = j} u l) (toNewline {j = k} v b) =
+        let e = units-same u v (at-end j l) (at-newline k b) in absurd (omega (arith, ap (λ n. byte s n) e, past-end j l, newline-is k b))
+    fails-once i m n (toNewline {j = j} u b) (toEnd {j = k} v l) =
+        let e = units-same u v (at-newline j b) (at-end k l) in absurd (omega (arith, ap (λ n. byte s n) e, past-end k l, newline-is j b))
+    fails-once i m n (toNewline u b) (toNewline v c) = refl
+
+    -- WHAT IS FOUND OF A BODY IS WHAT IS SO
+    pub closes-once : (i : ℕ) (r t : Closing) → Closes s quote flag i r → Closes s quote flag i t → r ≡ t
+    closes-once i (closed j) (closed k) c d = ap closed (units-same (c .0) (d .0) (at-quotes j (c .1)) (at-quotes k (d .1)))
+    closes-once i (closed j) (fails m) c d = absurd (closed-or-not i j m c d)
+    closes-once i (fails m) (closed j) c d = absurd (closed-or-not i j m d c)
+    closes-once i (fails m) (fails n) c d = ap fails (fails-once i m n c d)

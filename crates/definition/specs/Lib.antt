@@ -15,3 +15,5 @@ pub mod Lines
 pub mod Opening
 pub mod IsRun
 pub mod Literals
+pub mod IsCut
+pub mod Cut

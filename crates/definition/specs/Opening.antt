@@ -1,11 +1,11 @@
 -- What opens a literal in a script, and what closes it.
-use Prim.Native.Nat.{ℕ, _+_}
+use Prim.Native.Nat.{ℕ, _+_, _-_}
 use mathlib.Core.Bool.{Bool, _&&_, not, _||_}
 use mathlib.Core.List.{List}
 use lib.Dec.{eqb}
 use lib.ListN.{drop}
 use Rattle.definition.specs.Numbers.{prefix}
-use Rattle.definition.specs.Chars.{if_then_else_, _is_, byte, before}
+use Rattle.definition.specs.Chars.{if_then_else_, _is_, byte, _to_, inside, before}
 
 abbrev pub isQuote : ℕ → Bool
 isQuote c = c is "'\""
@@ -72,6 +72,22 @@ isSpace c = c is " \t\n"
 abbrev pub isSign : ℕ → Bool
 isSign c = c is "#"
 
+-- the first place from i on whose byte passes a test, or the end of the script
+abbrev pub firstAt : (ℕ → Bool) → List ℕ → ℕ → ℕ
+firstAt test s i = i + before test (drop i s)
+
 -- where the line ends that i stands in: at its newline, or with the script
 abbrev pub lineEnd : List ℕ → ℕ → ℕ
-lineEnd s i = i + before (λ c. c is "\n") (drop i s)
+lineEnd s i = firstAt (λ c. c is "\n") s i
+
+-- in the cut of a whole script a line ends at byte 10 or 13
+abbrev pub isLineEnd : ℕ → Bool
+isLineEnd c = c is "\n\r"
+
+-- an ASCII letter, digit or underscore
+abbrev pub isWord : ℕ → Bool
+isWord c = inside (48 to 57) c || inside (65 to 90) c || inside (97 to 122) c || c is "_"
+
+-- none of these stands before i
+unfoldable pub apart : List ℕ → ℕ → Bool
+apart s i = eqb i 0 || not (isWord (byte s (i - 1)))

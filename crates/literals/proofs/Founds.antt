@@ -13,7 +13,8 @@ use Rattle.definition.specs.Reading.{accepts}
 use Rattle.definition.specs.Opening.{isQuote, opens, quotesOf, tripled, quotes, quotesAt}
 use Rattle.definition.specs.Literals.{Closing, closed, closing, closedAt, literalAt}
 use Rattle.definition.proofs.CharLaws.{byte-is, byte-in}
-use Rattle.definition.proofs.LiteralLaws.{quote-within, quote-of, opens-in, quotes-in}
+use Rattle.definition.proofs.OpeningLaws.{quote-within, quote-of, opens-in}
+use Rattle.definition.proofs.LiteralLaws.{quotes-in}
 use Rattle.definition.proofs.LiteralFound.{literal-at, literal-lies}
 use Rattle.literals.specs.Answers.{Within}
 

@@ -11,7 +11,7 @@ use Rattle.definition.specs.Reading.{Outcome, accepts, refuses, lastEnd, zeros}
 use Rattle.definition.specs.Opening.{noKind, opens}
 use Rattle.definition.specs.Literals.{literalAt, passed, Run, run, literalsFrom, flat, listed, listAfter, listInto, literalsInto, listNumbers}
 use Rattle.definition.proofs.JoinLaw.{end-append}
-use Rattle.definition.proofs.LiteralLaws.{opens-in}
+use Rattle.definition.proofs.OpeningLaws.{opens-in}
 use Rattle.definition.proofs.LiteralFound.{LiteralAt, literal-at, literal-lies}
 use Rattle.definition.proofs.RunLaws.{passed-over, passed-ahead}
 use Rattle.definition.proofs.LiteralSteps.{run-ends, run-refuses, run-goes, runAfter, run-after}
