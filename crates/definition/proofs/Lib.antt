@@ -50,3 +50,6 @@ pub mod CutSteps
 pub mod RunInCut
 pub mod PartLaws
 pub mod CutShown
+pub mod RowPlaces
+pub mod SourceLaws
+pub mod ListingLaws

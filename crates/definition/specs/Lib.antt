@@ -17,3 +17,5 @@ pub mod IsRun
 pub mod Literals
 pub mod IsCut
 pub mod Cut
+pub mod Listing
+pub mod Complete

@@ -105,6 +105,10 @@ noLiteral = 52
 abbrev pub tooLittleListRoom : ℕ
 tooLittleListRoom = 53
 
+-- of every field of a script: a number of our own, where Python reads otherwise
+abbrev pub readOtherwise : ℕ
+readOtherwise = 75
+
 -- those of a reading, in the table's order
 abbrev pub refusals : List ℕ
 refusals =

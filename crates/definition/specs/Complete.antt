@@ -1,0 +1,73 @@
+-- WHAT IT MEANS THAT A LIST OF ROWS IS COMPLETE FOR A SCRIPT, without a word of how it is made.
+use Prim.Native.Nat.{ℕ, suc, _+_, _-_, _≤_, _<_}
+use mathlib.Core.Path.{_≡_}
+use mathlib.Core.Bool.{Bool, true, false, not}
+use mathlib.Core.List.{List, [], _∷_, _++_, map}
+use lib.Dec.{eqb}
+use lib.ListN.{length, take}
+use Rattle.definition.specs.Numbers.{isFString}
+use Rattle.definition.specs.Chars.{_is_, byte}
+use Rattle.definition.specs.Records.{Answer}
+use Rattle.definition.specs.Entry.{Literal}
+use Rattle.definition.specs.Reading.{accepts, read}
+use Rattle.definition.specs.Rows.{reason, Row, literalRows, rowField, recordFields}
+use Rattle.definition.specs.Opening.{opens, isSign}
+use Rattle.definition.specs.IsRun.{bodyEnd}
+use Rattle.definition.specs.IsCut.{reachesEnd, IsCut, EachLiteral}
+use Rattle.definition.specs.Listing.{ListRow, ofField, sourceEnd}
+
+-- THE ROWS OF LITERALS in order: each f-string is accepted alone, and its rows have the fields of its answer, in record order; no other literal is read
+pub data Fielded (s : List ℕ) (within : ℕ) : List Literal → List ListRow → Type 0 where
+  none : Fielded s within [] []
+  other : {l : Literal} {ls : List Literal} {rows : List ListRow} → isFString (l .kind) ≡ false → Fielded s within ls rows → Fielded s within (l ∷ ls) rows
+  fstring : {l : Literal} {ls : List Literal} {rows : List ListRow} → (answer : Answer) → read s (l ∷ []) ≡ accepts answer
+      → map rowField (literalRows s l) ≡ recordFields (answer .records) → Fielded s within ls rows → Fielded s within (l ∷ ls) (map (ofField within) (literalRows s l) ++ rows)
+
+-- A PART OF A SCRIPT from `from` up to `end` is cut to its end, and these are the rows of its literals
+pub record Covered (s : List ℕ) (within from end : ℕ) (rows : List ListRow) : Type 0 where
+  pub literals : List Literal
+  pub isCut : IsCut (take end s) from literals reachesEnd
+  pub fielded : Fielded s within literals rows
+
+-- no byte from i up to j passes a test; none outside the literals
+abbrev pub NoneIn : (ℕ → Bool) → List ℕ → (i j : ℕ) → Type 0
+NoneIn test s i j = (m : ℕ) → i ≤ m → m < j → test (byte s m) ≡ false
+
+abbrev pub NoneOutside : (ℕ → Bool) → List ℕ → (i j : ℕ) → List Literal → Type 0
+NoneOutside test s i j [] = NoneIn test s i j
+NoneOutside test s i j (l ∷ ls) = NoneIn test s i (l .start) × NoneOutside test s (l .end) j ls
+
+-- A FIELD THAT PYTHON READS LIKEWISE, whose source has these literals
+pub record Likewise (s : List ℕ) (r : Row) (literals : List Literal) : Type 0 where
+  pub no-comment : NoneOutside isSign s (r .place) (sourceEnd (r .signs)) literals
+  pub no-backslash : NoneIn (λ b. b is "\\") s (r .place) (sourceEnd (r .signs))
+  pub no-quote : EachLiteral (λ l. l .triple ≡ 1 → NoneIn (λ b. eqb b (byte s (l .end - 1))) s (l .offset) (bodyEnd l)) literals
+  pub nothing-after : 1 ≤ r .signs .equals → NoneIn (λ b. not (b is " ")) s (r .signs .equals) (sourceEnd (r .signs))
+  pub spec-plain : 1 ≤ r .signs .colon → opens s (r .start) ≡ 1 → (m : ℕ) → r .signs .colon ≤ m → m < length s → NoneIn (λ b. b is "{}") s (r .signs .colon) m
+      → (byte s m is "\\") ≡ false
+
+-- THE ROWS OF SOURCES: of the field of each row in order, whose numbers follow i
+pub data Sources (s : List ℕ) : (i : ℕ) → List ListRow → List ListRow → Type 0 where
+  none : {i : ℕ} → Sources s i [] []
+  source : {i within : ℕ} {r : Row} {rs own rows : List ListRow} → (covered : Covered s (suc i) (r .place) (sourceEnd (r .signs)) own) → Likewise s r (covered .literals)
+      → Sources s (suc i) rs rows → Sources s i (ofField within r ∷ rs) (own ++ rows)
+
+-- COMPLETE: the rows are those of the script's literals and then those of the source of each field in the list, in order, and no others
+pub record Complete (s : List ℕ) (rows : List ListRow) : Type 0 where
+  pub own : List ListRow
+  pub later : List ListRow
+  pub script : Covered s 0 0 (length s) own
+  pub sources : Sources s 0 rows later
+  pub exact : rows ≡ own ++ later
+
+-- A FIELD'S PLACES are just after its `{`, `=`, `!`, `:` and `}` in the script, and its conversion is what its reason says
+pub record Placed (s : List ℕ) (r : Row) : Type 0 where
+  pub brace-at : byte s (r .place - 1) ≡ 123
+  pub equals-at : 1 ≤ r .signs .equals → (r .place < r .signs .equals) × (byte s (r .signs .equals - 1) ≡ 61)
+  pub bang-at : 1 ≤ r .signs .bang → (r .place < r .signs .bang) × (byte s (r .signs .bang - 1) ≡ 33)
+  pub colon-at : 1 ≤ r .signs .colon → (r .place < r .signs .colon) × (byte s (r .signs .colon - 1) ≡ 58)
+  pub close-at : (r .place < r .signs .close) × (byte s (r .signs .close - 1) ≡ 125)
+  pub written : reason (r .signs) ≡ 1 → byte s (r .signs .bang) ≡ r .conversion
+  pub none-written : reason (r .signs) ≡ 2 → r .conversion ≡ 0
+  pub by-repr : reason (r .signs) ≡ 3 → r .conversion ≡ 114
+  pub by-spec : reason (r .signs) ≡ 4 → r .conversion ≡ 0
