@@ -53,3 +53,6 @@ pub mod CutShown
 pub mod RowPlaces
 pub mod SourceLaws
 pub mod ListingLaws
+pub mod OtherwiseLaws
+pub mod FieldsLaw
+pub mod CompleteLaw

@@ -1,0 +1,127 @@
+-- WHERE NO 75 IS TOLD, nothing in a field's source and spec is read otherwise by Python; and what a 75 names is there. Assumes nothing.
+use mathlib.Core.Path.{_≡_, refl, sym, subst, _∙_}
+use mathlib.Core.Bool.{Bool, true, false, _&&_, not}
+use mathlib.Core.List.{List, [], _∷_}
+use Prim.Native.Nat.{ℕ, _+_, _-_, _≤_, _<_}
+use native.Mathlib.Omega.{arith}
+use borrow.Author.Tests.{eqb-true, eqb-false, ne-eqb, ltb-true, ltb-false, lt-ltb, leb-true, leb-false}
+use lib.Dec.{ltb, leb, eqb}
+use lib.ListN.{length}
+use Rattle.definition.specs.Chars.{if_then_else_, _is_, byte}
+use Rattle.definition.specs.Body.{Signs}
+use Rattle.definition.specs.Entry.{Literal}
+use Rattle.definition.specs.Rows.{Row}
+use Rattle.definition.specs.Opening.{opens, isSign, firstAt}
+use Rattle.definition.specs.IsRun.{bodyEnd}
+use Rattle.definition.specs.IsCut.{Ending, reachesEnd, EachLiteral}
+use Rattle.definition.specs.Cut.{Cut}
+use Rattle.definition.specs.Listing.{sourceEnd, reached, firstIn, quotedInside, firstOdd, moreAfter, specBackslash, least, otherwise}
+use Rattle.definition.specs.Complete.{NoneIn, NoneOutside, Likewise}
+use Rattle.definition.proofs.CharLaws.{cases, no, either, byte-in, first-fails, first-passes}
+
+least-past : (n a b : ℕ) → n ≤ least a b → (n ≤ a) × (n ≤ b)
+least-past n a b h =
+    cases (leb a b) (λ e. let k = rw e at h in let l = leb-true a b e in (omega arith, omega arith)) (λ e. let k = rw e at h in let l = leb-false a b e in (omega arith, omega arith))
+
+-- what a literal of a source has, so that its places are in the script
+abbrev pub Lying : List ℕ → Literal → Type 0
+Lying s l = l .start < length s
+
+module _ (s : List ℕ) where
+  -- none is found from i up to j
+  none-before : (test : ℕ → Bool) (i j : ℕ) → ltb (firstAt test s i) j ≡ false → NoneIn test s i j
+  none-before test i j e m a b = let c = ltb-false (firstAt test s i) j e in first-fails test s i m a (omega arith)
+
+  none-in : (test : ℕ → Bool) (i j : ℕ) → j ≤ length s → length s ≤ firstIn test s i j → NoneIn test s i j
+  unfolding firstIn
+  none-in test i j l h =
+      cases (ltb (firstAt test s i) j) (λ e. let k = rw e at h in let c = ltb-true (firstAt test s i) j e in absurd (omega arith)) (λ e. none-before test i j e)
+
+  -- a `#` outside the literals, and triple-quoted ones with their own quote inside
+  abbrev Unquoted : Literal → Type 0
+  Unquoted l = l .triple ≡ 1 → NoneIn (λ b. eqb b (byte s (l .end - 1))) s (l .offset) (bodyEnd l)
+
+  not-inside : (l : Literal) → quotedInside s l ≡ false → Unquoted l
+  unfolding quotedInside
+  not-inside l e t = none-before (λ b. eqb b (byte s (l .end - 1))) (l .offset) (bodyEnd l) (rw t at e)
+
+  none-odd : (i j : ℕ) (ls : List Literal) → j ≤ length s → EachLiteral (Lying s) ls → length s ≤ firstOdd s i j ls → NoneOutside isSign s i j ls × EachLiteral Unquoted ls
+  unfolding firstOdd
+  none-odd i j [] l p h = (none-in isSign i j l h, tt)
+  none-odd i j (x ∷ ls) l p h = go (ltb (firstAt isSign s i) (x .start)) refl (quotedInside s x) refl (none-odd (x .end) j ls l (p .1))
+    where
+      go : (t : Bool) → ltb (firstAt isSign s i) (x .start) ≡ t → (u : Bool) → quotedInside s x ≡ u → (length s ≤ firstOdd s (x .end) j ls → NoneOutside isSign s (x .end) j ls × EachLiteral Unquoted ls)
+          → (NoneIn isSign s i (x .start) × NoneOutside isSign s (x .end) j ls) × (Unquoted x × EachLiteral Unquoted ls)
+      go true e u f r = let k = rw e at h in let c = ltb-true (firstAt isSign s i) (x .start) e in let d = p .0 in absurd (omega arith)
+      go false e true f r = let k : length s ≤ x .start = rw (e, f) at h in let d = p .0 in absurd (omega arith)
+      go false e false f r = let q = r (rw (e, f) at h) in ((none-before isSign i (x .start) e, q .0), (not-inside x f, q .1))
+
+  -- what follows a self-documenting `=`
+  nothing-more : (g : Signs) → g .equals < length s → length s ≤ moreAfter s g → 1 ≤ g .equals → NoneIn (λ b. not (b is " ")) s (g .equals) (sourceEnd g)
+  unfolding moreAfter
+  nothing-more g l h k =
+      cases (ltb (firstAt (λ b. not (b is " ")) s (g .equals)) (sourceEnd g))
+      (λ e. let c : length s ≤ g .equals = rw (ne-eqb (g .equals) 0 (λ z. omega arith), e) at h in absurd (omega arith))
+      (λ e. none-before (λ b. not (b is " ")) (g .equals) (sourceEnd g) e)
+
+  -- a backslash in a spec before any brace
+  spec-clear : (start : ℕ) (g : Signs) → length s ≤ specBackslash s start g → 1 ≤ g .colon → opens s start ≡ 1 → (m : ℕ) → g .colon ≤ m → m < length s → NoneIn (λ b. b is "{}") s (g .colon) m → (byte s m is "\\") ≡ false
+  unfolding specBackslash
+  spec-clear start g h c o m a b none-yet = cases (byte s m is "\\") (λ t. absurd (found t)) (λ t. t)
+    where
+      test : ℕ → Bool
+      test = λ b. b is "{}\\"
+
+      k : ℕ
+      k = firstAt test s (g .colon)
+
+      backslash : (c : ℕ) → (c is "\\") ≡ true → (c is "{}\\") ≡ true
+      backslash c t = let z = eqb-true c 92 t in rw z
+
+      or-brace : (c : ℕ) → (c is "{}\\") ≡ true → (c is "{}") ≡ false → (c is "\\") ≡ true
+      or-brace c t f =
+          either (c is "{") (c is "}\\") t (λ z. let q = eqb-true c 123 z in no (sym (rw q at f)))
+          (λ z. either (c is "}") (c is "\\") z (λ y. let q = eqb-true c 125 y in no (sym (rw q at f))) (λ y. y))
+
+      -- nothing that passes stands before m, so m is the first
+      at-first : (byte s m is "\\") ≡ true → k ≡ m
+      at-first t =
+          cases (ltb m k)
+          (λ e. no (sym (first-fails test s (g .colon) m a (ltb-true m k e)) ∙ backslash (byte s m) t))
+          (λ e. cases (ltb k m)
+          (λ f.
+          let q = ltb-true k m f in
+          let z : (byte s k is "\\") ≡ true = or-brace (byte s k) (first-passes test s (g .colon) (omega arith)) (none-yet k (omega arith) q) in
+          let w : length s ≤ k = rw (ne-eqb (g .colon) 0 (λ z. omega arith), o, z) at h in
+          absurd (omega arith))
+          (λ f. let q = ltb-false k m f in let r = ltb-false m k e in omega arith))
+
+      found : (byte s m is "\\") ≡ true → ⊥
+      found t =
+          let e = at-first t in
+          let z : (byte s k is "\\") ≡ true = rw e t in
+          let w : length s ≤ k = rw (ne-eqb (g .colon) 0 (λ z. omega arith), o, z) at h in
+          omega arith
+
+  -- NO 75, of a cut that reached the end of the source
+  pub none-told : (r : Row) (c : Cut) → c .ending ≡ reachesEnd → sourceEnd (r .signs) ≤ length s → r .signs .equals < length s → EachLiteral (Lying s) (c .literals)
+      → length s ≤ otherwise s r c → Likewise s r (c .literals)
+  unfolding otherwise reached
+  none-told r c e l q p h =
+      let g = r .signs in
+      let end = sourceEnd g in
+      let t₁ = firstOdd s (r .place) (reached end (c .ending)) (c .literals) in
+      let t₂ = firstIn (λ b. b is "\\") s (r .place) end in
+      let t₃ = moreAfter s g in
+      let t₄ = specBackslash s (r .start) g in
+      let a = least-past (length s) t₁ (least t₂ (least t₃ t₄)) h in
+      let b = least-past (length s) t₂ (least t₃ t₄) (a .1) in
+      let d = least-past (length s) t₃ t₄ (b .1) in
+      let o = none-odd (r .place) end (c .literals) l p (rw e at (a .0)) in
+      record {
+        no-comment = o .0;
+        no-backslash = none-in (λ b. b is "\\") (r .place) end l (b .0);
+        no-quote = o .1;
+        nothing-after = nothing-more g q (d .0);
+        spec-plain = spec-clear (r .start) g (d .1);
+      }
