@@ -56,3 +56,4 @@ pub mod ListingLaws
 pub mod OtherwiseLaws
 pub mod FieldsLaw
 pub mod CompleteLaw
+pub mod ListingShown
