@@ -1,5 +1,7 @@
 pub mod Starred
 pub mod Blanks
+pub mod CutShown
+pub mod ListingShown
 pub mod Seam
 pub mod Assoc
 pub mod Laid
@@ -49,11 +51,12 @@ pub mod CutOnce
 pub mod CutSteps
 pub mod RunInCut
 pub mod PartLaws
-pub mod CutShown
 pub mod RowPlaces
 pub mod SourceLaws
 pub mod ListingLaws
 pub mod OtherwiseLaws
 pub mod FieldsLaw
 pub mod CompleteLaw
-pub mod ListingShown
+pub mod ListingSteps
+pub mod RunRows
+pub mod ListingOne

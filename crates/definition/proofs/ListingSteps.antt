@@ -1,0 +1,97 @@
+-- What the list of a script does row by row, and what a call for it gives: the equations that code is proved by. Assumes nothing.
+use mathlib.Core.Path.{_≡_, refl, sym, subst, _∙_, ap}
+use mathlib.Core.Bool.{Bool, true, false}
+use mathlib.Core.List.{List, [], _∷_, _++_, append-assoc, append-nil}
+use Prim.Native.Nat.{ℕ, zero, suc, _+_, _*_, _/_, _≤_, _<_}
+use native.Mathlib.Numerals.{add-one}
+use native.Mathlib.Omega.{arith}
+use borrow.Author.Tests.{lt-ltb, le-ltb, ltb-false}
+use lib.Dec.{ltb}
+use lib.ListN.{length, drop, length-append, length-drop, length-replicate}
+use Rattle.definition.specs.Rows.{rowNumbers}
+use Rattle.definition.specs.Cut.{cut}
+use Rattle.definition.specs.Listing.{ListRow, ofField, ofRefusal, tenOf, tens, cutRows, reached, sourceRows, below, rowsOf, Fields, fields, tooLong, short, fieldsOf, fieldsAfter, fieldsCall, fieldsInto}
+use Rattle.definition.proofs.SourceLaws.{AllFit, none-fits, below-fit}
+use Rattle.definition.proofs.ListingLaws.{rows-again, rows-fit}
+
+-- A LOOP OVER THE ROWS ALREADY WRITTEN: those whose sources are listed, those whose sources are not yet, and what is still to come
+pub record Listing (s : List ℕ) (done todo : List ListRow) : Type 0 where
+  pub rest : List ListRow
+  pub whole : rowsOf s ≡ done ++ (todo ++ rest)
+  pub more : rest ≡ below s (length done) (todo ++ rest)
+
+module _ (s : List ℕ) where
+  pub listing-start : Listing s [] (cutRows s 0 (cut s))
+  listing-start = record { rest = below s 0 (rowsOf s); whole = rows-again s; more = ap (below s 0) (rows-again s) }
+
+  -- one row more
+  pub listing-step : (done : List ListRow) (r : ListRow) (todo : List ListRow) → Listing s done (r ∷ todo) → Listing s (done ++ r ∷ []) (todo ++ sourceRows s (suc (length done)) r)
+  unfolding below
+  listing-step done r todo p =
+      let n = suc (length done) in
+      let later = below s n (todo ++ p .rest) in
+      let e : p .rest ≡ sourceRows s n r ++ later = p .more in
+      let k : length (done ++ r ∷ []) ≡ n = length-append done (r ∷ []) ∙ add-one (length done) in
+      record {
+        rest = later;
+        whole = p .whole ∙ ap (λ x. done ++ (r ∷ todo ++ x)) e ∙ ap (λ x. done ++ (r ∷ x)) (sym (append-assoc todo (sourceRows s n r) later)) ∙ sym (append-assoc done (r ∷ []) ((todo ++ sourceRows s n r) ++ later));
+        more = rw k (ap (below s n) (ap (λ x. todo ++ x) e ∙ sym (append-assoc todo (sourceRows s n r) later)));
+      }
+
+  -- rows that are their own sources' are none
+  fit-right : (n : ℕ) (xs ys : List ListRow) → AllFit s n (xs ++ ys) → AllFit s n ys
+  fit-right n [] ys p = p
+  fit-right n (x ∷ xs) ys p = fit-right n xs ys (p .1)
+
+  no-rows : (n i : ℕ) (rs : List ListRow) → AllFit s n rs → rs ≡ below s i rs → rs ≡ []
+  no-rows zero i rs p e = none-fits s rs p
+  no-rows (suc n) i rs p e = no-rows n i rs (rw (sym e) at (below-fit s n i rs p)) e
+
+  -- none is left: the list is what was written
+  pub listing-end : (done : List ListRow) → Listing s done [] → rowsOf s ≡ done
+  listing-end done p =
+      let e = no-rows (suc (length s)) (length done) (p .rest) (fit-right (suc (length s)) done (p .rest) (subst (λ (x : List ListRow). AllFit s (suc (length s)) x) (p .whole) (rows-fit s))) (p .more) in
+      p .whole ∙ ap (λ x. done ++ x) e ∙ append-nil done
+
+  -- THE CALL
+  module _ (room : ℕ) where
+    pub fields-long : 1048576 < length s → fieldsOf s room ≡ tooLong
+    unfolding fieldsOf
+    fields-long h = rw (lt-ltb 1048576 (length s) h, fieldsOf)
+
+    pub fields-short : length s ≤ 1048576 → room / 10 < length (rowsOf s) → fieldsOf s room ≡ short (length (rowsOf s))
+    unfolding fieldsOf
+    fields-short h k = rw (le-ltb 1048576 (length s) h, lt-ltb (room / 10) (length (rowsOf s)) k, fieldsOf)
+
+    pub fields-given : length s ≤ 1048576 → length (rowsOf s) ≤ room / 10 → fieldsOf s room ≡ fields (rowsOf s) (length (cut s .literals)) (reached (length s) (cut s .ending))
+    unfolding fieldsOf
+    fields-given h k = rw (le-ltb 1048576 (length s) h, le-ltb (room / 10) (length (rowsOf s)) k, fieldsOf)
+
+-- ten numbers a row
+pub ten : (r : ListRow) → length (tenOf r) ≡ 10
+unfolding tenOf rowNumbers
+ten (ofField w r) = refl
+ten (ofRefusal w start place number a b o) = refl
+
+pub tens-length : (rs : List ListRow) → length (tens rs) ≡ length rs * 10
+unfolding tens
+tens-length [] = refl
+tens-length (r ∷ rs) = let a = tens-length rs in let b = ten r in omega (arith, length-append (tenOf r) (tens rs))
+
+pub tens-append : (xs ys : List ListRow) → tens (xs ++ ys) ≡ tens xs ++ tens ys
+unfolding tens
+tens-append [] ys = refl
+tens-append (x ∷ xs) ys = ap (λ r. tenOf x ++ r) (tens-append xs ys) ∙ sym (append-assoc (tenOf x) (tens xs) (tens ys))
+
+-- THE ROW BUFFER keeps its length
+pub rows-kept : (s buffer : List ℕ) → length (fieldsInto s buffer .rows) ≡ length buffer
+unfolding fieldsInto fieldsCall fieldsOf fieldsAfter
+rows-kept s buffer = go (ltb 1048576 (length s)) refl (ltb (length buffer / 10) (length (rowsOf s))) refl
+  where
+    go : (x : Bool) → ltb 1048576 (length s) ≡ x → (y : Bool) → ltb (length buffer / 10) (length (rowsOf s)) ≡ y → length (fieldsAfter (fieldsOf s (length buffer)) buffer) ≡ length buffer
+    go true e y f = rw (e, fieldsOf) (length-replicate (length buffer) 0)
+    go false e true f = rw (e, f, fieldsOf) (length-replicate (length buffer) 0)
+    go false e false f =
+        let n = ltb-false (length buffer / 10) (length (rowsOf s)) f in
+        let ns = tens (rowsOf s) in
+        rw (e, f, fieldsOf) (omega (arith, tens-length (rowsOf s), length-append ns (drop (length ns) buffer), length-drop (length ns) buffer))
