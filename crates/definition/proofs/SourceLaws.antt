@@ -84,14 +84,16 @@ module _ (s : List ℕ) (n from end : ℕ) (h : end ≤ length s) (k : end - fro
   fields-fit l p (literal d t ∷ ps) q = fields-fit l p ps q
   fields-fit l p (field d e c m i g ∷ ps) q =
       let x = source-within (body s l) i (placeOf l 0) g (q .0 .0) (q .0 .1) in
-      let y = inside l p (sourceEnd (signsAt (placeOf l 0) g)) i (x .0) (x .1) in
-      (record {
-        ahead = x .0;
-        within = y .0;
-        levels = y .1;
-        equals-in = equals-within l p (g .equals) (q .0 .0 .equals-after);
-        placed = piece-placed s l (p .lies .begins) (length e) c i g (q .0);
-      }, fields-fit l p ps (q .1))
+      let y = inside l p (sourceEnd (signsAt (placeOf l 0) g)) i (x .0) (x .1) in (
+        record {
+          ahead = x .0;
+          within = y .0;
+          levels = y .1;
+          equals-in = equals-within l p (g .equals) (q .0 .0 .equals-after);
+          placed = piece-placed s l (p .lies .begins) (length e) c i g (q .0);
+        },
+        fields-fit l p ps (q .1),
+      )
   fields-fit l p (spec m ∷ ps) q = fields-fit l p ps q
 
   read-fit : (l : Literal) → InPart s from end l → (r : Read (List Piece)) → readBody (l .kind) (body s l) ≡ r → AllFit s n (map (ofField w) (fieldRows (l .start) (placeOf l 0) (piecesOf r)))

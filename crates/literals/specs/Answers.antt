@@ -1,5 +1,5 @@
 -- What the answers say, in the definition's terms, and what a call over a list buffer leaves.
-use Prim.Native.Nat.{ℕ, _≤_}
+use Prim.Native.Nat.{ℕ, _≤_, _<_}
 use mathlib.Core.Path.{_≡_}
 use mathlib.Core.Bool.{Bool, _||_}
 use mathlib.Core.List.{List, [], _∷_}
@@ -11,6 +11,9 @@ use Rattle.definition.specs.Entry as d
 use Rattle.definition.specs.Entry.{refusal}
 use Rattle.definition.specs.Reading.{Outcome, accepts, refuses, lastEnd}
 use Rattle.definition.specs.Opening.{noKind, opens}
+use Rattle.definition.specs.IsCut.{reachesEnd, breaksOff}
+use Rattle.definition.specs.Cut as c
+use Rattle.definition.specs.Cut.{cutCase, cutFrom, firstCut}
 use Rattle.definition.specs.Literals as s
 use Rattle.definition.specs.Literals.{flat, ListCall, listNumbers}
 use Rattle.buffers.specs.Over.{over}
@@ -27,6 +30,10 @@ use Rattle.literals.specs.declared.Found.{Found}
 use Rattle.literals.specs.declared.Found.the-variants as found
 use Rattle.literals.specs.declared.BlankCase.{BlankCase}
 use Rattle.literals.specs.declared.BlankCase.the-variants.{Space, Comment, Other}
+use Rattle.literals.specs.declared.CutCase.{CutCase}
+use Rattle.literals.specs.declared.CutCase.the-variants as cutting
+use Rattle.literals.specs.declared.Next.{Next}
+use Rattle.literals.specs.declared.Next.the-variants as next
 use Rattle.literals.specs.declared.Ran.{Ran}
 use Rattle.literals.specs.declared.Ran.the-variants as ran
 
@@ -100,3 +107,26 @@ says (Short needed) = tooLittleListRoom ∷ 0 ∷ 0 ∷ 0 ∷ 0 ∷ 0 ∷ 0 ∷ 
 pub record CallIs (call : ListCall) (list : List ℕ) (r : Listing) : Type 0 where
   pub answer : says r ≡ listNumbers (call .listing)
   pub left : list ≡ call .list
+
+-- what a scan over a gap stops at
+abbrev pub cutMark : ℕ → Bool
+cutMark b = eqb b 39 || eqb b 34 || eqb b 35
+
+-- the case of a place of a cut; a literal's kind
+abbrev pub CaseIs : List ℕ → ℕ → CutCase → Type 0
+CaseIs s at cutting.Over = cutCase s at ≡ c.over
+CaseIs s at cutting.Comment = cutCase s at ≡ c.comment
+CaseIs s at (cutting.Literal kind) = (cutCase s at ≡ c.literal) × Within s at kind
+CaseIs s at cutting.Other = cutCase s at ≡ c.other
+
+-- a place from which the cut goes on as from an earlier one
+pub record Skips (s : List ℕ) (at j : ℕ) : Type 0 where
+  pub ahead : at ≤ j
+  pub same : cutFrom s at ≡ cutFrom s j
+
+-- what the cut from a place on has next, in a script that is not too long
+abbrev pub NextIs : List ℕ → ℕ → Next → Type 0
+NextIs s from (next.Literal l) = (length s ≤ 1048576) × (cutFrom s from ≡ firstCut (literalOf l) (cutFrom s (l .end)))
+NextIs s from (next.Broken r) = (length s ≤ 1048576) × (cutFrom s from ≡ record { literals = []; ending = breaksOff (r .number) (r .place) })
+NextIs s from next.End = (length s ≤ 1048576) × (cutFrom s from ≡ record { literals = []; ending = reachesEnd })
+NextIs s from next.TooLong = 1048576 < length s

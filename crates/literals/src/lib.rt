@@ -1,25 +1,26 @@
-// The adjacent literals of a script from an offset on: what opens one, where it closes, what is passed over after it.
+// The adjacent literals of a script from an offset on: what opens one, where it closes, what is passed over after it. The cut of a whole script, literal by literal.
 ghost use mathlib.Core.Path.{_≡_};
 ghost use mathlib.Core.List.{List};
 ghost use Prim.Native.Nat.{ℕ, _+_, _*_, _≤_, _<_, _^_};
 ghost use lib.ListN.{length, drop};
 ghost use Rattle.definition.specs.Numbers.{prefix};
-ghost use Rattle.definition.specs.Chars.{_is_, byte, before};
-ghost use Rattle.definition.specs.Opening.{isQuote, oneLetter, twoLetters, opens, tripled, quotes, quotesAt, lineEnd};
+ghost use Rattle.definition.specs.Chars.{_is_, byte, before, inside, _to_};
+ghost use Rattle.definition.specs.Opening.{isQuote, oneLetter, twoLetters, opens, tripled, quotes, quotesAt, lineEnd, isWord, apart, firstAt};
 ghost use Rattle.definition.specs.Reading.{Outcome, zeros};
 ghost use Rattle.definition.specs.Literals as s;
 ghost use Rattle.definition.specs.Literals.{bodyCase, closing, literalAt, blankCase, passed, run, listed, listInto, literalsInto};
+ghost use Rattle.definition.specs.Cut.{commentEnd};
 ghost use Rattle.buffers.specs.Over.{over};
-ghost use Rattle.literals.specs.Answers.{rawKind, mark, thirdOf, caseOf, closingOf, Within, foundOf, blankOf, numbersOf, Wrote, RunIs, CallIs};
+ghost use Rattle.literals.specs.Answers.{rawKind, mark, thirdOf, caseOf, closingOf, Within, foundOf, blankOf, numbersOf, Wrote, RunIs, CallIs, cutMark, CaseIs, Skips, NextIs};
 
 // A literal: six numbers.
-pub(crate) struct Literal {
-    pub(crate) kind: u32,
-    pub(crate) triple: u32,
-    pub(crate) offset: u32,
-    pub(crate) size: u32,
-    pub(crate) start: u32,
-    pub(crate) end: u32,
+pub struct Literal {
+    pub kind: u32,
+    pub triple: u32,
+    pub offset: u32,
+    pub size: u32,
+    pub start: u32,
+    pub end: u32,
 }
 
 // A run: how many literals it has, the end of the last one, and where it stopped.
@@ -68,6 +69,22 @@ pub(crate) enum BlankCase {
     Space,
     Comment,
     Other,
+}
+
+// What stands at an index of a script that is cut: nothing more, a comment, a literal of a kind, or any other byte.
+pub(crate) enum CutCase {
+    Over,
+    Comment,
+    Literal(u32),
+    Other,
+}
+
+// What a cut has next: a literal, one that never closes, nothing more; or the script is too long.
+pub enum Next {
+    Literal(Literal),
+    Broken(Refusal),
+    End,
+    TooLong,
 }
 
 // A run whose list is written, or the first refusal.
@@ -481,5 +498,149 @@ pub fn list_literals(script: &[u8], offset: u32, numbers: &mut [u32]) -> Listing
     match list_run(script, from, numbers) {
         Ran::Refused(r) => refuse(numbers, r),
         Ran::Done(x) => finish(numbers, x),
+    }
+}
+
+// Whether a code lies in a range.
+fn between(c: u32, low: u32, high: u32) -> bool
+    ensures { λ r. ⌜ r ≡ inside (low to high) c ⌝ }
+{
+    if c < low {
+        return false;
+    }
+    c <= high
+}
+
+// Whether a byte is an ASCII letter, digit or underscore.
+fn is_word(c: u32) -> bool
+    ensures { λ r. ⌜ r ≡ isWord c ⌝ }
+{
+    if between(c, 48, 57) {
+        return true;
+    }
+    if between(c, 65, 90) {
+        return true;
+    }
+    if between(c, 97, 122) {
+        return true;
+    }
+    c == 95
+}
+
+// Whether none of these stands before an index.
+fn apart(s: &[u8], at: usize) -> bool
+    ensures { λ r. ⌜ r ≡ apart (now (s .entry)) at ⌝ }
+{
+    if at == 0 {
+        return true;
+    }
+    !is_word(byte_at(s, at - 1))
+}
+
+// What stands at an index of a script that is cut.
+fn cut_case(s: &[u8], at: usize) -> CutCase
+    requires { ⌜ length (now s) ≤ 1048576 ⌝ }
+    ensures { λ r. ⌜ CaseIs (now (s .entry)) at r ⌝ }
+{
+    if s.len() <= at {
+        return CutCase::Over;
+    }
+    if s[at] == b'#' {
+        return CutCase::Comment;
+    }
+    let kind = opens(s, at);
+    if NO_KIND <= kind {
+        return CutCase::Other;
+    }
+    if kind == 0 {
+        return CutCase::Literal(kind);
+    }
+    if apart(s, at) {
+        return CutCase::Literal(kind);
+    }
+    CutCase::Other
+}
+
+// The index of the first quote or `#` from an index on, or the end.
+fn mark_from(s: &[u8], from: usize) -> usize
+    ensures { λ r. ⌜ r ≡ firstAt cutMark (now (s .entry)) from ⌝ }
+{
+    let mut i = from;
+    while i < s.len() {
+        let b = s[i];
+        if b == b'\'' {
+            return i;
+        }
+        if b == b'"' {
+            return i;
+        }
+        if b == b'#' {
+            return i;
+        }
+        i += 1;
+    }
+    i
+}
+
+// The index of the first byte 10 or 13 from an index on, or the end.
+fn comment_end(s: &[u8], from: usize) -> usize
+    ensures { λ r. ⌜ r ≡ commentEnd (now (s .entry)) from ⌝ }
+{
+    let mut i = from;
+    while i < s.len() {
+        let b = s[i];
+        if b == b'\n' {
+            return i;
+        }
+        if b == b'\r' {
+            return i;
+        }
+        i += 1;
+    }
+    i
+}
+
+// Where a cut that has come to an index may go on: two bytes before the next quote or `#`, for a prefix.
+fn near(s: &[u8], at: usize) -> usize
+    ensures { λ r. ⌜ Skips (now (s .entry)) at r ⌝ }
+{
+    let to = mark_from(s, at);
+    if to - at <= 2 {
+        return at;
+    }
+    to - 2
+}
+
+// The next literal of a script's cut from an index on.
+pub fn next_literal(script: &[u8], from: usize) -> Next
+    ensures { λ r. ⌜ NextIs (now (script .entry)) from r ⌝ }
+{
+    if 1048576 < script.len() {
+        return Next::TooLong;
+    }
+    let mut at = from;
+    loop {
+        let here = near(script, at);
+        match cut_case(script, here) {
+            CutCase::Over => {
+                return Next::End;
+            }
+            CutCase::Comment => {
+                at = comment_end(script, here);
+            }
+            CutCase::Literal(kind) => {
+                match literal_at(script, here, kind) {
+                    Found::Refused(r) => {
+                        return Next::Broken(r);
+                    }
+                    Found::Literal(l) => {
+                        return Next::Literal(l);
+                    }
+                }
+            }
+            CutCase::Other => {
+                at = here + 1;
+            }
+        }
     }
 }
