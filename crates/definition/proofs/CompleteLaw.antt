@@ -55,7 +55,7 @@ not-told s i r c n =
 
 lying : (s : List ℕ) (from end : ℕ) (ls : List Literal) → EachLiteral (InPart s from end) ls → EachLiteral (Lying s) ls
 lying s from end [] p = tt
-lying s from end (l ∷ ls) p = let a = p .0 .lies .ahead in let b = p .0 .lies .within in (omega arith, lying s from end ls (p .1))
+lying s from end (l ∷ ls) p = let a = p .0 .lies .ahead in let b = p .0 .lies .within in ((omega arith, p .0 .lies .body-within), lying s from end ls (p .1))
 
 -- EACH SOURCE is covered, and read likewise
 all-sources : (s : List ℕ) (n i : ℕ) (rs : List ListRow) → AllFit s n rs → refusalsIn rs ≡ 0 → refusalsIn (below s i rs) ≡ 0 → Sources s i rs (below s i rs)

@@ -46,6 +46,31 @@ pub record Likewise (s : List ℕ) (r : Row) (literals : List Literal) : Type 0 
   pub spec-plain : 1 ≤ r .signs .colon → opens s (r .start) ≡ 1 → (m : ℕ) → r .signs .colon ≤ m → m < length s → NoneIn (λ b. b is "{}") s (r .signs .colon) m
       → (byte s m is "\\") ≡ false
 
+-- p stands in a gap between literals, from i up to j; one of them satisfies P
+pub data InGap (p : ℕ) : (i j : ℕ) → List Literal → Type 0 where
+  last : {i j : ℕ} → i ≤ p → p < j → InGap p i j []
+  here : {i j : ℕ} {l : Literal} {ls : List Literal} → i ≤ p → p < l .start → InGap p i j (l ∷ ls)
+  later : {i j : ℕ} {l : Literal} {ls : List Literal} → InGap p (l .end) j ls → InGap p i j (l ∷ ls)
+
+pub data OneOf (P : Literal → Type 0) : List Literal → Type 0 where
+  this : {l : Literal} {ls : List Literal} → P l → OneOf P (l ∷ ls)
+  another : {l : Literal} {ls : List Literal} → OneOf P ls → OneOf P (l ∷ ls)
+
+-- a byte from i up to j passes a test
+pub record SomeIn (test : ℕ → Bool) (s : List ℕ) (i j : ℕ) : Type 0 where
+  pub found : ℕ
+  pub after : i ≤ found
+  pub before : found < j
+  pub passes : test (byte s found) ≡ true
+
+-- WHAT A ROW OF 75 AT p SAYS of a field, whose source goes up to `end` and has these literals up to `reached`
+pub data ReadOtherwise (s : List ℕ) (r : Row) (reached : ℕ) (literals : List Literal) (p : ℕ) : Type 0 where
+  comment : isSign (byte s p) ≡ true → InGap p (r .place) reached literals → ReadOtherwise s r reached literals p
+  backslash : (byte s p is "\\") ≡ true → r .place ≤ p → p < sourceEnd (r .signs) → ReadOtherwise s r reached literals p
+  quoted : OneOf (λ l. (p ≡ l .start) × (l .triple ≡ 1) × SomeIn (λ b. eqb b (byte s (l .end - 1))) s (l .offset) (bodyEnd l)) literals → ReadOtherwise s r reached literals p
+  afterEquals : p ≡ r .signs .equals → 1 ≤ p → SomeIn (λ b. not (b is " ")) s p (sourceEnd (r .signs)) → ReadOtherwise s r reached literals p
+  inSpec : 1 ≤ r .signs .colon → opens s (r .start) ≡ 1 → r .signs .colon ≤ p → (byte s p is "\\") ≡ true → NoneIn (λ b. b is "{}\\") s (r .signs .colon) p → ReadOtherwise s r reached literals p
+
 -- THE ROWS OF SOURCES: of the field of each row in order, whose numbers follow i
 pub data Sources (s : List ℕ) : (i : ℕ) → List ListRow → List ListRow → Type 0 where
   none : {i : ℕ} → Sources s i [] []

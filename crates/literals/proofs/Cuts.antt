@@ -4,19 +4,19 @@ use mathlib.Core.Bool.{Bool, true, false, not, _||_}
 use mathlib.Core.List.{List, []}
 use Prim.Native.Nat.{ℕ, zero, suc, _+_, _-_, _≤_, _<_}
 use native.Mathlib.Omega.{arith}
-use borrow.Author.Tests.{lt-leb, ltb-true, ltb-false}
+use borrow.Author.Tests.{lt-leb, le-leb, ltb-true, ltb-false, ne-eqb}
 use lib.Dec.{ltb, eqb}
-use lib.ListN.{length, List·getD-eq-default}
-use Rattle.definition.specs.Chars.{if_then_else_, _is_, byte, atEnd}
-use Rattle.definition.specs.Opening.{isQuote, noKind, opens, isSign, apart, firstAt}
+use lib.ListN.{length, getD, List·getD-eq-default}
+use Rattle.definition.specs.Chars.{if_then_else_, _is_, byte, atEnd, _to_, inside}
+use Rattle.definition.specs.Opening.{isQuote, noKind, opens, isSign, firstAt, isLineEnd, isWord, apart}
 use Rattle.definition.specs.Entry.{refusal}
 use Rattle.definition.specs.Reading.{accepts, refuses}
 use Rattle.definition.specs.IsCut.{reachesEnd, breaksOff}
 use Rattle.definition.specs.Literals.{literalAt}
 use Rattle.definition.specs.Cut.{begins, over, comment, literal, other, cutCase, commentEnd, firstCut, cutFrom}
-use Rattle.definition.proofs.CharLaws.{cases, no, before-in, before-end, first-fails}
+use Rattle.definition.proofs.CharLaws.{cases, no, byte-is, before-in, before-end, first-fails}
 use Rattle.definition.proofs.RunLaws.{sign-in}
-use Rattle.definition.proofs.CutLaws.{comment-past, cut-facts}
+use Rattle.definition.proofs.CutLaws.{comment-past, apart-begins, cut-facts}
 use Rattle.definition.proofs.CutSteps.{cut-over, cut-other, cut-comment, cut-breaks, cut-goes}
 use Rattle.literals.specs.declared.Literal.{Literal}
 use Rattle.literals.specs.declared.Refusal.{Refusal}
@@ -48,15 +48,58 @@ module _ (s : List ℕ) where
   passes (suc n) i j e l c =
       cut-other s i (other-here i (omega arith) (λ m a b. c m a (omega arith))) ∙ passes n (i + 1) j (omega arith) l (λ m a b. c m (omega arith) b)
 
-  pub near-skips : (i to : ℕ) → to ≡ firstAt cutMark s i → 2 < to - i → Skips s i (to - 2)
-  near-skips i to e h =
+  pub near-skips : (i end : ℕ) → end ≡ firstAt cutMark s i → 2 < end - i → Skips s i (end - 2)
+  near-skips i end e h =
       cases (ltb (length s) i) (λ t. let l = ltb-true (length s) i t in absurd (omega (arith, before-end cutMark s i 0 (omega arith))))
       (λ t.
       let l = before-in cutMark s i (ltb-false (length s) i t) in
-      record { ahead = omega arith; same = passes (to - 2 - i) i (to - 2) (omega arith) (omega arith) (λ m a b. first-fails cutMark s i m a (omega arith)) })
+      record { ahead = omega arith; same = passes (end - 2 - i) i (end - 2) (omega arith) (omega arith) (λ m a b. first-fails cutMark s i m a (omega arith)) })
 
   pub near-stays : (i : ℕ) → Skips s i i
   near-stays i = record { ahead = omega arith; same = refl }
+
+-- WHAT STANDS AT A PLACE that is neither the end nor a comment, by the kind that opens there
+module _ (s : List ℕ) (i kind : ℕ) (l : i < length s) (n : getD s i 0 ≡ 35 → ⊥) (k : kind ≡ opens s i) where
+  unsigned : isSign (byte s i) ≡ false
+  unsigned = rw (← byte-is s i l) (ne-eqb (getD s i 0) 35 n)
+
+  pub case-none : noKind ≤ kind → cutCase s i ≡ other
+  unfolding cutCase begins
+  case-none h = rw (lt-leb (length s) i l, unsigned, ← k, le-leb noKind kind h)
+
+  pub case-bare : kind ≡ 0 → cutCase s i ≡ literal
+  unfolding cutCase begins
+  case-bare h = rw (lt-leb (length s) i l, unsigned, ← k, h)
+
+  pub case-apart : kind ≤ 6 → apart s i ≡ true → cutCase s i ≡ literal
+  unfolding cutCase
+  case-apart h e = rw (lt-leb (length s) i l, unsigned, apart-begins s i (rw (← k) h) e)
+
+  pub case-joined : kind ≤ 6 → (kind ≡ 0 → ⊥) → apart s i ≡ false → cutCase s i ≡ other
+  unfolding cutCase begins
+  case-joined h z e = rw (lt-leb (length s) i l, unsigned, ← k, lt-leb noKind kind (omega arith), ne-eqb kind 0 z, e)
+
+-- a line's end, and a letter, digit or underscore
+pub line-ten : (b : ℕ) → b ≡ 10 → isLineEnd b ≡ true
+line-ten b e = rw e
+
+pub line-thirteen : (b : ℕ) → b ≡ 13 → isLineEnd b ≡ true
+line-thirteen b e = rw e
+
+pub no-line : (b : ℕ) → (b ≡ 10 → ⊥) → (b ≡ 13 → ⊥) → isLineEnd b ≡ false
+no-line b e f = rw (ne-eqb b 10 e, ne-eqb b 13 f)
+
+pub is-digit : (c : ℕ) → inside (48 to 57) c ≡ true → true ≡ isWord c
+is-digit c e = rw e
+
+pub is-capital : (c : ℕ) → inside (48 to 57) c ≡ false → inside (65 to 90) c ≡ true → true ≡ isWord c
+is-capital c e f = rw (e, f)
+
+pub is-small : (c : ℕ) → inside (48 to 57) c ≡ false → inside (65 to 90) c ≡ false → inside (97 to 122) c ≡ true → true ≡ isWord c
+is-small c e f g = rw (e, f, g)
+
+pub is-underscore : (c : ℕ) → inside (48 to 57) c ≡ false → inside (65 to 90) c ≡ false → inside (97 to 122) c ≡ false → eqb c 95 ≡ isWord c
+is-underscore c e f g = rw (e, f, g)
 
 -- A cut that has come from `from` to `at`, and may go on from `here`
 module _ (s : List ℕ) (from at here : ℕ) (p : Skips s from at) (q : Skips s at here) where
@@ -66,12 +109,12 @@ module _ (s : List ℕ) (from at here : ℕ) (p : Skips s from at) (q : Skips s 
   pub cutting-over : cutCase s here ≡ over → cutFrom s from ≡ record { literals = []; ending = reachesEnd }
   cutting-over e = p .same ∙ q .same ∙ cut-over s here e
 
-  pub cutting-comment : (to : ℕ) → to ≡ commentEnd s here → cutCase s here ≡ comment → (length s - to < length s - at) × Skips s from to
-  cutting-comment to f e =
+  pub cutting-comment : (end : ℕ) → end ≡ commentEnd s here → cutCase s here ≡ comment → (length s - end < length s - at) × Skips s from end
+  cutting-comment end f e =
       let k = rw e at (cut-facts s here) in
       let l = sign-in s here k in
       let a = comment-past s here k in
-      (omega (arith, q .ahead), on to (omega arith) (cut-comment s here e ∙ rw f))
+      (omega (arith, q .ahead), on end (omega arith) (cut-comment s here e ∙ rw f))
 
   pub cutting-other : cutCase s here ≡ other → (here < length s) × (length s - (here + 1) < length s - at) × Skips s from (here + 1)
   cutting-other e = let l = (rw e at (cut-facts s here)) .0 in (l, omega (arith, q .ahead), on (here + 1) (omega arith) (cut-other s here e))

@@ -2,10 +2,10 @@
 use borrow.Author.Needs.{needs}
 use mathlib.Core.Path.{_≡_, refl, sym, _∙_}
 use Prim.Native.Nat.{_-_}
-use borrow.Author.Tests.{eq-eqb, ne-eqb}
 use lib.ListN.{length}
 use Rattle.definition.specs.Cut.{commentEnd}
 use Rattle.definition.proofs.CharLaws.{before-end, before-here, before-next}
+use Rattle.literals.proofs.Cuts.{line-ten, line-thirteen, no-line}
 use Rattle.literals.proofs.comment_end.Statement.{statement}
 use Rattle.literals.proofs.comment_end.Tie as tie
 
@@ -23,9 +23,9 @@ comment-end-spec =
     μ-loop
     (λ c. refl)  -- loop-holds
     (λ c. search needs)  -- shared-slice-read-b
-    (λ c. sym (c .before .before .before .loop .inv ∙ before-here _ _ _ 0 (c .before .before .loop-test .taken) (rw (eq-eqb _ _ (c .if1 .taken)))))  -- returns
-    (λ c. sym (c .before .before .before .before .loop .inv ∙ before-here _ _ _ 0 (c .before .before .before .loop-test .taken) (rw (ne-eqb _ _ (c .before .if1 .left), eq-eqb _ _ (c .if2 .taken)))))  -- returns-2
+    (λ c. sym (c .before .before .before .loop .inv ∙ before-here _ _ _ 0 (c .before .before .loop-test .taken) (line-ten _ (c .if1 .taken))))  -- returns
+    (λ c. sym (c .before .before .before .before .loop .inv ∙ before-here _ _ _ 0 (c .before .before .before .loop-test .taken) (line-thirteen _ (c .if2 .taken))))  -- returns-2
     (λ c. search needs)  -- add-i
     (λ c. search needs)  -- loop-less
-    (λ c. c .before .before .before .before .loop .inv ∙ before-next _ _ _ 0 (c .before .before .before .loop-test .taken) (rw (ne-eqb _ _ (c .before .if1 .left), ne-eqb _ _ (c .if2 .left))))  -- loop-again
+    (λ c. c .before .before .before .before .loop .inv ∙ before-next _ _ _ 0 (c .before .before .before .loop-test .taken) (no-line _ (c .before .if1 .left) (c .if2 .left)))  -- loop-again
     (λ c. sym (c .before .loop .inv ∙ before-end _ _ _ 0 (c .loop-test .left))))  -- returns-3
