@@ -1,0 +1,28 @@
+-- Where Python reads a source otherwise, as the code finds it.
+use Prim.Native.Nat.{ℕ, _+_, _≤_, _<_}
+use mathlib.Core.Bool.{Bool}
+use mathlib.Core.List.{List}
+use lib.Dec.{ltb}
+use lib.ListN.{length, take}
+use Rattle.definition.specs.Chars.{if_then_else_}
+use Rattle.definition.specs.Opening.{firstAt}
+use Rattle.definition.specs.Cut.{Cut, cutFrom}
+use Rattle.definition.specs.Listing.{reached, firstOdd}
+use Rattle.literals.specs.declared.Literal.{Literal}
+
+-- the first place from i up to j whose byte passes a test, or j
+abbrev pub capped : (ℕ → Bool) → List ℕ → (i j : ℕ) → ℕ
+capped test s i j = if ltb (firstAt test s i) j then firstAt test s i else j
+
+-- a literal lies in the script, and has a last byte
+pub record Inside (s : List ℕ) (l : Literal) : Type 0 where
+  pub body-in : l .offset + l .size ≤ length s
+  pub end-in : l .end ≤ length s
+  pub ahead : 1 ≤ l .end
+
+-- of a cut up to an end, from a place on
+abbrev pub oddFrom : List ℕ → (at end : ℕ) → Cut → ℕ
+oddFrom s at end c = firstOdd s at (reached end (c .ending)) (c .literals)
+
+abbrev pub oddOf : List ℕ → (at end : ℕ) → ℕ
+oddOf s at end = oddFrom s at end (cutFrom (take end s) at)
