@@ -1,18 +1,18 @@
 -- Where Python reads a source otherwise, as the code goes over it. Assumes nothing.
-use mathlib.Core.Path.{_≡_, refl, sym, subst, _∙_, ap}
-use mathlib.Core.Bool.{Bool, true, false, _&&_}
+use mathlib.Core.Path.{_≡_, refl, sym, subst, _∙_, ap, ap₂}
+use mathlib.Core.Bool.{Bool, true, false, _&&_, not}
 use mathlib.Core.List.{List, [], _∷_}
 use Prim.Native.Nat.{ℕ, _+_, _-_, _≤_, _<_}
 use native.Mathlib.Omega.{arith}
 use borrow.Author.Tests.{lt-ltb, le-ltb, ltb-true, eq-eqb, ne-eqb}
 use lib.Dec.{ltb, eqb}
-use lib.ListN.{length, getD, take, length-take}
-use Rattle.definition.specs.Chars.{if_then_else_, byte}
-use Rattle.definition.specs.Opening.{isSign, firstAt}
+use lib.ListN.{length, getD, take, length-take, List·getD-eq-default}
+use Rattle.definition.specs.Chars.{if_then_else_, _is_, byte}
+use Rattle.definition.specs.Opening.{opens, isSign, firstAt}
 use Rattle.definition.specs.IsRun.{bodyEnd, IsLiteral}
 use Rattle.definition.specs.IsCut.{reachesEnd, breaksOff, Begins, IsCut}
-use Rattle.definition.specs.Cut.{Cut, firstCut, cutFrom}
-use Rattle.definition.specs.Listing.{reached, firstIn, quotedInside, firstOdd}
+use Rattle.definition.specs.Cut.{Cut, firstCut, cutFrom, cutPart}
+use Rattle.definition.specs.Listing.{reached, sourceEnd, firstIn, quotedInside, firstOdd, moreAfter, specBackslash, least, otherwise}
 use Rattle.definition.proofs.CharLaws.{cases, byte-is, before-here, before-next}
 use Rattle.definition.proofs.OpeningLaws.{opens-in}
 use Rattle.definition.proofs.LiteralFound.{literal-lies}
@@ -20,7 +20,8 @@ use Rattle.definition.proofs.CutLaws.{cut-is}
 use Rattle.literals.specs.declared.Literal.{Literal}
 use Rattle.literals.specs.declared.Refusal.{Refusal}
 use Rattle.literals.specs.Answers.{literalOf}
-use Rattle.listing.specs.Odd.{capped, Inside, oddFrom, oddOf}
+use Rattle.listing.specs.declared.Field.{Field}
+use Rattle.listing.specs.Odd.{capped, Inside, oddFrom, oddOf, signsOf, rowOf}
 
 -- A SCAN from an index up to an end that has come to i
 pub record Scanning (test : ℕ → Bool) (s : List ℕ) (from end i : ℕ) : Type 0 where
@@ -136,3 +137,62 @@ module _ (s : List ℕ) (from end at : ℕ) (h : end ≤ length s) (p : Odding s
       pub odd-goes : l .start ≤ k → false ≡ quotedInside s (literalOf l) → Odding s from end (l .end)
       unfolding firstOdd firstCut
       odd-goes b q = record { within = literal-in .2; same = found ∙ rw (capped-none isSign s at (l .start) (rw (← f) b), ← q) }
+
+-- WHAT FOLLOWS A SELF-DOCUMENTING `=`
+module _ (s : List ℕ) (f : Field) (end : ℕ) (e : end ≡ sourceEnd (signsOf f)) where
+  abbrev text : ℕ → Bool
+  text x = not (x is " ")
+
+  pub more-none : f .equals ≡ 0 → length s ≡ moreAfter s (signsOf f)
+  unfolding moreAfter
+  more-none z = rw z
+
+  pub more-past : (f .equals ≡ 0 → ⊥) → end < f .equals → length s ≡ moreAfter s (signsOf f)
+  unfolding moreAfter
+  more-past z h = rw (ne-eqb (f .equals) 0 z, ← e, le-ltb (firstAt text s (f .equals)) end (omega arith))
+
+  module _ (z : f .equals ≡ 0 → ⊥) (k : ℕ) (g : k ≡ capped text s (f .equals) end) where
+    pub more-some : k < end → f .equals ≡ moreAfter s (signsOf f)
+    unfolding moreAfter
+    more-some h = rw (ne-eqb (f .equals) 0 z, ← e, capped-below text s (f .equals) end (rw (← g) h) .0)
+
+    pub more-spaces : end ≤ k → length s ≡ moreAfter s (signsOf f)
+    unfolding moreAfter
+    more-spaces h = rw (ne-eqb (f .equals) 0 z, ← e, capped-none text s (f .equals) end (rw (← g) h))
+
+-- A BACKSLASH IN A SPEC
+module _ (s : List ℕ) (f : Field) where
+  abbrev Spec : ℕ → Type 0
+  Spec r = r ≡ specBackslash s (f .start) (signsOf f)
+
+  pub spec-none : f .colon ≡ 0 → Spec (length s)
+  unfolding specBackslash
+  spec-none z = rw z
+
+  module _ (z : f .colon ≡ 0 → ⊥) (kind : ℕ) (k : kind ≡ opens s (f .start)) where
+    pub spec-kind : (kind ≡ 1 → ⊥) → Spec (length s)
+    unfolding specBackslash
+    spec-kind n = rw (ne-eqb (f .colon) 0 z, ← k, ne-eqb kind 1 n)
+
+    module _ (one : kind ≡ 1) (i : ℕ) (g : i ≡ firstAt (λ b. b is "{}\\") s (f .colon)) where
+      pub spec-past : length s ≤ i → Spec (length s)
+      unfolding specBackslash
+      spec-past h = let b : byte s i ≡ 256 = List·getD-eq-default s 256 h in rw (ne-eqb (f .colon) 0 z, ← k, one, ← g, b)
+
+      pub spec-brace : i < length s → (getD s i 0 ≡ 92 → ⊥) → Spec (length s)
+      unfolding specBackslash
+      spec-brace h n = rw (ne-eqb (f .colon) 0 z, ← k, one, ← g, ← byte-is s i h, ne-eqb (getD s i 0) 92 n)
+
+      pub spec-there : i < length s → getD s i 0 ≡ 92 → Spec i
+      unfolding specBackslash
+      spec-there h n = rw (ne-eqb (f .colon) 0 z, ← k, one, ← g, ← byte-is s i h, eq-eqb (getD s i 0) 92 n)
+
+-- THE FIRST OF ALL
+pub otherwise-is : (s : List ℕ) (f : Field) (end odd back escaped more spec later first r : ℕ) → end ≡ sourceEnd (signsOf f) → odd ≡ oddOf s (f .place) end
+    → back ≡ capped (λ x. eqb x 92) s (f .place) end → escaped ≡ (if ltb back end then back else length s) → more ≡ moreAfter s (signsOf f) → spec ≡ specBackslash s (f .start) (signsOf f)
+    → later ≡ least more spec → first ≡ least escaped later → r ≡ least odd first → r ≡ otherwise s (rowOf f) (cutPart s (f .place) (sourceEnd (signsOf f)))
+unfolding otherwise cutPart firstIn
+otherwise-is s f end odd back escaped more spec later first r e₁ e₂ e₃ e₄ e₅ e₆ e₇ e₈ e₉ =
+    let x : escaped ≡ firstIn (λ b. b is "\\") s (f .place) end = e₄ ∙ ap (λ k. if ltb k end then k else length s) e₃ ∙ capped-found (λ b. eqb b 92) s (f .place) end (length s) in
+    e₉ ∙ ap₂ least e₂ (e₈ ∙ ap₂ least x (e₇ ∙ ap₂ least e₅ e₆))
+    ∙ ap (λ j. least (oddOf s (f .place) j) (least (firstIn (λ b. b is "\\") s (f .place) j) (least (moreAfter s (signsOf f)) (specBackslash s (f .start) (signsOf f))))) e₁

@@ -7,8 +7,11 @@ use lib.ListN.{length, take}
 use Rattle.definition.specs.Chars.{if_then_else_}
 use Rattle.definition.specs.Opening.{firstAt}
 use Rattle.definition.specs.Cut.{Cut, cutFrom}
-use Rattle.definition.specs.Listing.{reached, firstOdd}
+use Rattle.definition.specs.Listing.{reached, sourceEnd, firstOdd}
+use Rattle.definition.specs.Body.{Signs}
+use Rattle.definition.specs.Rows.{Row}
 use Rattle.literals.specs.declared.Literal.{Literal}
+use Rattle.listing.specs.declared.Field.{Field}
 
 -- the first place from i up to j whose byte passes a test, or j
 abbrev pub capped : (ℕ → Bool) → List ℕ → (i j : ℕ) → ℕ
@@ -26,3 +29,17 @@ oddFrom s at end c = firstOdd s at (reached end (c .ending)) (c .literals)
 
 abbrev pub oddOf : List ℕ → (at end : ℕ) → ℕ
 oddOf s at end = oddFrom s at end (cutFrom (take end s) at)
+
+-- a field's signs and row; what 75 does not look at is 0
+abbrev pub signsOf : Field → Signs
+signsOf f = record { equals = f .equals; bang = f .bang; colon = f .colon; close = f .close }
+
+abbrev pub rowOf : Field → Row
+rowOf f = record { start = f .start; place = f .place; expression = 0; conversion = 0; signs = signsOf f }
+
+-- a field's source lies in a script that is not too long
+pub record Source (s : List ℕ) (f : Field) : Type 0 where
+  pub closed : 1 ≤ f .close
+  pub ahead : f .place ≤ sourceEnd (signsOf f)
+  pub within : sourceEnd (signsOf f) ≤ length s
+  pub not-long : length s ≤ 1048576

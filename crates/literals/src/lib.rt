@@ -196,6 +196,13 @@ fn opens(s: &[u8], at: usize) -> u32
     NO_KIND
 }
 
+// The kind of the literal that opens at a place of a script; 7 where none does.
+pub fn kind_at(script: &[u8], at: u32) -> u32
+    ensures { λ r. ⌜ r ≡ opens (now (script .entry)) at ⌝ }
+{
+    opens(script, at as usize)
+}
+
 // The length of a kind's prefix.
 fn prefix(kind: u32) -> u32
     ensures { λ r. ⌜ r ≡ prefix kind ⌝ }
