@@ -622,7 +622,8 @@ fn near(s: &[u8], at: usize) -> usize
 pub fn next_literal(script: &[u8], from: usize) -> Next
     ensures { λ r. ⌜ NextIs (now (script .entry)) from r ⌝ }
 {
-    if 1048576 < script.len() {
+    let len = script.len();
+    if 1048576 < len {
         return Next::TooLong;
     }
     let mut at = from;

@@ -9,10 +9,10 @@ use Rattle.literals.proofs.next_literal.Statement.{statement}
 use Rattle.literals.proofs.next_literal.Tie as tie
 
 abbrev Inv-loop : tie.InvT-loop
-Inv-loop script from at₀ at = Skips script from at
+Inv-loop script from len at₀ at = Skips script from at
 
 abbrev μ-loop : tie.MeasureT-loop
-μ-loop script from at₀ at = length script - at
+μ-loop script from len at₀ at = length script - at
 
 pub next-literal-spec : {M : Type 1} → statement M
 next-literal-spec =
