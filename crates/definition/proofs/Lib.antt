@@ -28,6 +28,7 @@ pub mod Shown
 pub mod SignLaws
 pub mod FieldRows
 pub mod RowsShown
+pub mod WhyShown
 pub mod Grammar
 pub mod FieldState
 pub mod Runs

@@ -16,7 +16,7 @@ pub record Row : Type 0 where
   pub lines : List String
 
 infix 3 _writes_
-abbrev _writes_ : String → List String → Row
+abbrev pub _writes_ : String → List String → Row
 body writes lines = record { body = body; lines = lines }
 
 -- each line, and a newline after it

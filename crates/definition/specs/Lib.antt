@@ -12,6 +12,7 @@ pub mod View
 pub mod Matched
 pub mod Words
 pub mod Lines
+pub mod Why
 pub mod Opening
 pub mod IsRun
 pub mod Literals

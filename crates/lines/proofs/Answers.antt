@@ -38,11 +38,11 @@ module _ (s words text W T : List ℕ) (room : Room s words text) where
   abbrev one : List Literal
   one = oneLiteral (length s) ∷ []
 
-  abbrev Called : Said → Type 0
+  abbrev pub Called : Said → Type 0
   Called r = CallIs (readNumbers s (1 ∷ 0 ∷ 0 ∷ length s ∷ 0 ∷ (length s + 3) ∷ []) words text) W T r
 
   -- there is room
-  there : (r : Said) → Called r → CallIs (called (read s one) words text) W T r
+  pub there : (r : Said) → Called r → CallIs (called (read s one) words text) W T r
   unfolding sixes oneMore total
   there r p = rw (numbers-lent s words text (1 ∷ 0 ∷ 0 ∷ length s ∷ 0 ∷ (length s + 3) ∷ []) one refl (omega (arith, room .words-room), omega (arith, room .text-room))) at p
 

@@ -1,3 +1,4 @@
 pub mod Texts
 pub mod Places
 pub mod Answers
+pub mod WhyLaws

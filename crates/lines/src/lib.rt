@@ -1,4 +1,6 @@
 // The lines of a body, written: RFC 8259 objects for its records, or for its refusal.
+pub mod why;
+
 use strings::Outcome;
 use strings::parse_strings;
 ghost use mathlib.Core.Path.{_≡_};
@@ -9,7 +11,7 @@ ghost use Rattle.definition.specs.Chars.{_is_};
 ghost use Rattle.definition.specs.Lines.{decimal, hexCode, escaped, escapedText, literalLine, fieldLine, specLine, refusalLine, lineOf};
 ghost use Rattle.lines.specs.Written.{Adds, Fits, placeLines, Lie, Lists, Room};
 
-const BODIES_TOO_LONG: u32 = 5;
+pub(crate) const BODIES_TOO_LONG: u32 = 5;
 
 // The lines of a body are never longer: 70 bytes for each of 1,025 records, and six for each of 2,048 bytes of text.
 pub const LONGEST: usize = 84038;
@@ -24,7 +26,7 @@ fn write_byte(out: &mut [u8], used: usize, byte: u8) -> usize
 }
 
 // Writes a run of bytes.
-fn write_run(out: &mut [u8], used: usize, run: &[u8]) -> usize
+pub(crate) fn write_run(out: &mut [u8], used: usize, run: &[u8]) -> usize
     requires { ⌜ Fits used (now run) ⌝ }
     ensures { λ r. ⌜ Adds (now (run .entry)) (now (out .entry)) used (now (out .exit)) r ⌝ }
 {
@@ -45,7 +47,7 @@ fn write_number(out: &mut [u8], used: usize, n: u32) -> usize
 }
 
 // Writes a run of bytes, and a number after it.
-fn write_numbered(out: &mut [u8], used: usize, run: &[u8], n: u32) -> usize
+pub(crate) fn write_numbered(out: &mut [u8], used: usize, run: &[u8], n: u32) -> usize
     requires { ⌜ Fits used (now run ++ decimal n) ⌝ }
     ensures { λ r. ⌜ Adds (now (run .entry) ++ decimal n) (now (out .entry)) used (now (out .exit)) r ⌝ }
 {
@@ -90,7 +92,7 @@ fn write_escaped(out: &mut [u8], used: usize, byte: u8) -> usize
 }
 
 // Writes a text, escaped.
-fn write_text(out: &mut [u8], used: usize, text: &[u8]) -> usize
+pub(crate) fn write_text(out: &mut [u8], used: usize, text: &[u8]) -> usize
     requires { ⌜ Fits used (escapedText (now text)) ⌝ }
     ensures { λ r. ⌜ Adds (escapedText (now (text .entry))) (now (out .entry)) used (now (out .exit)) r ⌝ }
 {
@@ -135,7 +137,14 @@ fn write_spec(out: &mut [u8], used: usize, parts: u32) -> usize
 }
 
 // Writes a refusal's line.
-fn write_refusal(out: &mut [u8], used: usize, number: u32, place: u32, a: u32, b: u32) -> usize
+pub(crate) fn write_refusal(
+    out: &mut [u8],
+    used: usize,
+    number: u32,
+    place: u32,
+    a: u32,
+    b: u32,
+) -> usize
     requires { ⌜ Fits used (refusalLine number place a b) ⌝ }
     ensures { λ r. ⌜ Adds (refusalLine number place a b) (now (out .entry)) used (now (out .exit)) r ⌝ }
 {
@@ -208,14 +217,14 @@ fn read_lines(body: &[u8], words: &mut [u32], text: &mut [u8], out: &mut [u8]) -
 }
 
 // Words for the records of any body of at most 1,024 bytes.
-fn words() -> [u32; 8200]
+pub(crate) fn words() -> [u32; 8200]
     ensures { λ r. ⌜ 8200 ≡ length r ⌝ }
 {
     [0; 8200]
 }
 
 // Bytes for the text of any body of at most 1,024 bytes.
-fn text() -> [u8; 2048]
+pub(crate) fn text() -> [u8; 2048]
     ensures { λ r. ⌜ 2048 ≡ length r ⌝ }
 {
     [0; 2048]

@@ -1,0 +1,147 @@
+// Why each field of a body has its conversion: a line each, or the line of its refusal.
+use crate::BODIES_TOO_LONG;
+use crate::text;
+use crate::words;
+use crate::write_numbered;
+use crate::write_refusal;
+use crate::write_run;
+use crate::write_text;
+use strings::Outcome;
+use strings::parse_signs;
+use strings::parse_strings;
+ghost use mathlib.Core.Path.{_≡_};
+ghost use Prim.Native.Nat.{ℕ, suc, _+_, _*_, _<_, _≤_};
+ghost use lib.ListN.{length};
+ghost use Rattle.definition.specs.Why.{writtenEnd, reasonEnd, whyLine};
+ghost use Rattle.lines.specs.Written.{Adds, Fits, Room};
+ghost use Rattle.lines.specs.Whys.{fieldsAfter, fieldsIn, whyPlace, whyPlaces, Lies, Explains};
+
+// How much is written: the used bytes, and of how many fields.
+struct Written {
+    used: usize,
+    fields: usize,
+}
+
+// Writes how a line ends whose conversion is written, with the place after the `!`.
+fn write_written(out: &mut [u8], used: usize, bang: u32) -> usize
+    requires { ⌜ Fits used (writtenEnd bang) ⌝ }
+    ensures { λ r. ⌜ Adds (writtenEnd bang) (now (out .entry)) used (now (out .exit)) r ⌝ }
+{
+    let after = write_numbered(out, used, b"written\",\"after\":", bang);
+    write_run(out, after, b"}\n")
+}
+
+// Writes how a line ends, by the reason.
+fn write_reason(out: &mut [u8], used: usize, reason: u32, bang: u32) -> usize
+    requires { ⌜ Fits used (reasonEnd reason bang) ⌝ }
+    ensures { λ r. ⌜ Adds (reasonEnd reason bang) (now (out .entry)) used (now (out .exit)) r ⌝ }
+{
+    match reason {
+        1 => write_written(out, used, bang),
+        2 => write_run(out, used, b"none\"}\n"),
+        3 => write_run(out, used, b"repr\"}\n"),
+        _ => write_run(out, used, b"spec\"}\n"),
+    }
+}
+
+// Writes a field's line.
+fn write_why(out: &mut [u8], used: usize, text: &[u8], place: u32, reason: u32, bang: u32) -> usize
+    requires { ⌜ Fits used (whyLine (now text) place reason bang) ⌝ }
+    ensures { λ r. ⌜ Adds (whyLine (now (text .entry)) place reason bang) (now (out .entry)) used (now (out .exit)) r ⌝ }
+{
+    let from = write_run(out, used, b"{\"field\":\"");
+    let to = write_text(out, from, text);
+    let placed = write_numbered(out, to, b"\",\"at\":", place);
+    let told = write_run(out, placed, b",\"reason\":\"");
+    write_reason(out, told, reason, bang)
+}
+
+// Writes the line of the record at a record place, if it is a field; its row is the next one.
+fn write_place(
+    out: &mut [u8],
+    words: &[u32],
+    text: &[u8],
+    rows: &[u32],
+    i: usize,
+    so: Written,
+) -> Written
+    requires { ⌜ Lies (now words) (now text) (now rows) i (so .fields) × (i < 4294967296) × (so .fields < 4294967296) × Fits (so .used) (whyPlace (now words) (now text) (now rows) i (so .fields)) ⌝ }
+    ensures { λ r. ⌜ Adds (whyPlace (now (words .entry)) (now (text .entry)) (now (rows .entry)) i (so .fields)) (now (out .entry)) (so .used) (now (out .exit)) (r .used) × (r .fields ≡ fieldsAfter (now (words .entry)) i (so .fields)) ⌝ }
+{
+    let at = i * 8;
+    if words[at] != 2 {
+        return so;
+    }
+    let row = so.fields * 10;
+    let from = words[at + 1] as usize;
+    let to = from + words[at + 2] as usize;
+    let used = write_why(
+        out,
+        so.used,
+        &text[from..to],
+        rows[row + 2],
+        rows[row],
+        rows[row + 6],
+    );
+    Written {
+        used,
+        fields: so.fields + 1,
+    }
+}
+
+// Writes the lines of the fields among so many records that lie in words.
+fn write_whys(out: &mut [u8], words: &[u32], text: &[u8], rows: &[u32], count: usize) -> usize
+    requires { ⌜ ((i : ℕ) → i < count → Lies (now words) (now text) (now rows) i (fieldsIn (now words) i)) × (count < 4294967296) × Fits 0 (whyPlaces (now words) (now text) (now rows) count) ⌝ }
+    ensures { λ r. ⌜ Adds (whyPlaces (now (words .entry)) (now (text .entry)) (now (rows .entry)) count) (now (out .entry)) 0 (now (out .exit)) r ⌝ }
+{
+    let mut so = Written { used: 0, fields: 0 };
+    let mut i = 0;
+    while i < count {
+        so = write_place(out, words, text, rows, i, so);
+        i += 1;
+    }
+    so.used
+}
+
+// Reads a body into words, text and rows that have room for it, and writes the lines of its fields.
+fn read_whys(
+    body: &[u8],
+    words: &mut [u32],
+    text: &mut [u8],
+    rows: &mut [u32],
+    out: &mut [u8],
+) -> usize
+    requires { ⌜ Room (now body) (now words) (now text) × ((length (now body) + 1) * 10 ≤ length (now rows)) ⌝ }
+    ensures { λ r. ⌜ Explains (now (body .entry)) (now (out .entry)) (now (out .exit)) r ⌝ }
+{
+    let size = body.len() as u32;
+    let numbers = [1, 0, 0, size, 0, size + 3];
+    match parse_strings(body, &numbers, words, text) {
+        Outcome::Refused(r) => write_refusal(out, 0, r.number, r.place, r.a, r.b),
+        Outcome::Accepted(x) => {
+            parse_signs(body, &numbers, rows);
+            let used = x.text as usize;
+            write_whys(out, words, &text[..used], rows, x.records as usize)
+        }
+    }
+}
+
+// Numbers for the rows of any body of at most 1,024 bytes.
+fn rows() -> [u32; 10250]
+    ensures { λ r. ⌜ 10250 ≡ length r ⌝ }
+{
+    [0; 10250]
+}
+
+// Writes, for each field of a body, why it has its conversion, or the body's refusal, and says how many bytes they are.
+pub fn why_lines(body: &[u8], out: &mut [u8]) -> usize
+    ensures { λ r. ⌜ Explains (now (body .entry)) (now (out .entry)) (now (out .exit)) r ⌝ }
+{
+    if 1024 < body.len() {
+        return write_refusal(out, 0, BODIES_TOO_LONG, 0, 0, 0);
+    }
+    let mut words = words();
+    let mut text = text();
+    let mut rows = rows();
+    read_whys(body, &mut words, &mut text, &mut rows, out)
+}
