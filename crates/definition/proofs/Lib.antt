@@ -55,6 +55,7 @@ pub mod PartLaws
 pub mod RowPlaces
 pub mod SourceLaws
 pub mod ListingLaws
+pub mod RowCount
 pub mod OtherwiseLaws
 pub mod FieldsLaw
 pub mod CompleteLaw

@@ -139,7 +139,7 @@ otherwise-fit s n w r c h = go (ltb (otherwise s r c) (length s))
     go true = (h, tt)
     go false = tt
 
-source-fit : (s : List ℕ) (n i : ℕ) (r : ListRow) → Fits s (suc n) r → AllFit s n (sourceRows s i r)
+pub source-fit : (s : List ℕ) (n i : ℕ) (r : ListRow) → Fits s (suc n) r → AllFit s n (sourceRows s i r)
 unfolding sourceRows
 source-fit s n i (ofRefusal w start place number a b o) p = tt
 source-fit s n i (ofField w r) p =
