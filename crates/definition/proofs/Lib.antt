@@ -56,6 +56,8 @@ pub mod RowPlaces
 pub mod SourceLaws
 pub mod ListingLaws
 pub mod RowCount
+pub mod FieldBytes
+pub mod FewRows
 pub mod OtherwiseLaws
 pub mod FieldsLaw
 pub mod CompleteLaw

@@ -96,7 +96,7 @@ module _ (s : List ℕ) (n from end : ℕ) (h : end ≤ length s) (k : end - fro
       )
   fields-fit l p (spec m ∷ ps) q = fields-fit l p ps q
 
-  read-fit : (l : Literal) → InPart s from end l → (r : Read (List Piece)) → readBody (l .kind) (body s l) ≡ r → AllFit s n (map (ofField w) (fieldRows (l .start) (placeOf l 0) (piecesOf r)))
+  pub read-fit : (l : Literal) → InPart s from end l → (r : Read (List Piece)) → readBody (l .kind) (body s l) ≡ r → AllFit s n (map (ofField w) (fieldRows (l .start) (placeOf l 0) (piecesOf r)))
   unfolding piecesOf fieldRows
   read-fit l p (got ps j) e = fields-fit l p ps (body-signed (l .kind) (body s l) ps j e)
   read-fit l p (refused x) e = tt
