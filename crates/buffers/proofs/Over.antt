@@ -55,6 +55,14 @@ module _ {A : Type 0} where
   over-append b p [] ys = rw add-zero
   over-append b p (x ∷ xs) ys = rw (add-suc, ← suc-add p (length xs)) (over-append (set b p x) (suc p) xs ys)
 
+  -- behind a front that is dropped, what of a run reaches there
+  pub drop-over : (b : List A) (p s : ℕ) (xs : List A) → drop s (over b p xs) ≡ over (drop s b) (p - s) (drop (s - p) xs)
+  drop-over b p zero xs = rw (sub-zero, zero-sub)
+  drop-over [] p (suc s) xs = simp (over-empty, drop-nil)
+  drop-over (y ∷ b) (suc p) (suc s) xs = rw (over-later, suc-sub-suc, suc-sub-suc) (drop-over b p s xs)
+  drop-over (y ∷ b) zero (suc s) [] = simp (over-nil, drop-nil)
+  drop-over (y ∷ b) zero (suc s) (x ∷ xs) = rw (over-first, drop-over b 0 s xs, zero-sub, sub-zero, zero-sub, sub-zero)
+
   -- two runs that do not meet, in either order
   over-set : (b : List A) (p : ℕ) (x : A) (q : ℕ) (ys : List A) → p < q → over (set b p x) q ys ≡ set (over b q ys) p x
   unfolding over

@@ -65,10 +65,10 @@ unfoldable pub allRows : (script : List ℕ) → List Literal → List Row
 allRows script [] = []
 allRows script (l ∷ ls) = literalRows script l ++ allRows script ls
 
--- the numbers of rows of the script's literals, in order
-unfoldable pub allNumbers : List Row → List ℕ
-allNumbers [] = []
-allNumbers (r ∷ rs) = rowNumbers 0 r ++ allNumbers rs
+-- the numbers of rows whose literals stand in the same source, in order
+unfoldable pub allNumbers : (within : ℕ) → List Row → List ℕ
+allNumbers within [] = []
+allNumbers within (r ∷ rs) = rowNumbers within r ++ allNumbers within rs
 
 -- AN ACCEPTANCE with its rows
 pub record Rowed : Type 0 where
@@ -87,7 +87,7 @@ roomedRows n (accepts x) = outcomeOf x (roomFor (n / 10) 0 (length (x .rows)) 0 
 -- what the row buffer holds after an outcome
 unfoldable pub rowsAfter : Outcome Rowed → List ℕ → List ℕ
 rowsAfter (refuses r) buffer = zeros buffer
-rowsAfter (accepts x) buffer = inFront (allNumbers (x .rows)) buffer
+rowsAfter (accepts x) buffer = inFront (allNumbers 0 (x .rows)) buffer
 
 -- WHAT A CALL RETURNS AND LEAVES
 pub record SignsCall : Type 0 where

@@ -44,7 +44,7 @@ module _ (xs block rest : List ℕ) (at : ℕ) (e : drop at xs ≡ block ++ rest
   block-behind : (to : ℕ) → to ≡ at + length block → drop to xs ≡ rest
   block-behind to q = ap (λ n. drop n xs) q ∙ sym (drop-drop (length block) at xs) ∙ ap (drop (length block)) e ∙ drop-append-seam block rest
 
-length-numbers : (ws : List Row) → length (allNumbers ws) ≡ length ws * 10
+length-numbers : (ws : List Row) → length (allNumbers 0 ws) ≡ length ws * 10
 unfolding allNumbers rowNumbers
 length-numbers [] = refl
 length-numbers (w ∷ ws) = omega (arith, length-numbers ws)
@@ -55,7 +55,7 @@ module _ (words text rows restW restR : List ℕ) where
   Records i rs = drop (i * 8) words ≡ allWords rs ++ restW
 
   abbrev Rows : ℕ → List Row → Type 0
-  Rows k ws = drop (k * 10) rows ≡ allNumbers ws ++ restR
+  Rows k ws = drop (k * 10) rows ≡ allNumbers 0 ws ++ restR
 
   module _ (r : Record) (rs : List Record) (i : ℕ) (W : Records i (r ∷ rs)) where
     parted : drop (i * 8) words ≡ wordsOf r ++ (allWords rs ++ restW)
@@ -74,16 +74,16 @@ module _ (words text rows restW restR : List ℕ) where
     next-records = block-behind words (wordsOf r) (allWords rs ++ restW) (i * 8) parted (suc i * 8) (omega arith)
 
   module _ (w : Row) (ws : List Row) (k : ℕ) (R : Rows k (w ∷ ws)) where
-    row-parted : drop (k * 10) rows ≡ rowNumbers 0 w ++ (allNumbers ws ++ restR)
+    row-parted : drop (k * 10) rows ≡ rowNumbers 0 w ++ (allNumbers 0 ws ++ restR)
     unfolding allNumbers
-    row-parted = R ∙ append-assoc (rowNumbers 0 w) (allNumbers ws) restR
+    row-parted = R ∙ append-assoc (rowNumbers 0 w) (allNumbers 0 ws) restR
 
-    number : (j : ℕ) → getD rows (k * 10 + j) 0 ≡ getD (rowNumbers 0 w ++ (allNumbers ws ++ restR)) j 0
-    number = block-at rows (rowNumbers 0 w) (allNumbers ws ++ restR) (k * 10) row-parted
+    number : (j : ℕ) → getD rows (k * 10 + j) 0 ≡ getD (rowNumbers 0 w ++ (allNumbers 0 ws ++ restR)) j 0
+    number = block-at rows (rowNumbers 0 w) (allNumbers 0 ws ++ restR) (k * 10) row-parted
 
     next-rows : Rows (k + 1) ws
     unfolding rowNumbers
-    next-rows = block-behind rows (rowNumbers 0 w) (allNumbers ws ++ restR) (k * 10) row-parted ((k + 1) * 10) (omega arith)
+    next-rows = block-behind rows (rowNumbers 0 w) (allNumbers 0 ws ++ restR) (k * 10) row-parted ((k + 1) * 10) (omega arith)
 
   -- a record with the rows from its own on
   record Here (r : Record) (ws : List Row) (i k : ℕ) : Type 0 where
@@ -159,7 +159,7 @@ why-short : (text : List ℕ) (place reason bang : ℕ) → Small place → Smal
 unfolding whyLine ascii
 why-short text place reason bang p b = simp length-append (omega (arith, escaped-short text, decimal-short place p, reason-short reason bang b))
 
-whys-short : (text : List ℕ) (rs : List Record) (ws : List Row) (rest : List ℕ) → ((i : ℕ) → Small (getD (allNumbers ws ++ rest) i 0)) → length (whyLines text rs ws) ≤ 70 * length rs + 6 * sizes rs
+whys-short : (text : List ℕ) (rs : List Record) (ws : List Row) (rest : List ℕ) → ((i : ℕ) → Small (getD (allNumbers 0 ws ++ rest) i 0)) → length (whyLines text rs ws) ≤ 70 * length rs + 6 * sizes rs
 unfolding whyLines whyHere rowsLeft allNumbers rowNumbers
 whys-short text [] ws rest h = omega arith
 whys-short text (r ∷ rs) [] rest h = omega (arith, whys-short text rs [] rest h)
@@ -261,7 +261,7 @@ module _ (s words text rows W T R : List ℕ) (room : Room s words text) (more :
       go (refuses r) e q = let z = q .answer in let y = short-whys ∙ ap (λ o. outcomeWhy (rowed (allRows s one) o)) e in cc
 
   -- rows of an accepted body stand in front
-  rows-front : (y : Answer) (o : Said) → read s one ≡ accepts y → Signs o → R ≡ allNumbers (allRows s one) ++ drop (length (allNumbers (allRows s one))) rows
+  rows-front : (y : Answer) (o : Said) → read s one ≡ accepts y → Signs o → R ≡ allNumbers 0 (allRows s one) ++ drop (length (allNumbers 0 (allRows s one))) rows
   unfolding signsNumbers signsInto calledRows rowsAfter rowed roomedRows roomFor outcomeOf sixes oneMore total
   rows-front y o e p =
       let ws = allRows s one in
@@ -292,7 +292,7 @@ module _ (s words text rows W T R : List ℕ) (room : Room s words text) (more :
           let none : 0 + length (y .records) ≡ length (y .records) = omega arith in
           let all = rw none at (all-whys W (y .text) R _ _ (y .records) ws 0 (q .words) front (omega arith)) in
           let fields = rw none at (all-fields W (y .text) R _ _ (y .records) ws 0 (q .words) front (omega arith)) in
-          let long : length ws * 10 ≤ length R = omega (arith, ap length front, length-append (allNumbers ws) (drop (length (allNumbers ws)) rows), length-numbers ws) in
+          let long : length ws * 10 ≤ length R = omega (arith, ap length front, length-append (allNumbers 0 ws) (drop (length (allNumbers 0 ws)) rows), length-numbers ws) in
           record {
             within = omega arith;
             lie = λ i h.

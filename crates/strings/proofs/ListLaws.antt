@@ -31,6 +31,7 @@ use Rattle.entry.proofs.Passed.{Passed, Good, length-body, read-turn, read-end}
 use Rattle.strings.specs.declared.Refusal.{Refusal}
 use Rattle.utf8.specs.declared.Cursor.{Cursor}
 use Rattle.strings.specs.declared.emit.Whole.{Whole}
+use Rattle.strings.specs.declared.emit.Window.{Window}
 use Rattle.strings.specs.declared.emit.Frame.{Frame}
 use Rattle.strings.specs.declared.emit.Sink.{Sink}
 use Rattle.strings.specs.declared.fstring.Read.{Read}
@@ -182,9 +183,9 @@ module _ (script ns : List ℕ) (n : ℕ) (w : Whole) (words text : List ℕ) (P
           }
 
       -- the refusal of this literal
-      module _ (words″ text″ : List ℕ) (x : Refusal) (H : ReadIs (readBody (l .kind) (body script (described l))) (frameOf l w) 0 words′ text′ words″ text″ k (Refused x)) where
+      module _ (v : Window) (words″ text″ : List ℕ) (x : Refusal) (H : ReadIs (readBody (l .kind) (body script (described l))) (frameOf l w v) 0 words′ text′ words″ text″ k (Refused x)) where
         R : readBody (l .kind) (body script (described l)) ≡ refused (faultOf x)
-        R = written-refuses (λ ps. ps) (frameOf l w) 0 words′ text′ words″ text″ k (readBody (l .kind) (body script (described l))) x H
+        R = written-refuses (λ ps. ps) (frameOf l w v) 0 words′ text′ words″ text″ k (readBody (l .kind) (body script (described l))) x H
 
         pub stands : Stands script l (x .taken) (x .opened)
         unfolding described placeOf
@@ -205,9 +206,9 @@ module _ (script ns : List ℕ) (n : ℕ) (w : Whole) (words text : List ℕ) (P
         refuses-all = rw (refuses-first, take-literals ns 0 i n (omega arith)) refl
 
       -- its pieces
-      module _ (words″ text″ : List ℕ) (at : Cursor) (r : Sink) (n′ : ℕ) (H : ReadIs (readBody (l .kind) (body script (described l))) (frameOf l w) 0 words′ text′ words″ text″ k (Done at r n′)) where
-        pub G : Gave (λ ps. ps) (readBody (l .kind) (body script (described l))) (frameOf l w) 0 words′ text′ words″ text″ k (at .at) r
-        G = gave (λ ps. ps) (frameOf l w) 0 words′ text′ words″ text″ k (readBody (l .kind) (body script (described l))) at r n′ H
+      module _ (v : Window) (words″ text″ : List ℕ) (at : Cursor) (r : Sink) (n′ : ℕ) (H : ReadIs (readBody (l .kind) (body script (described l))) (frameOf l w v) 0 words′ text′ words″ text″ k (Done at r n′)) where
+        pub G : Gave (λ ps. ps) (readBody (l .kind) (body script (described l))) (frameOf l w v) 0 words′ text′ words″ text″ k (at .at) r
+        G = gave (λ ps. ps) (frameOf l w v) 0 words′ text′ words″ text″ k (readBody (l .kind) (body script (described l))) at r n′ H
 
         abbrev these : List Item
         these = map (itemOf (l .kind) (l .start) (l .end) (l .start + opening (described l))) (G .pieces)
@@ -221,7 +222,7 @@ module _ (script ns : List ℕ) (n : ℕ) (w : Whole) (words text : List ℕ) (P
 
         pub next-literal : Listing script ns n (wholeOf w) words text words″ text″ (i + 1) r
         next-literal =
-            let g = grown (frameOf l w) 0 (G .pieces) words′ text′ words″ text″ k r (G .emits) in
+            let g = grown (frameOf l w v) 0 (G .pieces) words′ text′ words″ text″ k r (G .emits) in
             record {
               items = L .items ++ these;
               within = omega arith;

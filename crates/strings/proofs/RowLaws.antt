@@ -4,7 +4,7 @@ use mathlib.Core.Bool.{Bool, true, false, false≢true}
 use mathlib.Core.List.{List, [], _∷_, _++_, map, append-assoc, append-nil}
 use Prim.Native.Nat.{ℕ, zero, suc, _+_, _-_, _*_, _≤_, _<_}
 use native.Mathlib.Omega.{arith}
-use lib.ListN.{length, length-append}
+use lib.ListN.{length, drop, length-append, drop-of-length-le}
 use Rattle.definition.specs.Chars.{if_then_else_, next}
 use Rattle.definition.specs.Numbers.{isBytes}
 use Rattle.definition.specs.Escapes as d
@@ -15,7 +15,8 @@ use Rattle.definition.specs.Rows.{Row, rowNumbers, signsAt, fieldRows, allNumbe
 use Rattle.definition.proofs.CharLaws.{next-in}
 use Rattle.marks.specs.Marks.{converted}
 use Rattle.buffers.specs.Over.{over}
-use Rattle.buffers.proofs.Over.{over-nil, over-append, over-comm}
+use Rattle.buffers.proofs.Over.{over-nil, over-out, over-append, over-comm, drop-over}
+use Rattle.strings.specs.declared.emit.Window.{Window}
 use Rattle.strings.specs.declared.emit.Frame.{Frame}
 use Rattle.strings.specs.declared.emit.Sink.{Sink}
 use Rattle.strings.specs.declared.field.Head.{Head}
@@ -24,26 +25,41 @@ use Rattle.strings.specs.Sinks.{wholeOf, outOf, Emits}
 use Rattle.strings.specs.FieldTurns.{isMarked, HeadIs}
 use Rattle.strings.specs.Text.{StopsBy}
 use Rattle.strings.specs.Fstring.{Room, SignedBy}
-use Rattle.strings.specs.Rows.{rowOf, Placed, rowsOf, Signed}
+use Rattle.strings.specs.Rows.{rowOf, Placed, Through, rowsOf, Signed}
 use Rattle.strings.proofs.FstringLaws.{before-spec, signsOf, small-head, Gave, Sofar, start, start-pieces, content, one, field-read, read-pieces}
 
 -- THE NUMBERS OF ROWS: ten for each, one row after another
-pub length-numbers : (rs : List Row) → length (allNumbers rs) ≡ length rs * 10
-unfolding allNumbers rowNumbers
-length-numbers [] = refl
-length-numbers (r ∷ rs) = omega (arith, length-numbers rs)
+module _ (within : ℕ) where
+  pub length-numbers : (rs : List Row) → length (allNumbers within rs) ≡ length rs * 10
+  unfolding allNumbers rowNumbers
+  length-numbers [] = refl
+  length-numbers (r ∷ rs) = omega (arith, length-numbers rs)
 
-pub numbers-append : (xs ys : List Row) → allNumbers (xs ++ ys) ≡ allNumbers xs ++ allNumbers ys
-unfolding allNumbers
-numbers-append [] ys = refl
-numbers-append (x ∷ xs) ys = ap (λ ns. rowNumbers 0 x ++ ns) (numbers-append xs ys) ∙ sym (append-assoc (rowNumbers 0 x) (allNumbers xs) (allNumbers ys))
+  pub numbers-append : (xs ys : List Row) → allNumbers within (xs ++ ys) ≡ allNumbers within xs ++ allNumbers within ys
+  unfolding allNumbers
+  numbers-append [] ys = refl
+  numbers-append (x ∷ xs) ys = ap (λ ns. rowNumbers within x ++ ns) (numbers-append xs ys) ∙ sym (append-assoc (rowNumbers within x) (allNumbers within xs) (allNumbers within ys))
 
--- written from m on, where xs are m
-pub over-rows : (rows : List ℕ) (fields m : ℕ) (xs ys : List Row) → m ≡ fields + length xs
-    → over (over rows (fields * 10) (allNumbers xs)) (m * 10) (allNumbers ys) ≡ over rows (fields * 10) (allNumbers (xs ++ ys))
-over-rows rows fields m xs ys e =
-    let n : m * 10 ≡ fields * 10 + length (allNumbers xs) = omega (arith, length-numbers xs) in
-    rw (n, numbers-append xs ys) (over-append rows (fields * 10) (allNumbers xs) (allNumbers ys))
+  -- written from m on, where xs are m
+  pub over-rows : (rows : List ℕ) (fields m : ℕ) (xs ys : List Row) → m ≡ fields + length xs
+      → over (over rows (fields * 10) (allNumbers within xs)) (m * 10) (allNumbers within ys) ≡ over rows (fields * 10) (allNumbers within (xs ++ ys))
+  over-rows rows fields m xs ys e =
+      let n : m * 10 ≡ fields * 10 + length (allNumbers within xs) = omega (arith, length-numbers xs) in
+      rw (n, numbers-append xs ys) (over-append rows (fields * 10) (allNumbers within xs) (allNumbers within ys))
+
+-- THROUGH A WINDOW: nothing is lent, a row stands before it, or in it
+module _ (v : Window) (rows : List ℕ) (fields : ℕ) (ns : List ℕ) where
+  pub none-lent : length rows ≡ 0 → Through v rows rows (fields * 10) ns
+  none-lent l whole e = rw (drop-over, ← e) (sym (over-out rows _ _ (omega arith)))
+
+  pub left-out : fields < v .skip → length ns ≤ 10 → Through v rows rows (fields * 10) ns
+  left-out h l whole e = rw (drop-over, ← e, drop-of-length-le ns {i = v .skip * 10 - fields * 10} (omega arith)) (sym (over-nil rows _))
+
+  pub shown : (rows′ : List ℕ) → v .skip ≤ fields → rows′ ≡ over rows ((fields - v .skip) * 10) ns → Through v rows rows′ (fields * 10) ns
+  shown rows′ h p whole e =
+      let at : fields * 10 - v .skip * 10 ≡ (fields - v .skip) * 10 = omega arith in
+      let all : v .skip * 10 - fields * 10 ≡ 0 = omega arith in
+      p ∙ rw (drop-over, ← e, at, all)
 
 module _ (fr : Frame) where
   rows-append : (ps qs : List Piece) → rowsOf fr (ps ++ qs) ≡ rowsOf fr ps ++ rowsOf fr qs
@@ -69,15 +85,20 @@ module _ (fr : Frame) where
   one-row depth ex h parts at colon close =
       rows-append (selfDocumenting depth (isMarked (h .equals)) ex (h .spaces)) (field depth ex (converted (isMarked (h .equals)) (h .conversion) parts) parts at (signsOf h colon close) ∷ []) ∙ ap (λ r. r ++ (rowOf fr h (length ex) parts at colon close ∷ [])) (documented-rows depth (isMarked (h .equals)) ex (h .spaces))
 
+  abbrev within : ℕ
+  within = fr .window .within
+
   -- SIGNED: nothing, and one after another
   none-signed : (ps : List Piece) (rows : List ℕ) (fields : ℕ) → rowsOf fr ps ≡ [] → Signed fr ps rows rows fields fields
   unfolding allNumbers
-  none-signed ps rows fields e = record { wrote = rw e (sym (over-nil rows (fields * 10))); counted = rw e (omega arith) }
+  none-signed ps rows fields e = record { wrote = λ whole q. rw (e, over-nil whole (fields * 10)) q; counted = rw e (omega arith) }
 
   pub both-signed : (ps qs : List Piece) (rows rows₁ rows₂ : List ℕ) (fields m n : ℕ) → Signed fr ps rows rows₁ fields m → Signed fr qs rows₁ rows₂ m n → Signed fr (ps ++ qs) rows rows₂ fields n
   both-signed ps qs rows rows₁ rows₂ fields m n a b =
       record {
-        wrote = b .wrote ∙ ap (λ r. over r (m * 10) (allNumbers (rowsOf fr qs))) (a .wrote) ∙ over-rows rows fields m (rowsOf fr ps) (rowsOf fr qs) (a .counted) ∙ ap (λ r. over rows (fields * 10) (allNumbers r)) (sym (rows-append ps qs));
+        wrote = λ whole q.
+            b .wrote (over whole (fields * 10) (allNumbers within (rowsOf fr ps))) (a .wrote whole q)
+            ∙ ap (drop (fr .window .skip * 10)) (over-rows within whole fields m (rowsOf fr ps) (rowsOf fr qs) (a .counted) ∙ ap (λ r. over whole (fields * 10) (allNumbers within r)) (sym (rows-append ps qs)));
         counted = omega (arith, b .counted, a .counted, ap length (rows-append ps qs), length-append (rowsOf fr ps) (rowsOf fr qs));
       }
 
@@ -98,7 +119,7 @@ module _ (fr : Frame) where
 
   -- A FIELD'S ROW is written at the place kept for it, behind which stand those of its spec
   module _ (depth : ℕ) (ex : List ℕ) (h : Head) (parts at colon close size : ℕ) (rows rows₁ rows₂ : List ℕ) (fields : ℕ) (s : size ≡ length ex)
-      (put : rows₂ ≡ over rows₁ (fields * 10) (rowNumbers 0 (rowOf fr h size parts at colon close))) where
+      (put : Through (fr .window) rows₁ rows₂ (fields * 10) (rowNumbers within (rowOf fr h size parts at colon close))) where
     row : Row
     row = rowOf fr h (length ex) parts at colon close
 
@@ -106,7 +127,9 @@ module _ (fr : Frame) where
     unfolding row allNumbers
     closed-signed e =
         record {
-          wrote = put ∙ rw (e, s, one-row depth ex h parts at colon close) (ap (over rows (fields * 10)) (sym (append-nil (rowNumbers 0 row))));
+          wrote = λ whole q.
+              put whole (e ∙ q)
+              ∙ rw (s, one-row depth ex h parts at colon close) (ap (λ ns. drop (fr .window .skip * 10) (over whole (fields * 10) ns)) (sym (append-nil (rowNumbers within row))));
           counted = rw (one-row depth ex h parts at colon close) refl;
         }
 
@@ -115,13 +138,14 @@ module _ (fr : Frame) where
     field-signed ps n m a =
         let e : rowsOf fr (before-spec depth ex h parts at (signsOf h colon close) ++ (spec m ∷ ps)) ≡ row ∷ rowsOf fr ps =
         rows-append (before-spec depth ex h parts at (signsOf h colon close)) (spec m ∷ ps) ∙ ap (λ r. r ++ rowsOf fr ps) (one-row depth ex h parts at colon close) in
-        let next : (fields + 1) * 10 ≡ fields * 10 + length (rowNumbers 0 row) = omega arith in
+        let next : (fields + 1) * 10 ≡ fields * 10 + length (rowNumbers within row) = omega arith in
         record {
-          wrote =
-              put
-              ∙ rw (s, a .wrote, next, e)
-              (sym (over-comm rows (fields * 10) (rowNumbers 0 row) (fields * 10 + length (rowNumbers 0 row)) (allNumbers (rowsOf fr ps)) (omega arith))
-              ∙ over-append rows (fields * 10) (rowNumbers 0 row) (allNumbers (rowsOf fr ps)));
+          wrote = λ whole q.
+              put (over whole ((fields + 1) * 10) (allNumbers within (rowsOf fr ps))) (a .wrote whole q)
+              ∙ rw (s, next, e)
+              (ap (drop (fr .window .skip * 10))
+              (sym (over-comm whole (fields * 10) (rowNumbers within row) (fields * 10 + length (rowNumbers within row)) (allNumbers within (rowsOf fr ps)) (omega arith))
+              ∙ over-append whole (fields * 10) (rowNumbers within row) (allNumbers within (rowsOf fr ps))));
           counted = rw e (omega (arith, a .counted));
         }
 

@@ -5,3 +5,4 @@ pub mod FieldTurns
 pub mod Rows
 pub mod Fstring
 pub mod Strings
+pub mod Window

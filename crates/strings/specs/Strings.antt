@@ -11,7 +11,7 @@ use Rattle.definition.specs.Escapes.{Fault}
 use Rattle.definition.specs.Entry.{Literal, opening, placeOf, body, Refusal, moved, total, anyOf, firstStart}
 use Rattle.definition.specs.Reading.{accepts, refuses, allChars, refusalIn, readFrom, uMark, lastEnd, answered, Call, numbers}
 use Rattle.definition.specs.Reading as lists
-use Rattle.definition.specs.Rows.{allRows, allNumbers, rowed, roomedRows, SignsCall, calledRows, rowedNumbers}
+use Rattle.definition.specs.Rows.{allRows, allNumbers, SignsCall, rowedNumbers}
 use Rattle.entry.specs.Answers.{described, refusalOf}
 use Rattle.entry.specs.Literals.{literalAt, literals}
 use Rattle.entry.proofs.Passed.{Good}
@@ -21,12 +21,13 @@ use Rattle.strings.specs.declared.Outcome.the-variants.{Accepted, Refuse
 use Rattle.strings.specs.declared.Listed.{Listed}
 use Rattle.strings.specs.declared.Listed.the-variants as listed
 use Rattle.strings.specs.declared.emit.Whole.{Whole}
+use Rattle.strings.specs.declared.emit.Window.{Window}
 use Rattle.strings.specs.declared.emit.Frame.{Frame}
 use Rattle.strings.specs.declared.emit.Sink.{Sink}
-use Rattle.buffers.specs.Over.{over}
 use Rattle.strings.specs.Emit as e
 use Rattle.strings.specs.Emit.{Out, emits}
-use Rattle.strings.specs.Sinks.{wholeOf, loadOf, outOf, Fits}
+use Rattle.strings.specs.Sinks.{loadOf, outOf, Fits}
+use Rattle.strings.specs.Rows.{Through}
 
 -- the paper's numbers of an answer
 abbrev pub says : Outcome → List ℕ
@@ -88,8 +89,8 @@ abbrev pub refusedAt : (script ns : List ℕ) → ℕ → Literal → Fault → 
 refusedAt script ns i l x = let r = refusalIn script i l x in moved i (allChars script (literals ns 0 i) + r .chars) r
 
 -- where a literal stands
-abbrev pub frameOf : Descriptor → Whole → Frame
-frameOf l w = record { kind = l .kind; start = l .start; end = l .end; base = l .start + opening (described l); whole = w }
+abbrev pub frameOf : Descriptor → Whole → Window → Frame
+frameOf l w v = record { kind = l .kind; start = l .start; end = l .end; base = l .start + opening (described l); whole = w; window = v }
 
 -- items that are emitted into empty buffers: the counters and buffers afterwards
 pub record Wrote (w : e.Whole) (xs : List Item) (words text words′ text′ : List ℕ) (r : Sink) : Type 0 where
@@ -107,24 +108,17 @@ ListIs script ls w words text words′ text′ (listed.Done r n) = All (readFrom
 ListIs script ls w words text words′ text′ (listed.Refused x) = answered script ls (readFrom script 0 ls) ≡ refuses (refusalOf x)
 
 -- and their rows are written, and counted; each field has a record
-pub record Rowed (script : List ℕ) (ls : List Literal) (rows rows′ : List ℕ) (r : Sink) (n : ℕ) : Type 0 where
-  pub wrote : rows′ ≡ over rows 0 (allNumbers (allRows script ls))
+pub record Rowed (v : Window) (script : List ℕ) (ls : List Literal) (rows rows′ : List ℕ) (r : Sink) (n : ℕ) : Type 0 where
+  pub wrote : Through v rows rows′ 0 (allNumbers (v .within) (allRows script ls))
   pub counted : n ≡ length (allRows script ls)
   pub few : n ≤ r .count
 
-abbrev pub RowsAre : List ℕ → List Literal → List ℕ → List ℕ → Listed → Type 0
-RowsAre script ls rows rows′ (listed.Done r n) = Rowed script ls rows rows′ r n
-RowsAre script ls rows rows′ (listed.Refused x) = Unit {0}
+abbrev pub RowsAre : Window → List ℕ → List Literal → List ℕ → List ℕ → Listed → Type 0
+RowsAre v script ls rows rows′ (listed.Done r n) = Rowed v script ls rows rows′ r n
+RowsAre v script ls rows rows′ (listed.Refused x) = Unit {0}
 
 -- a call of the definition for rows: what is answered, and the row buffer afterwards
 pub record SignsIs (call : SignsCall) (rows′ : List ℕ) (r : Outcome) : Type 0 where
   pub accepted : isAccepted r ≡ isAcceptance (call .outcome)
   pub answer : says r ≡ rowedNumbers (call .outcome)
   pub rows : rows′ ≡ call .rows
-
--- what the end of such a call owes, once the rows of literals are written
-abbrev pub RowsFinished : Whole → List Literal → ℕ → List ℕ → ℕ → List ℕ → Outcome → Type 0
-RowsFinished w ls chars rows fields rows′ r =
-    (script : List ℕ) (xs : List Item) (rows₀ : List ℕ) → chars ≡ allChars script ls → wholeOf w ≡ wholeFor ls
-    → rows ≡ over rows₀ 0 (allNumbers (allRows script ls)) → fields ≡ length (allRows script ls)
-    → SignsIs (calledRows (roomedRows (length rows₀) (rowed (allRows script ls) (answered script ls (accepts xs)))) rows₀) rows′ r

@@ -26,13 +26,20 @@ pub(crate) struct Whole {
     pub(crate) mark: u32,
 }
 
-// A literal: its kind and range, where its body begins, and its call's whole.
+// Which rows of a call are written: those from number `skip` on, each with `within` as its last number.
+pub(crate) struct Window {
+    pub(crate) within: u32,
+    pub(crate) skip: u32,
+}
+
+// A literal: its kind and range, where its body begins, its call's whole, and which rows are written.
 pub(crate) struct Frame {
     pub(crate) kind: u32,
     pub(crate) start: u32,
     pub(crate) end: u32,
     pub(crate) base: u32,
     pub(crate) whole: Whole,
+    pub(crate) window: Window,
 }
 
 // What is written so far: records, text bytes, 1 if a top-level text is held open and from where, and the parts at this depth.

@@ -8,6 +8,7 @@ mod text;
 use emit::Frame;
 use emit::Sink;
 use emit::Whole;
+use emit::Window;
 use emit::close_held;
 use emit::literal;
 use entry::Checked;
@@ -42,7 +43,8 @@ ghost use Rattle.strings.specs.Emit.{Tops};
 ghost use Rattle.strings.specs.Sinks.{Fits, wholeOf};
 ghost use Rattle.strings.specs.Text.{refusal, faultOf};
 ghost use Rattle.strings.specs.Fstring.{Room as BodyRoom, ReadIs, SignedIs};
-ghost use Rattle.strings.specs.Strings.{CallIs, wholeFor, Room, Stands, First, refusedAt, frameOf, Wrote, ListIs, RowsAre, SignsIs, RowsFinished};
+ghost use Rattle.strings.specs.Strings.{CallIs, wholeFor, Room, Stands, First, refusedAt, frameOf, Wrote, ListIs, RowsAre, SignsIs};
+ghost use Rattle.strings.specs.Window.{windowNumbers};
 
 // Why a body is refused: the number, the bytes taken just after the bracket that it names and at its place, two details.
 pub(crate) struct Refusal {
@@ -134,10 +136,11 @@ fn read_literal(
     rows: &mut [u32],
     k: Sink,
     fields: usize,
+    window: Window,
 ) -> Read
     requires { ⌜ Room (now script) l k ⌝ }
     requires { ⌜ fields ≤ k .count ⌝ }
-    ensures { λ r. ⌜ ReadIs (readBody (l .kind) (body (now (script .entry)) (described l))) (frameOf l whole) 0 (now (words .entry)) (now (text .entry)) (now (words .exit)) (now (text .exit)) k r × SignedIs r (readBody (l .kind) (body (now (script .entry)) (described l))) (frameOf l whole) (now (rows .entry)) (now (rows .exit)) fields ⌝ }
+    ensures { λ r. ⌜ ReadIs (readBody (l .kind) (body (now (script .entry)) (described l))) (frameOf l whole window) 0 (now (words .entry)) (now (text .entry)) (now (words .exit)) (now (text .exit)) k r × SignedIs r (readBody (l .kind) (body (now (script .entry)) (described l))) (frameOf l whole window) (now (rows .entry)) (now (rows .exit)) fields ⌝ }
 {
     let from = l.offset as usize;
     let to = from + l.size as usize;
@@ -148,6 +151,7 @@ fn read_literal(
         end: l.end,
         base,
         whole,
+        window,
     };
     read_body(&script[from..to], fr, words, text, rows, k, fields)
 }
@@ -210,9 +214,10 @@ fn read_list(
     words: &mut [u32],
     text: &mut [u8],
     rows: &mut [u32],
+    window: Window,
 ) -> Listed
     requires { ⌜ Passed (now script) (now numbers) count ⌝ }
-    ensures { λ r. ⌜ ListIs (now (script .entry)) (literals (now (numbers .entry)) 0 count) (wholeOf whole) (now (words .entry)) (now (text .entry)) (now (words .exit)) (now (text .exit)) r × RowsAre (now (script .entry)) (literals (now (numbers .entry)) 0 count) (now (rows .entry)) (now (rows .exit)) r ⌝ }
+    ensures { λ r. ⌜ ListIs (now (script .entry)) (literals (now (numbers .entry)) 0 count) (wholeOf whole) (now (words .entry)) (now (text .entry)) (now (words .exit)) (now (text .exit)) r × RowsAre window (now (script .entry)) (literals (now (numbers .entry)) 0 count) (now (rows .entry)) (now (rows .exit)) r ⌝ }
 {
     let mut sink = Sink {
         count: 0,
@@ -225,7 +230,7 @@ fn read_list(
     let mut i: u32 = 0;
     while i < count {
         let l = entry::literal_at(numbers, i);
-        match read_literal(script, l, whole, words, text, rows, sink, fields) {
+        match read_literal(script, l, whole, words, text, rows, sink, fields, window) {
             Read::Refused(x) => {
                 return Listed::Refused(refusal_in(script, numbers, i, l, x));
             }
@@ -339,8 +344,18 @@ fn read_all(
     ensures { λ r. ⌜ CallIs (readNumbers (now (script .entry)) (now (numbers .entry)) (now (words .entry)) (now (text .entry))) (now (words .exit)) (now (text .exit)) r ⌝ }
 {
     let whole = whole_of(numbers, count);
+    let window = Window { within: 0, skip: 0 };
     let mut rows = [0u32; 0];
-    match read_list(script, numbers, count, whole, words, text, &mut rows) {
+    match read_list(
+        script,
+        numbers,
+        count,
+        whole,
+        words,
+        text,
+        &mut rows,
+        window,
+    ) {
         Listed::Refused(r) => refuse(words, text, r),
         Listed::Done(sink, _) => finish(numbers, count, chars, whole, words, text, sink),
     }
@@ -367,43 +382,60 @@ fn refuse_rows(rows: &mut [u32], r: entry::Refusal) -> Outcome
     Outcome::Refused(r)
 }
 
-// The answer, if the row buffer has room for the rows of so many fields.
-fn finish_rows(
+// The literals that passed the checks, read for their rows.
+fn read_rows(
+    script: &[u8],
     numbers: &[u32],
     count: u32,
     chars: u32,
-    whole: Whole,
     rows: &mut [u32],
-    fields: u32,
+    window: Window,
 ) -> Outcome
-    ensures { λ r. ⌜ RowsFinished whole (literals (now (numbers .entry)) 0 count) chars (now (rows .entry)) fields (now (rows .exit)) r ⌝ }
+    requires { ⌜ Passed (now script) (now numbers) count × (chars ≡ allChars (now script) (literals (now numbers) 0 count)) ⌝ }
+    ensures { λ r. ⌜ SignsIs (windowNumbers (window .within) (window .skip) (now (script .entry)) (now (numbers .entry)) (now (rows .entry))) (now (rows .exit)) r ⌝ }
 {
-    match entry::room(rows.len() / 10, 0, fields, 0, chars) {
-        Checked::Refused(r) => refuse_rows(rows, r),
-        Checked::Passed(_) => Outcome::Accepted(Answer {
+    let whole = whole_of(numbers, count);
+    let mut words = [0u32; 0];
+    let mut text = [0u8; 0];
+    match read_list(
+        script,
+        numbers,
+        count,
+        whole,
+        &mut words,
+        &mut text,
+        rows,
+        window,
+    ) {
+        Listed::Refused(r) => refuse_rows(rows, r),
+        Listed::Done(_, fields) => Outcome::Accepted(Answer {
             sort: sort_of(numbers, count),
             mark: whole.mark,
             start: whole.start,
             end: whole.end,
-            records: fields,
+            records: fields as u32,
             text: 0,
             chars,
         }),
     }
 }
 
-// The literals that passed the checks, read for their rows.
-fn read_rows(script: &[u8], numbers: &[u32], count: u32, chars: u32, rows: &mut [u32]) -> Outcome
-    requires { ⌜ Passed (now script) (now numbers) count × (chars ≡ allChars (now script) (literals (now numbers) 0 count)) ⌝ }
-    ensures { λ r. ⌜ SignsIs (signsNumbers (now (script .entry)) (now (numbers .entry)) (now (rows .entry))) (now (rows .exit)) r ⌝ }
+// Reads the literals whose numbers are listed, as `parse_signs` does, and writes the rows of their fields from number `skip` on, as far as
+// there is room; `within` is the last number of each.
+pub fn parse_window(
+    script: &[u8],
+    numbers: &[u32],
+    within: u32,
+    skip: u32,
+    rows: &mut [u32],
+) -> Outcome
+    ensures { λ r. ⌜ SignsIs (windowNumbers within skip (now (script .entry)) (now (numbers .entry)) (now (rows .entry))) (now (rows .exit)) r ⌝ }
 {
-    let whole = whole_of(numbers, count);
-    let mut words = [0u32; 0];
-    let mut text = [0u8; 0];
-    match read_list(script, numbers, count, whole, &mut words, &mut text, rows) {
-        Listed::Refused(r) => refuse_rows(rows, r),
-        Listed::Done(_, fields) => {
-            finish_rows(numbers, count, chars, whole, rows, fields as u32)
+    match entry::check(script, numbers) {
+        Checked::Refused(r) => refuse_rows(rows, r),
+        Checked::Passed(chars) => {
+            let count = (numbers.len() / 6) as u32;
+            read_rows(script, numbers, count, chars, rows, Window { within, skip })
         }
     }
 }
@@ -413,11 +445,11 @@ fn read_rows(script: &[u8], numbers: &[u32], count: u32, chars: u32, rows: &mut 
 pub fn parse_signs(script: &[u8], numbers: &[u32], rows: &mut [u32]) -> Outcome
     ensures { λ r. ⌜ SignsIs (signsNumbers (now (script .entry)) (now (numbers .entry)) (now (rows .entry))) (now (rows .exit)) r ⌝ }
 {
-    match entry::check(script, numbers) {
-        Checked::Refused(r) => refuse_rows(rows, r),
-        Checked::Passed(chars) => {
-            let count = (numbers.len() / 6) as u32;
-            read_rows(script, numbers, count, chars, rows)
-        }
+    match parse_window(script, numbers, 0, 0, rows) {
+        Outcome::Refused(r) => Outcome::Refused(r),
+        Outcome::Accepted(x) => match entry::room(rows.len() / 10, 0, x.records, 0, x.chars) {
+            Checked::Refused(r) => refuse_rows(rows, r),
+            Checked::Passed(_) => Outcome::Accepted(x),
+        },
     }
 }

@@ -1,11 +1,8 @@
 -- `strings::parse_signs` meets its contract. Assumes nothing.
 use borrow.Author.Needs.{needs}
 use native.Mathlib.Omega.{arith}
-use mathlib.Core.Path.{refl}
-use Rattle.definition.specs.Rows.{signsNumbers}
-use Rattle.entry.specs.Answers.{refusalOf}
-use Rattle.entry.proofs.Passed.{passed}
-use Rattle.strings.proofs.RowCalls.{refused-rows, refused-signs}
+use Rattle.entry.proofs.Checks.{passes, refused}
+use Rattle.strings.proofs.RowCalls.{refused-signs, short-signs, accepted-signs}
 use Rattle.strings.proofs.parse_signs.Statement.{statement}
 use Rattle.strings.proofs.parse_signs.Tie as tie
 
@@ -13,13 +10,16 @@ pub parse-signs-spec : {M : Type 1} → statement M
 parse-signs-spec =
     tie.close
     (tie.spec
-    (λ c κs. search needs)  -- check-requires
+    (λ c κs. search needs)  -- parse-window-requires
     (λ c. search needs)  -- enum-known-r
+    (λ c. search needs)  -- enum-known-x
+    (λ c κs. search needs)  -- room-requires
+    (λ c. search needs)  -- enum-known-r-2
     (λ c κs. search needs)  -- refuse-rows-requires
-    (λ c. search needs)  -- enum-known-chars
-    (λ c. let a = (c .before .before .before .before .before .before .before .args) in let p = passed (a .script .now) (a .numbers .now) (c .before .chars .given .0 .0) (rw (c .before .chars .given .1) at (c .before .before .before .check .ensures)) in omega (arith, p .0 .few))  -- cast-count
-    (λ c κs. let a = (c .before .before .before .before .before .before .before .before .args) in passed (a .script .now) (a .numbers .now) (c .before .before .chars .given .0 .0) (rw (c .before .before .chars .given .1) at (c .before .before .before .before .check .ensures)))  -- read-rows-requires
-    (λ c. let l0 = (c .before .rows .given) in search needs)  -- same-length
-    (λ c. let a = (c .before .before .before .before .before .before .before .before .before .before .before .args) in let x = (c .before .before .before .before .before .r .given .0 .0) in refused-rows (a .rows .now) (a .rows .now) _ x _ (signsNumbers (a .script .now) (a .numbers .now) (a .rows .now)) (refused-signs (a .script .now) (a .numbers .now) (a .rows .now) (refusalOf x) (rw (c .before .before .before .before .before .r .given .1) at (c .before .before .before .before .before .before .before .check .ensures))) refl (c .before .before .refuse-rows .ensures))  -- returns
-    (λ c. let l0 = (c .before .rows2 .given) in search needs)  -- same-length-2
-    (λ c. search needs))  -- returns-2
+    (λ c. search needs)  -- enum-told
+    (λ c. let l0 = (c .before .before .before .before .rows .given) in search needs)  -- same-length
+    (λ c. let a = (c .before .before .before .before .before .before .before .before .before .before .args) in refused-signs (a .script .now) (a .numbers .now) (a .rows .now) _ (c .before .r .given .0 .0) (rw (c .before .r .given .1) at (c .before .before .before .before .before .parse-window .ensures)))  -- returns
+    (λ c. let l0 = (c .before .rows2 .given) in let l1 = (c .before .before .before .before .before .before .before .before .before .before .before .before .rows .given) in search needs)  -- same-length-2
+    (λ c. let a = (c .before .before .before .before .before .before .before .before .before .before .before .before .before .before .before .before .before .before .args) in short-signs (a .script .now) (a .numbers .now) (a .rows .now) _ (c .before .before .before .before .before .before .before .before .before .x .given .0 .0) (rw (c .before .before .before .before .before .before .before .before .before .x .given .1) at (c .before .before .before .before .before .before .before .before .before .before .before .before .before .parse-window .ensures)) (c .before .before .before .before .before .before .before .before .before .before .before .before .before .parse-window .kept .1 .1 .1 .1 .0) (c .before .before .before .before .before .r2 .given .0 .0) _ _ (refused _ _ _ (rw (c .before .before .before .before .before .r2 .given .1) at (c .before .before .before .before .before .before .before .room .ensures))) (c .before .before .refuse-rows .ensures))  -- returns-2
+    (λ c. let l0 = (c .before .before .before .before .before .before .before .rows .given) in search needs)  -- same-length-3
+    (λ c. let a = (c .before .before .before .before .before .before .before .before .before .before .before .before .before .args) in accepted-signs (a .script .now) (a .numbers .now) (a .rows .now) _ (c .before .before .before .before .x .given .0 .0) (rw (c .before .before .before .before .x .given .1) at (c .before .before .before .before .before .before .before .before .parse-window .ensures)) (c .before .before .before .before .before .before .before .before .parse-window .kept .1 .1 .1 .1 .0) (passes _ _ _ (rw (c .enum-told .given .1) at (c .before .before .room .ensures)))))  -- returns-3

@@ -1,9 +1,8 @@
 -- `strings::read_rows` meets its contract. Assumes nothing.
 use borrow.Author.Needs.{needs}
 use native.Mathlib.Omega.{arith}
-use Rattle.definition.specs.Rows.{signsNumbers}
+use Rattle.strings.specs.Window.{windowNumbers}
 use Rattle.strings.proofs.RowCalls.{refused-rows, refused-list, accepted-rows}
-use Rattle.strings.specs.Strings.{All}
 use Rattle.strings.proofs.read_rows.Statement.{statement}
 use Rattle.strings.proofs.read_rows.Tie as tie
 
@@ -18,9 +17,9 @@ read-rows-spec =
     (λ c. search needs)  -- enum-known-r
     (λ c κs. search needs)  -- refuse-rows-requires
     (λ c. search needs)  -- enum-known-fields
-    (λ c. let R = rw (c .before .before .fields .given .1) at (c .before .before .before .before .before .before .before .before .read-list .ensures) in omega (arith, R .1 .few, R .0 .wrote .fits .small))  -- cast-finish-rows
-    (λ c κs. search needs)  -- finish-rows-requires
+    (λ c κs. search needs)  -- sort-of-requires
+    (λ c. let R = rw (c .before .before .fields .given .1) at (c .before .before .before .before .before .before .before .before .read-list .ensures) in omega (arith, R .1 .few, R .0 .wrote .fits .small))  -- cast-t23
     (λ c. let l0 = (c .before .rows2 .given) in let l1 = (c .before .before .before .before .before .before .before .before .rows .given) in let l2 = (c .before .before .before .before .before .before .before .before .before .text2 .given) in let l3 = (c .before .before .before .before .before .before .before .before .before .before .words2 .given) in let l4 = (c .before .before .before .before .before .before .before .before .before .before .before .before .before .text .given) in let l5 = (c .before .before .before .before .before .before .before .before .before .before .before .before .before .before .words .given) in search needs)  -- same-length
-    (λ c. let a = (c .before .before .before .before .before .before .before .before .before .before .before .before .before .before .before .before .before .before .before .args) in let x = (c .before .before .before .before .before .r .given .0 .0) in let R = rw (c .before .before .before .before .before .r .given .1) at (c .before .before .before .before .before .before .before .before .before .before .before .read-list .ensures) in refused-rows (a .rows .now) (c .before .before .before .before .before .before .before .before .before .before .before .read-list .last .1 .1 .1 .1 .1 .1 .0) _ x _ (signsNumbers (a .script .now) (a .numbers .now) (a .rows .now)) (refused-list (a .script .now) (a .numbers .now) (a .rows .now) (a .count) (c .before .before .before .before .before .before .before .before .before .before .before .before .before .before .before .before .before .before .before .pre .0) x (R .0)) (c .before .before .before .before .before .before .before .before .before .before .before .read-list .kept .1 .1 .1 .1 .1 .1 .0) (c .before .before .refuse-rows .ensures))  -- returns
-    (λ c. let l0 = (c .before .rows3 .given) in let l1 = (c .before .before .before .before .before .before .before .before .rows .given) in let l2 = (c .before .before .before .before .before .before .before .before .before .text2 .given) in let l3 = (c .before .before .before .before .before .before .before .before .before .before .words2 .given) in let l4 = (c .before .before .before .before .before .before .before .before .before .before .before .before .before .text .given) in let l5 = (c .before .before .before .before .before .before .before .before .before .before .before .before .before .before .words .given) in search needs)  -- same-length-2
-    (λ c. let a = (c .before .before .before .before .before .before .before .before .before .before .before .before .before .before .before .before .before .before .before .args) in let R = rw (c .before .before .before .before .before .fields .given .1) at (c .before .before .before .before .before .before .before .before .before .before .before .read-list .ensures) in accepted-rows (a .script .now) (a .numbers .now) (a .rows .now) (a .count) (c .before .before .before .before .before .before .before .before .before .before .before .before .before .before .before .before .before .before .before .pre .0) (c .before .before .before .before .before .before .before .before .before .before .before .before .before .before .before .whole-of .result) _ _ _ _ _ _ _ _ (a .chars) _ (c .before .before .before .before .before .before .before .before .before .before .before .before .before .before .before .before .before .before .before .pre .1) (c .before .before .before .before .before .before .before .before .before .before .before .before .before .before .before .whole-of .ensures) (R .0) (R .1) (c .before .before .finish-rows .ensures)))  -- returns-2
+    (λ c. let a = (c .before .before .before .before .before .before .before .before .before .before .before .before .before .before .before .before .before .before .before .args) in let x = (c .before .before .before .before .before .r .given .0 .0) in let R = rw (c .before .before .before .before .before .r .given .1) at (c .before .before .before .before .before .before .before .before .before .before .before .read-list .ensures) in refused-rows (a .rows .now) (c .before .before .before .before .before .before .before .before .before .before .before .read-list .last .1 .1 .1 .1 .1 .1 .0) _ x _ (windowNumbers (a .window .within) (a .window .skip) (a .script .now) (a .numbers .now) (a .rows .now)) (refused-list (a .script .now) (a .numbers .now) (a .count) (c .before .before .before .before .before .before .before .before .before .before .before .before .before .before .before .before .before .before .before .pre .0) (a .window) (a .rows .now) x (R .0)) (c .before .before .before .before .before .before .before .before .before .before .before .read-list .kept .1 .1 .1 .1 .1 .1 .0) (c .before .before .refuse-rows .ensures))  -- returns
+    (λ c. let l1 = (c .before .before .before .before .before .rows .given) in let l2 = (c .before .before .before .before .before .before .text2 .given) in let l3 = (c .before .before .before .before .before .before .before .words2 .given) in let l4 = (c .before .before .before .before .before .before .before .before .before .before .text .given) in let l5 = (c .before .before .before .before .before .before .before .before .before .before .before .words .given) in search needs)  -- same-length-2
+    (λ c. let a = (c .before .before .before .before .before .before .before .before .before .before .before .before .before .before .before .before .args) in let R = rw (c .before .before .fields .given .1) at (c .before .before .before .before .before .before .before .before .read-list .ensures) in accepted-rows (a .script .now) (a .numbers .now) (a .count) (c .before .before .before .before .before .before .before .before .before .before .before .before .before .before .before .before .pre .0) (a .window) (a .rows .now) (c .before .before .before .before .before .before .before .before .before .before .before .before .whole-of .result) _ _ _ _ _ _ _ (a .chars) _ (c .before .before .before .before .before .before .before .before .before .before .before .before .before .before .before .before .pre .1) (c .before .before .before .before .before .before .before .before .before .before .before .before .whole-of .ensures) (c .sort-of .ensures) (R .0) (R .1)))  -- returns-2
