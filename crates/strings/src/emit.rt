@@ -32,14 +32,14 @@ pub(crate) struct Window {
     pub(crate) skip: u32,
 }
 
-// A literal: its kind and range, where its body begins, its call's whole, and which rows are written.
+// A literal: its kind and range, where its body begins, which rows are written, and its call's whole.
 pub(crate) struct Frame {
     pub(crate) kind: u32,
     pub(crate) start: u32,
     pub(crate) end: u32,
     pub(crate) base: u32,
-    pub(crate) whole: Whole,
     pub(crate) window: Window,
+    pub(crate) whole: Whole,
 }
 
 // What is written so far: records, text bytes, 1 if a top-level text is held open and from where, and the parts at this depth.
