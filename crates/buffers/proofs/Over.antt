@@ -122,7 +122,7 @@ module _ {A : Type 0} where
   front-lent (y ∷ b) (suc k) [] = simp (over-nil, take-append-drop)
   front-lent (y ∷ b) (suc k) (x ∷ xs) = simp (over-first, front-lent b k xs)
 
-  over-lent : (b : List A) (q k : ℕ) (xs : List A) → putMid q k b (over (midOf q k b) 0 xs) ≡ over b q (take k xs)
+  pub over-lent : (b : List A) (q k : ℕ) (xs : List A) → putMid q k b (over (midOf q k b) 0 xs) ≡ over b q (take k xs)
   over-lent b zero k xs = front-lent b k xs
   over-lent [] (suc q) k xs = simp (take-nil, drop-nil, over-empty)
   over-lent (y ∷ b) (suc q) k xs = rw (over-later, over-lent b q k xs)

@@ -101,7 +101,7 @@ module _ (s : List ℕ) (n from end : ℕ) (h : end ≤ length s) (k : end - fro
   read-fit l p (got ps j) e = fields-fit l p ps (body-signed (l .kind) (body s l) ps j e)
   read-fit l p (refused x) e = tt
 
-  literal-fit : (l : Literal) → InPart s from end l → AllFit s n (readRows s w l)
+  pub literal-fit : (l : Literal) → InPart s from end l → AllFit s n (readRows s w l)
   unfolding readRows literalRows
   literal-fit l p = go (isFString (l .kind)) refl (read s (l ∷ [])) refl
     where

@@ -1,1 +1,6 @@
 pub mod Odds
+pub mod Alone
+pub mod Written
+pub mod Cutting
+pub mod Filling
+pub mod Counting

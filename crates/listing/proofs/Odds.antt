@@ -20,7 +20,7 @@ use Rattle.definition.proofs.CutLaws.{cut-is}
 use Rattle.literals.specs.declared.Literal.{Literal}
 use Rattle.literals.specs.declared.Refusal.{Refusal}
 use Rattle.literals.specs.Answers.{literalOf}
-use Rattle.listing.specs.declared.Field.{Field}
+use Rattle.listing.specs.declared.odd.Field.{Field}
 use Rattle.listing.specs.Odd.{capped, Inside, oddFrom, oddOf, signsOf, rowOf}
 
 -- A SCAN from an index up to an end that has come to i

@@ -1,1 +1,4 @@
 pub mod Odd
+pub mod Put
+pub mod Count
+pub mod Answers

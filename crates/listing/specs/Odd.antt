@@ -11,7 +11,7 @@ use Rattle.definition.specs.Listing.{reached, sourceEnd, firstOdd}
 use Rattle.definition.specs.Body.{Signs}
 use Rattle.definition.specs.Rows.{Row}
 use Rattle.literals.specs.declared.Literal.{Literal}
-use Rattle.listing.specs.declared.Field.{Field}
+use Rattle.listing.specs.declared.odd.Field.{Field}
 
 -- the first place from i up to j whose byte passes a test, or j
 abbrev pub capped : (ℕ → Bool) → List ℕ → (i j : ℕ) → ℕ

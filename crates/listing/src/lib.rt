@@ -1,213 +1,106 @@
-// Every field of a whole script: where Python reads a field's source or spec otherwise, 75.
-use literals::Literal;
-use literals::Next;
-use literals::kind_at;
-use literals::next_literal;
+// Every field of a whole script: its rows, level by level.
+mod count;
+mod odd;
+mod rows;
+
+use buffers::fill_words;
+use count::count_part;
+use rows::Part;
+use rows::cut_rows;
+use rows::source_rows;
 ghost use mathlib.Core.Path.{_≡_};
-ghost use mathlib.Core.Bool.{not};
-ghost use Prim.Native.Nat.{_≤_};
-ghost use lib.Dec.{eqb, ltb};
+ghost use Prim.Native.Nat.{_*_, _≤_};
 ghost use lib.ListN.{length};
-ghost use Rattle.definition.specs.Chars.{_is_, if_then_else_};
-ghost use Rattle.definition.specs.Opening.{firstAt};
-ghost use Rattle.definition.specs.Cut.{cutPart};
-ghost use Rattle.definition.specs.Listing.{sourceEnd, quotedInside, moreAfter, specBackslash, least, otherwise};
-ghost use Rattle.literals.specs.Answers.{literalOf};
-ghost use Rattle.listing.specs.Odd.{capped, Inside, oddOf, signsOf, rowOf, Source};
+ghost use Rattle.definition.specs.Listing.{refusalsIn, fieldsInto};
+ghost use Rattle.listing.specs.Put.{rowsIn, refusal};
+ghost use Rattle.listing.specs.Answers.{Filled, CallIs};
 
-// A field as its row has it: its literal's start, its place, and its signs.
-pub(crate) struct Field {
-    pub(crate) start: u32,
-    pub(crate) place: u32,
-    pub(crate) equals: u32,
-    pub(crate) bang: u32,
-    pub(crate) colon: u32,
-    pub(crate) close: u32,
+// A list: its rows, how many of them are refusals, the literals of the script, and how far it was cut.
+pub struct List {
+    pub rows: u32,
+    pub refusals: u32,
+    pub literals: u32,
+    pub to: u32,
 }
 
-// The first place of a byte from one index up to another, or the other.
-fn byte_in(s: &[u8], from: usize, end: usize, b: u8) -> usize
-    requires { ⌜ (from ≤ end) × (end ≤ length (now s)) ⌝ }
-    ensures { λ r. ⌜ r ≡ capped (λ x. eqb x b) (now (s .entry)) from end ⌝ }
+// A list; or that the script is too long, or how many rows a buffer does not hold.
+pub enum Fields {
+    Listed(List),
+    TooLong,
+    Short(u32),
+}
+
+// The rows of the script's cut and then those of the source of each row, as long as there is room.
+fn fill(script: &[u8], rows: &mut [u32]) -> Part
+    requires { ⌜ length (now script) ≤ 1048576 ⌝ }
+    ensures { λ r. ⌜ Filled (now (script .entry)) (now (rows .entry)) (now (rows .exit)) r ⌝ }
 {
-    let mut i = from;
-    while i < end {
-        if s[i] == b {
-            return i;
+    let room = rows.len() / 10;
+    let first = cut_rows(script, 0, script.len(), 0, rows, 0);
+    let mut count = first.count;
+    let mut i = 0;
+    while i < count {
+        if room < count {
+            return Part {
+                count,
+                literals: first.literals,
+                to: first.to,
+            };
         }
+        count = source_rows(script, rows, i, count);
         i += 1;
     }
-    i
+    Part {
+        count,
+        literals: first.literals,
+        to: first.to,
+    }
 }
 
-// The first place of anything but a space from one index up to another, or the other.
-fn text_in(s: &[u8], from: usize, end: usize) -> usize
-    requires { ⌜ (from ≤ end) × (end ≤ length (now s)) ⌝ }
-    ensures { λ r. ⌜ r ≡ capped (λ x. not (x is " ")) (now (s .entry)) from end ⌝ }
+// 1 for the first number of a refusal's row, else 0.
+fn refusal(first: u32) -> usize
+    ensures { λ r. ⌜ (r ≡ refusal first) × (r ≤ 1) ⌝ }
 {
-    let mut i = from;
-    while i < end {
-        if s[i] != b' ' {
-            return i;
-        }
+    if first == 5 {
+        return 1;
+    }
+    0
+}
+
+// How many of so many rows are refusals.
+fn refusals_in(rows: &[u32], count: usize) -> usize
+    requires { ⌜ count * 10 ≤ length (now rows) ⌝ }
+    ensures { λ r. ⌜ (r ≡ refusalsIn (rowsIn (now (rows .entry)) 0 count)) × (r ≤ count) ⌝ }
+{
+    let mut n = 0;
+    let mut i = 0;
+    while i < count {
+        let at = i * 10;
+        n += refusal(rows[at]);
         i += 1;
     }
-    i
+    n
 }
 
-// Whether a triple-quoted literal has its own quote inside.
-fn quoted_inside(s: &[u8], l: Literal) -> bool
-    requires { ⌜ Inside (now s) l ⌝ }
-    ensures { λ r. ⌜ r ≡ quotedInside (now (s .entry)) (literalOf l) ⌝ }
+// Lists every field of a script, ten numbers for each row.
+pub fn list_fields(script: &[u8], rows: &mut [u32]) -> Fields
+    ensures { λ r. ⌜ CallIs (fieldsInto (now (script .entry)) (now (rows .entry))) (now (rows .exit)) r ⌝ }
 {
-    if l.triple != 1 {
-        return false;
+    let len = script.len();
+    if 1048576 < len {
+        fill_words(rows, 0);
+        return Fields::TooLong;
     }
-    let from = l.offset as usize;
-    let end = from + l.size as usize;
-    let last = l.end as usize - 1;
-    byte_in(s, from, end, s[last]) < end
-}
-
-// A place that was found before an end, or the script's length.
-fn found_in(s: &[u8], k: usize, end: usize) -> usize
-    ensures { λ r. ⌜ r ≡ (if ltb k end then k else length (now (s .entry))) ⌝ }
-{
-    if k < end {
-        return k;
+    let filled = fill(script, rows);
+    let count = filled.count;
+    if rows.len() / 10 < count {
+        fill_words(rows, 0);
+        return Fields::Short(count_part(script, 0, len) as u32);
     }
-    s.len()
-}
-
-// The first `#` between the literals of a source, or the start of the first triple-quoted one that has its own quote inside.
-fn odd_in(s: &[u8], from: usize, end: usize) -> usize
-    requires { ⌜ (from ≤ end) × (end ≤ length (now s)) × (length (now s) ≤ 1048576) ⌝ }
-    ensures { λ r. ⌜ r ≡ oddOf (now (s .entry)) from end ⌝ }
-{
-    let mut at = from;
-    loop {
-        match next_literal(&s[..end], at) {
-            Next::TooLong => {
-                return at;
-            }
-            Next::End => {
-                return found_in(s, byte_in(s, at, end, b'#'), end);
-            }
-            Next::Broken(r) => {
-                let stop = r.place as usize;
-                return found_in(s, byte_in(s, at, stop, b'#'), stop);
-            }
-            Next::Literal(l) => {
-                let start = l.start as usize;
-                let sign = byte_in(s, at, start, b'#');
-                if sign < start {
-                    return sign;
-                }
-                if quoted_inside(s, l) {
-                    return start;
-                }
-                at = l.end as usize;
-            }
-        }
-    }
-}
-
-// Where a field's source ends: at its first `!`, `:` or `}`.
-fn source_end(f: Field) -> usize
-    requires { ⌜ 1 ≤ f .close ⌝ }
-    ensures { λ r. ⌜ r ≡ sourceEnd (signsOf f) ⌝ }
-{
-    if f.bang != 0 {
-        return f.bang as usize - 1;
-    }
-    if f.colon != 0 {
-        return f.colon as usize - 1;
-    }
-    f.close as usize - 1
-}
-
-// Just after a field's first self-documenting `=`, if anything but spaces follows up to the end of its source; else the script's length.
-fn more_after(s: &[u8], f: Field, end: usize) -> usize
-    requires { ⌜ (end ≡ sourceEnd (signsOf f)) × (end ≤ length (now s)) ⌝ }
-    ensures { λ r. ⌜ r ≡ moreAfter (now (s .entry)) (signsOf f) ⌝ }
-{
-    if f.equals == 0 {
-        return s.len();
-    }
-    let from = f.equals as usize;
-    if end < from {
-        return s.len();
-    }
-    if text_in(s, from, end) < end {
-        return from;
-    }
-    s.len()
-}
-
-// The first brace or backslash from an index on, or the end.
-fn brace_from(s: &[u8], from: usize) -> usize
-    ensures { λ r. ⌜ r ≡ firstAt (λ b. b is "{}\\") (now (s .entry)) from ⌝ }
-{
-    let mut i = from;
-    while i < s.len() {
-        let b = s[i];
-        if b == b'{' {
-            return i;
-        }
-        if b == b'}' {
-            return i;
-        }
-        if b == b'\\' {
-            return i;
-        }
-        i += 1;
-    }
-    i
-}
-
-// A backslash in a field's spec before any brace, in a literal of kind 1; else the script's length.
-fn spec_backslash(s: &[u8], f: Field) -> usize
-    ensures { λ r. ⌜ r ≡ specBackslash (now (s .entry)) (f .start) (signsOf f) ⌝ }
-{
-    if f.colon == 0 {
-        return s.len();
-    }
-    if kind_at(s, f.start) != 1 {
-        return s.len();
-    }
-    let i = brace_from(s, f.colon as usize);
-    if s.len() <= i {
-        return s.len();
-    }
-    if s[i] != b'\\' {
-        return s.len();
-    }
-    i
-}
-
-// The lesser of two.
-fn lesser(a: usize, b: usize) -> usize
-    ensures { λ r. ⌜ r ≡ least a b ⌝ }
-{
-    if a <= b {
-        return a;
-    }
-    b
-}
-
-// The first place where Python reads a field's source or spec otherwise, or the script's length.
-pub(crate) fn otherwise(s: &[u8], f: Field) -> usize
-    requires { ⌜ Source (now s) f ⌝ }
-    ensures { λ r. ⌜ r ≡ otherwise (now (s .entry)) (rowOf f) (cutPart (now (s .entry)) (f .place) (sourceEnd (signsOf f))) ⌝ }
-{
-    let end = source_end(f);
-    let place = f.place as usize;
-    let odd = odd_in(s, place, end);
-    let back = byte_in(s, place, end, b'\\');
-    let escaped = found_in(s, back, end);
-    let more = more_after(s, f, end);
-    let spec = spec_backslash(s, f);
-    let later = lesser(more, spec);
-    let first = lesser(escaped, later);
-    lesser(odd, first)
+    Fields::Listed(List {
+        rows: count as u32,
+        refusals: refusals_in(rows, count) as u32,
+        literals: filled.literals,
+        to: filled.to,
+    })
 }

@@ -1,0 +1,81 @@
+-- What a literal gives that is read alone. Assumes nothing.
+use mathlib.Core.Path.{_≡_, refl, sym, subst, _∙_, ap}
+use mathlib.Core.Bool.{true, false, false≢true}
+use mathlib.Core.List.{List, [], _∷_, _++_, map, append-nil}
+use mathlib.Core.Option.{some}
+use Prim.Native.Nat.{ℕ, suc, _*_, _<_}
+use lib.ListN.{length, take, drop}
+use Rattle.definition.specs.Numbers.{isFString}
+use Rattle.definition.specs.Entry as d
+use Rattle.definition.specs.Entry.{sixes, oneMore}
+use Rattle.definition.specs.Records as answers
+use Rattle.definition.specs.Reading.{accepts, refuses, inFront, read, numbers}
+use Rattle.definition.specs.Reading as reading
+use Rattle.definition.specs.Rows.{Row, rowNumbers, literalRows, allRows, allNumbers, rowed, rowedNumbers}
+use Rattle.definition.specs.Listing.{ListRow, ofField, ofRefusal, tenOf, tens, readRows, refusalsIn}
+use Rattle.entry.specs.declared.Refusal as why
+use Rattle.literals.specs.declared.Literal.{Literal}
+use Rattle.literals.specs.Answers.{literalOf, numbersOf}
+use Rattle.strings.specs.declared.Answer.{Answer}
+use Rattle.strings.specs.declared.Outcome.{Outcome}
+use Rattle.strings.specs.declared.Outcome.the-variants.{Accepted, Refused}
+use Rattle.strings.specs.Strings.{SignsIs}
+use Rattle.strings.specs.Window.{windowAfter, windowInto, windowNumbers}
+use Rattle.listing.specs.Put.{Reads, refusalRow}
+
+-- the numbers of fields' rows; none of them is a refusal
+field-tens : (w : ℕ) (rs : List Row) → tens (map (ofField w) rs) ≡ allNumbers w rs
+unfolding tens tenOf allNumbers
+field-tens w [] = refl
+field-tens w (r ∷ rs) = ap (λ ns. rowNumbers w r ++ ns) (field-tens w rs)
+
+field-refusals : (w : ℕ) (rs : List Row) → refusalsIn (map (ofField w) rs) ≡ 0
+unfolding refusalsIn
+field-refusals w [] = refl
+field-refusals w (r ∷ rs) = field-refusals w rs
+
+field-count : (w : ℕ) (rs : List Row) → length (map (ofField w) rs) ≡ length rs
+field-count w [] = refl
+field-count w (r ∷ rs) = ap suc (field-count w rs)
+
+module _ (s : List ℕ) (l : Literal) (w k : ℕ) (rows rows′ : List ℕ) (f : isFString (l .kind) ≡ true) where
+  abbrev o : reading.Outcome answers.Answer
+  o = read s (literalOf l ∷ [])
+
+  one : windowNumbers w k s (numbersOf l) rows ≡ windowInto w k s (literalOf l ∷ []) rows
+  unfolding windowNumbers sixes oneMore
+  one = refl
+
+  own : allRows s (literalOf l ∷ []) ≡ literalRows s (literalOf l)
+  unfolding allRows
+  own = append-nil (literalRows s (literalOf l))
+
+  pub alone-fields : (y : Answer) → SignsIs (windowNumbers w k s (numbersOf l) rows) rows′ (Accepted y) → y .records < 4294967296 → Reads (readRows s w (literalOf l)) k rows rows′ (y .records)
+  unfolding windowInto windowAfter rowed rowedNumbers numbers readRows
+  alone-fields y p few = go o refl (rw one at p)
+    where
+      go : (x : reading.Outcome answers.Answer) → o ≡ x → SignsIs (windowInto w k s (literalOf l ∷ []) rows) rows′ (Accepted y) → Reads (readRows s w (literalOf l)) k rows rows′ (y .records)
+      go (refuses r) e q = let h = q .accepted in absurd (false≢true (sym (rw e at h)))
+      go (accepts x) e q =
+          let rs = literalRows s (literalOf l) in
+          let a = rw (e, own) at (q .answer) in
+          let b : y .records ≡ length rs = cc in
+          let n : rows′ ≡ inFront (take (length rows) (drop (k * 10) (allNumbers w rs))) rows = rw (e, own) at (q .rows) in
+          rw (f, e, readRows)
+          (record {
+            fields = field-refusals w rs;
+            counted = b ∙ sym (field-count w rs);
+            few = few;
+            wrote = rw (field-tens w rs) n;
+          })
+
+  pub alone-refused : (y : why.Refusal) → SignsIs (windowNumbers w k s (numbersOf l) rows) rows′ (Refused y)
+      → readRows s w (literalOf l) ≡ ofRefusal w (l .start) (y .place) (y .number) (y .a) (y .b) (y .opened) ∷ []
+  unfolding windowInto windowAfter rowed rowedNumbers numbers readRows
+  alone-refused y p = go o refl (rw one at p)
+    where
+      go : (x : reading.Outcome answers.Answer) → o ≡ x → SignsIs (windowInto w k s (literalOf l ∷ []) rows) rows′ (Refused y) → readRows s w (literalOf l) ≡ ofRefusal w (l .start) (y .place) (y .number) (y .a) (y .b) (y .opened) ∷ []
+      go (accepts x) e q = let h = q .accepted in absurd (false≢true (rw e at h))
+      go (refuses r) e q =
+          let a = rw e at (q .answer) in
+          rw (f, e, readRows) cc

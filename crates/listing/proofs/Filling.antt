@@ -1,0 +1,227 @@
+-- The rows of sources, written row by row until none is left or there is no room. Assumes nothing.
+use mathlib.Core.Path.{_≡_, refl, sym, subst, _∙_, ap, ap₂}
+use mathlib.Core.Bool.{Bool, true, false}
+use mathlib.Core.List.{List, [], _∷_, _++_, append-assoc, append-nil}
+use Prim.Native.Nat.{ℕ, zero, suc, _+_, _-_, _*_, _/_, _≤_, _<_}
+use native.Mathlib.Numerals.{add-one}
+use native.Mathlib.Omega.{arith}
+use borrow.Author.Tests.{eq-eqb, ne-eqb}
+use lib.Dec.{ltb, eqb}
+use lib.ListN.{length, drop, getD, length-append, length-replicate}
+use Rattle.definition.specs.Numbers.{readOtherwise}
+use Rattle.definition.specs.Chars.{if_then_else_}
+use Rattle.definition.specs.Cut.{Cut, cut, cutPart}
+use Rattle.definition.specs.Reading.{inFront, zeros}
+use Rattle.definition.specs.Listing.{ListRow, ofField, ofRefusal, tenOf, tens, cutRows, reached, sourceEnd, otherwise, otherwiseRow, sourceRows, rowsOf, refusalsIn, fieldsAfter, fieldsCall, fieldsInto, fieldsNumbers}
+use Rattle.definition.proofs.PartLaws.{cut-is-part}
+use Rattle.definition.proofs.SourceLaws.{Sourced, Fits, AllFit}
+use Rattle.definition.proofs.ListingLaws.{rows-fit}
+use Rattle.definition.proofs.ListingSteps.{Listing, listing-start, listing-step, listing-end, fields-long, fields-short, fields-given, tens-length, tens-append}
+use Rattle.definition.proofs.FewRows.{rows-few}
+use Rattle.buffers.specs.Over.{over}
+use Rattle.buffers.proofs.Over.{over-front}
+use Rattle.listing.specs.declared.odd.Field.{Field}
+use Rattle.listing.specs.declared.rows.Part.{Part}
+use Rattle.listing.specs.declared.List as list
+use Rattle.listing.specs.declared.Fields.the-variants.{Listed, TooLong, Short}
+use Rattle.listing.specs.Odd.{signsOf, rowOf, Source}
+use Rattle.listing.specs.Put.{Puts, PartIs, rowAt, rowsIn, fieldOf, Lies, Bounded}
+use Rattle.listing.specs.Answers.{Filled, CallIs}
+use Rattle.listing.proofs.Written.{puts-none, puts-append, row-back, rows-back}
+
+-- THE SOURCE OF A ROW that stands in a buffer
+module _ (s rows : List ℕ) (i : ℕ) where
+  pub source-told : (count : ℕ) → getD rows (i * 10) 0 ≡ 5 → Puts (sourceRows s (i + 1) (rowAt rows i)) rows rows count count
+  unfolding rowAt sourceRows
+  source-told count e = rw (eq-eqb _ 5 e) (puts-none rows count)
+
+  module _ (e : getD rows (i * 10) 0 ≡ 5 → ⊥) where
+    abbrev f : Field
+    f = fieldOf rows i
+
+    abbrev c : Cut
+    c = cutPart s (f .place) (sourceEnd (signsOf f))
+
+    pub source-lies : Fits s (suc (length s)) (rowAt rows i) → length s ≤ 1048576 → Source s f
+    unfolding rowAt
+    source-lies p long =
+        let r = rw (ne-eqb (getD rows (i * 10) 0) 5 e) at p in
+        let k = r .placed .close-at .0 in
+        record { closed = omega arith; ahead = r .ahead; within = r .within; not-long = long }
+
+    pub source-field : (n : ℕ) → sourceRows s n (rowAt rows i) ≡ otherwiseRow s n (rowOf f) c ++ cutRows s n c
+    unfolding rowAt sourceRows otherwiseRow otherwise
+    source-field n = rw (ne-eqb (getD rows (i * 10) 0) 5 e)
+
+    otherwise-most : (n : ℕ) → length (otherwiseRow s n (rowOf f) c) ≤ 1
+    unfolding otherwiseRow
+    otherwise-most n = go (ltb (otherwise s (rowOf f) c) (length s))
+      where
+        go : (t : Bool) → length (if t then ofRefusal n (f .start) (otherwise s (rowOf f) c) readOtherwise 0 0 0 ∷ [] else []) ≤ 1
+        go true = omega arith
+        go false = omega arith
+
+    module _ (count : ℕ) (p : Lies s rows i count) (rows₁ : List ℕ) (m : ℕ) (a : Puts (otherwiseRow s (i + 1) (rowOf f) c) rows rows₁ count m) where
+      pub source-bounded : Bounded s (f .place) (sourceEnd (signsOf f)) m
+      source-bounded =
+          let z = source-lies (p .fits) (p .not-long) in
+          let k = p .few .1 in
+          let x = a .counted in
+          record { ahead = z .ahead; within = z .within; not-long = p .not-long; few = omega (arith, otherwise-most (i + 1)) }
+
+      pub source-puts : (rows₂ : List ℕ) (r : Part) → PartIs s (f .place) (sourceEnd (signsOf f)) (i + 1) rows₁ rows₂ m r → Puts (sourceRows s (i + 1) (rowAt rows i)) rows rows₂ count (r .count)
+      source-puts rows₂ r b = rw (source-field (i + 1)) (puts-append _ _ rows rows₁ rows₂ count m (r .count) a (b .puts))
+
+-- buffers of one length have the same room
+pub same-room : (s rows b rows₁ : List ℕ) (count : ℕ) (r : Part) → PartIs s 0 (length s) 0 b rows₁ 0 r → PartIs s 0 (length s) 0 rows rows₁ 0 r → count ≤ length rows / 10 → count ≤ length b / 10
+same-room s rows b rows₁ count r p q h = rw (← p .puts .kept, q .puts .kept) h
+
+-- ROWS WRITTEN SO FAR: those whose sources are written, i of them, and those whose sources are not yet
+pub record Filling (s rows rows′ : List ℕ) (i count : ℕ) : Type 0 where
+  pub done : List ListRow
+  pub todo : List ListRow
+  pub listing : Listing s done todo
+  pub at : i ≡ length done
+  pub puts : Puts (done ++ todo) rows rows′ 0 count
+
+module _ (s rows : List ℕ) (long : length s ≤ 1048576) where
+  pub filling-start : (rows′ : List ℕ) (r : Part) → PartIs s 0 (length s) 0 rows rows′ 0 r → Filling s rows rows′ 0 (r .count)
+  filling-start rows′ r p = record { done = []; todo = cutRows s 0 (cut s); listing = listing-start s; at = refl; puts = rw (cut-is-part s) (p .puts) }
+
+  module _ (rows′ : List ℕ) (i count : ℕ) (p : Filling s rows rows′ i count) where
+    pub filling-among : count ≤ length (rowsOf s)
+    filling-among =
+        let e = p .puts .counted in
+        let w = p .listing .whole in
+        omega (arith, ap length w, length-append (p .done) (p .todo ++ p .listing .rest), length-append (p .todo) (p .listing .rest), length-append (p .done) (p .todo))
+
+    pub filling-few : count ≤ 1048576
+    filling-few = omega (arith, filling-among, rows-few s)
+
+    fit-at : (n : ℕ) (xs : List ListRow) (r : ListRow) (ys : List ListRow) → AllFit s n (xs ++ r ∷ ys) → Fits s n r
+    fit-at n [] r ys q = q .0
+    fit-at n (x ∷ xs) r ys q = fit-at n xs r ys (q .1)
+
+    -- the next row stands in the buffer
+    module _ (h : i < count) (k : count * 10 ≤ length rows) (r : ListRow) (todo : List ListRow) (e : p .todo ≡ r ∷ todo) where
+      here : rowAt rows′ i ≡ r
+      unfolding tens
+      here =
+          let all = p .done ++ r ∷ todo in
+          let n = p .puts .counted in
+          let w : rows′ ≡ over rows 0 (tens all) = rw e at (p .puts .wrote k) in
+          let m : length (tens all) ≤ length rows = omega (arith, tens-length all, ap (λ x. length (p .done ++ x)) e) in
+          let split : rows′ ≡ tens (p .done) ++ (tenOf r ++ (tens todo ++ drop (length (tens all)) rows)) = w ∙ over-front rows (tens all) m ∙ ap (λ x. x ++ drop (length (tens all)) rows) (tens-append (p .done) (r ∷ todo)) ∙ append-assoc (tens (p .done)) (tenOf r ++ tens todo) (drop (length (tens all)) rows) ∙ ap (λ x. tens (p .done) ++ x) (append-assoc (tenOf r) (tens todo) (drop (length (tens all)) rows)) in
+          rw split (row-back (tens (p .done)) i r (tens todo ++ drop (length (tens all)) rows) (omega (arith, tens-length (p .done), p .at)))
+
+      lies-so : Lies s rows′ i count
+      lies-so =
+          let q : AllFit s (suc (length s)) (p .done ++ r ∷ (todo ++ p .listing .rest)) = subst (λ (x : List ListRow). AllFit s (suc (length s)) x) (p .listing .whole ∙ ap (λ x. p .done ++ (x ++ p .listing .rest)) e) (rows-fit s) in
+          let l = p .puts .kept in
+          record {
+            placed = omega arith;
+            fits = rw here (fit-at (suc (length s)) (p .done) r (todo ++ p .listing .rest) q);
+            not-long = long;
+            few = (h, filling-few);
+          }
+
+      next-so : (rows″ : List ℕ) (n : ℕ) → Puts (sourceRows s (i + 1) (rowAt rows′ i)) rows′ rows″ count n → Filling s rows rows″ (i + 1) n
+      next-so rows″ n q =
+          let sr = sourceRows s (suc (length (p .done))) r in
+          let f : i + 1 ≡ suc (length (p .done)) = add-one i ∙ ap suc (p .at) in
+          let q′ : Puts sr rows′ rows″ count n = rw (here, f) at q in
+          let g : (p .done ++ p .todo) ++ sr ≡ (p .done ++ r ∷ []) ++ (todo ++ sr) = ap (λ x. (p .done ++ x) ++ sr) e ∙ append-assoc (p .done) (r ∷ todo) sr ∙ sym (append-assoc (p .done) (r ∷ []) (todo ++ sr)) in
+          record {
+            done = p .done ++ r ∷ [];
+            todo = todo ++ sr;
+            listing = listing-step s (p .done) r todo (rw e at (p .listing));
+            at = f ∙ sym (length-append (p .done) (r ∷ []) ∙ add-one (length (p .done)));
+            puts = rw (← g) (puts-append (p .done ++ p .todo) sr rows rows′ rows″ 0 count n (p .puts) q′);
+          }
+
+    module _ (h : i < count) (room : count ≤ length rows / 10) where
+      k : count * 10 ≤ length rows
+      k = omega arith
+
+      none-not : p .todo ≡ [] → ⊥
+      none-not e = let n = p .puts .counted in omega (arith, p .at, ap (λ x. length (p .done ++ x)) e, length-append (p .done) [])
+
+      pub filling-lies : Lies s rows′ i count
+      filling-lies = go (p .todo) refl
+        where
+          go : (todo : List ListRow) → p .todo ≡ todo → Lies s rows′ i count
+          go [] e = absurd (none-not e)
+          go (r ∷ todo) e = lies-so h k r todo e
+
+      pub filling-next : (rows″ : List ℕ) (n : ℕ) → Puts (sourceRows s (i + 1) (rowAt rows′ i)) rows′ rows″ count n → Filling s rows rows″ (i + 1) n
+      filling-next rows″ n q = go (p .todo) refl
+        where
+          go : (todo : List ListRow) → p .todo ≡ todo → Filling s rows rows″ (i + 1) n
+          go [] e = absurd (none-not e)
+          go (r ∷ todo) e = next-so h k r todo e rows″ n q
+
+    -- none is left, or there is no room
+    module _ (first : Part) (rows₁ : List ℕ) (q : PartIs s 0 (length s) 0 rows rows₁ 0 first) where
+      part : Part
+      part = record { count = count; literals = first .literals; to = first .to }
+
+      filled-so : (count * 10 ≤ length rows → (count ≡ length (rowsOf s)) × (rows′ ≡ over rows 0 (tens (rowsOf s)))) → Filled s rows rows′ part
+      unfolding part
+      filled-so w =
+          record {
+            among = filling-among;
+            whole = w;
+            kept = p .puts .kept;
+            literals = rw (cut-is-part s) (q .literals);
+            to = rw (cut-is-part s) (q .to);
+          }
+
+      pub filled-short : length rows / 10 < count → Filled s rows rows′ (record { count = count; literals = first .literals; to = first .to })
+      unfolding part
+      filled-short h = filled-so (λ k. absurd (omega arith))
+
+      pub filled-whole : count ≤ i → Filled s rows rows′ (record { count = count; literals = first .literals; to = first .to })
+      unfolding part
+      filled-whole h = filled-so (λ k. go (p .todo) refl k)
+        where
+          go : (todo : List ListRow) → p .todo ≡ todo → count * 10 ≤ length rows → (count ≡ length (rowsOf s)) × (rows′ ≡ over rows 0 (tens (rowsOf s)))
+          go [] e k =
+              let f : rowsOf s ≡ p .done = listing-end s (p .done) (rw e at (p .listing)) in
+              let g : p .done ++ p .todo ≡ rowsOf s = ap (λ x. p .done ++ x) e ∙ append-nil (p .done) ∙ sym f in
+              (p .puts .counted ∙ omega (arith, ap length g), rw g at (p .puts .wrote k))
+          go (r ∷ todo) e k = let n = p .puts .counted in absurd (omega (arith, p .at, ap (λ x. length (p .done ++ x)) e, length-append (p .done) (r ∷ todo)))
+
+-- THE CALL
+module _ (s rows : List ℕ) where
+  pub call-long : (rows′ : List ℕ) → 1048576 < length s → rows′ ≡ zeros rows → CallIs (fieldsInto s rows) rows′ TooLong
+  unfolding fieldsInto fieldsCall fieldsAfter fieldsNumbers
+  call-long rows′ h e = rw (fields-long s (length rows) h) (record { answer = refl; rows = e })
+
+  module _ (long : length s ≤ 1048576) (rows₁ : List ℕ) (r : Part) (p : Filled s rows rows₁ r) where
+    pub filled-few : r .count ≤ 1048576
+    filled-few = let a = p .among in omega (arith, rows-few s)
+
+    pub call-short : (rows′ : List ℕ) (n : ℕ) → length rows₁ / 10 < r .count → n ≡ length (rowsOf s) → rows′ ≡ zeros rows₁ → CallIs (fieldsInto s rows) rows′ (Short n)
+    unfolding fieldsInto fieldsCall fieldsAfter fieldsNumbers
+    call-short rows′ n h e z =
+        let a = p .among in
+        let k = p .kept in
+        rw (fields-short s (length rows) long (omega arith), ← e) (record { answer = refl; rows = z ∙ ap (λ m. lib.ListN.replicate m 0) k })
+
+    module _ (h : r .count ≤ length rows₁ / 10) where
+      whole : (r .count ≡ length (rowsOf s)) × (rows₁ ≡ over rows 0 (tens (rowsOf s)))
+      whole = let k = p .kept in p .whole (omega arith)
+
+      pub filled-in : r .count * 10 ≤ length rows₁
+      filled-in = omega arith
+
+      pub call-listed : (n : ℕ) → n ≡ refusalsIn (rowsIn rows₁ 0 (r .count)) → CallIs (fieldsInto s rows) rows₁ (Listed (record { rows = r .count; refusals = n; literals = r .literals; to = r .to }))
+      unfolding fieldsInto fieldsCall fieldsAfter fieldsNumbers
+      call-listed n e =
+          let k = p .kept in
+          let w = whole in
+          let m : length (tens (rowsOf s)) ≤ length rows = omega (arith, tens-length (rowsOf s), w .0) in
+          let f : rows₁ ≡ tens (rowsOf s) ++ drop (length (tens (rowsOf s))) rows = w .1 ∙ over-front rows (tens (rowsOf s)) m in
+          let g : n ≡ refusalsIn (rowsOf s) = e ∙ rw (f, w .0) (ap refusalsIn (rows-back [] 0 (rowsOf s) (drop (length (tens (rowsOf s))) rows) refl)) in
+          rw (fields-given s (length rows) long (omega (arith, w .0)))
+          (record { answer = (λ j. 0 ∷ w .0 j ∷ g j ∷ p .literals j ∷ p .to j ∷ []); rows = f })

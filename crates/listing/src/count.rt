@@ -1,0 +1,119 @@
+// Rows counted depth first, where a buffer has no room for them.
+use crate::odd::Field;
+use crate::odd::lesser;
+use crate::odd::otherwise;
+use crate::odd::source_end;
+use crate::rows::Alone;
+use crate::rows::field_at;
+use crate::rows::is_fstring;
+use crate::rows::read_alone;
+use literals::Literal;
+use literals::Next;
+use literals::next_literal;
+ghost use mathlib.Core.Path.{_≡_};
+ghost use mathlib.Core.Bool.{true};
+ghost use Prim.Native.Nat.{_+_, _≤_, _<_};
+ghost use lib.ListN.{length};
+ghost use Rattle.definition.specs.Numbers.{isFString};
+ghost use Rattle.definition.specs.Cut.{cutPart};
+ghost use Rattle.definition.specs.Listing.{readRows, cutRows, sourceEnd, otherwiseRow};
+ghost use Rattle.literals.specs.Answers.{literalOf};
+ghost use Rattle.listing.specs.Odd.{signsOf, rowOf, Source};
+ghost use Rattle.listing.specs.Put.{Bounded, rowsIn};
+ghost use Rattle.listing.specs.Count.{total, Found, Seen, Block};
+
+// How many rows a literal has in all, and how many are some of them with those of their sources.
+pub(crate) struct Window {
+    pub(crate) all: usize,
+    pub(crate) rows: usize,
+}
+
+// A field's own row, and that of 75 if it has one.
+fn own_rows(s: &[u8], f: Field) -> usize
+    requires { ⌜ Source (now s) f ⌝ }
+    ensures { λ r. ⌜ r ≡ 1 + length (otherwiseRow (now (s .entry)) 0 (rowOf f) (cutPart (now (s .entry)) (f .place) (sourceEnd (signsOf f)))) ⌝ }
+{
+    if otherwise(s, f) < s.len() {
+        return 2;
+    }
+    1
+}
+
+// The first rows of a block, with those of their sources.
+fn count_block(s: &[u8], block: &[u32], n: usize) -> usize
+    requires { ⌜ Block (now s) (now block) n ⌝ }
+    ensures { λ r. ⌜ r ≡ total (now (s .entry)) (rowsIn (now (block .entry)) 0 n) ⌝ }
+{
+    let mut rows = 0;
+    let mut i = 0;
+    while i < n {
+        let f = field_at(block, i);
+        let own = own_rows(s, f);
+        let below = count_part(s, f.place as usize, source_end(f));
+        rows += own + below;
+        i += 1;
+    }
+    rows
+}
+
+// Up to 1,024 rows of an f-string from a number on, with those of their sources.
+fn count_window(s: &[u8], l: Literal, seen: usize) -> Window
+    requires { ⌜ Found (now s) (literalOf l) × (isFString (l .kind) ≡ true) × (seen < 4294967296) × (1 ≤ seen → seen < length (readRows (now s) 0 (literalOf l))) ⌝ }
+    ensures { λ r. ⌜ Seen (now (s .entry)) (readRows (now (s .entry)) 0 (literalOf l)) seen r ⌝ }
+{
+    let mut block = [0u32; 10240];
+    match read_alone(s, l, 0, seen as u32, &mut block) {
+        Alone::Refused(_) => Window { all: 1, rows: 1 },
+        Alone::Fields(n) => {
+            let some = lesser(n - seen, 1024);
+            let rows = count_block(s, &block, some);
+            Window { all: n, rows }
+        }
+    }
+}
+
+// The rows of a literal, with those of their sources. Only f-strings are read.
+fn count_literal(s: &[u8], l: Literal) -> usize
+    requires { ⌜ Found (now s) (literalOf l) ⌝ }
+    ensures { λ r. ⌜ r ≡ total (now (s .entry)) (readRows (now (s .entry)) 0 (literalOf l)) ⌝ }
+{
+    let mut rows = 0;
+    let mut seen = 0;
+    if is_fstring(l.kind) {
+        loop {
+            let w = count_window(s, l, seen);
+            rows += w.rows;
+            seen += 1024;
+            if w.all <= seen {
+                return rows;
+            }
+        }
+    }
+    rows
+}
+
+// The rows of a part of the script, with those of their sources.
+pub(crate) fn count_part(s: &[u8], from: usize, end: usize) -> usize
+    requires { ⌜ Bounded (now s) from end 0 ⌝ }
+    ensures { λ r. ⌜ r ≡ total (now (s .entry)) (cutRows (now (s .entry)) 0 (cutPart (now (s .entry)) from end)) ⌝ }
+{
+    let mut at = from;
+    let mut rows = 0;
+    loop {
+        match next_literal(&s[..end], at) {
+            Next::TooLong => {
+                return rows;
+            }
+            Next::End => {
+                return rows;
+            }
+            Next::Broken(_) => {
+                return rows + 1;
+            }
+            Next::Literal(l) => {
+                rows += count_literal(s, l);
+                at = l.end as usize;
+            }
+        }
+    }
+}
