@@ -1,4 +1,5 @@
--- Two calls that leave the same twelve numbers, words and text have one outcome; and so have two that leave the same list. Assumes nothing.
+-- Two calls that leave the same twelve numbers, words and text have one outcome; and so have two that leave the same list, or the same rows of a script.
+-- Assumes nothing.
 use mathlib.Core.Path.{_≡_, refl, sym, _∙_, ap}
 use mathlib.Core.List.{List, [], _∷_, _++_}
 use Prim.Native.Nat.{ℕ, zero, suc, _-_}
@@ -6,9 +7,11 @@ use lib.ListN.{length, replicate}
 use Rattle.definition.specs.Reading.{numbers, Call, readNumbers}
 use Rattle.definition.specs.Words.{word}
 use Rattle.definition.specs.Literals.{literalsInto, listNumbers}
+use Rattle.definition.specs.Listing.{fieldsInto, fieldsNumbers}
 use Rattle.definition.proofs.Held.{numbers-one}
 use Rattle.definition.proofs.ListOne.{list-one}
-use Rattle.stumpgarret.specs.Twelve.{twelve, CallIs, ListIs}
+use Rattle.definition.proofs.ListingOne.{fields-one}
+use Rattle.stumpgarret.specs.Twelve.{twelve, CallIs, ListIs, FieldsIs}
 
 zeros-word : (n k : ℕ) → word (replicate n 0) k ≡ 0
 zeros-word zero k = refl
@@ -45,3 +48,12 @@ lists-one script offset buffer script′ offset′ buffer′ answer left c c′ 
     ∙ ap (λ l. word l k) (sym (c .numbered) ∙ c′ .numbered)
     ∙ twelve-word (listNumbers (literalsInto script′ offset′ buffer′ .listing)) k)
     (sym (c .list-left) ∙ c′ .list-left)
+
+pub scripts-one : (script buffer script′ buffer′ answer left : List ℕ) → FieldsIs (fieldsInto script buffer) answer left → FieldsIs (fieldsInto script′ buffer′) answer left
+    → fieldsInto script buffer .listed ≡ fieldsInto script′ buffer′ .listed
+scripts-one script buffer script′ buffer′ answer left c c′ =
+    fields-one script buffer script′ buffer′
+    (λ k. sym (twelve-word (fieldsNumbers (fieldsInto script buffer .listed)) k)
+    ∙ ap (λ l. word l k) (sym (c .numbered) ∙ c′ .numbered)
+    ∙ twelve-word (fieldsNumbers (fieldsInto script′ buffer′ .listed)) k)
+    (sym (c .rows-left) ∙ c′ .rows-left)

@@ -6,6 +6,7 @@ use lib.ListN.{length, replicate}
 use Rattle.definition.specs.Reading.{Call, numbers}
 use Rattle.definition.specs.Rows.{SignsCall, rowedNumbers}
 use Rattle.definition.specs.Literals.{ListCall, listNumbers}
+use Rattle.definition.specs.Listing.{FieldsCall, fieldsNumbers}
 
 -- a list of numbers, and zeros up to twelve
 unfoldable pub twelve : List ℕ → List ℕ
@@ -26,3 +27,8 @@ pub record SignsIs (call : SignsCall) (answer rows : List ℕ) : Type 0 where
 pub record ListIs (call : ListCall) (answer list : List ℕ) : Type 0 where
   pub numbered : answer ≡ twelve (listNumbers (call .listing))
   pub list-left : list ≡ call .list
+
+-- the same of a call for every field of a script
+pub record FieldsIs (call : FieldsCall) (answer rows : List ℕ) : Type 0 where
+  pub numbered : answer ≡ twelve (fieldsNumbers (call .listed))
+  pub rows-left : rows ≡ call .rows

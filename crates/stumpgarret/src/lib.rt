@@ -1,4 +1,6 @@
 // The C interface: flat numbers in, twelve numbers out.
+use listing::Fields;
+use listing::list_fields;
 use literals::Listing;
 use literals::list_literals;
 use strings::Outcome;
@@ -8,9 +10,13 @@ ghost use mathlib.Core.Path.{_≡_};
 ghost use Rattle.definition.specs.Reading.{readNumbers};
 ghost use Rattle.definition.specs.Rows.{signsNumbers};
 ghost use Rattle.definition.specs.Literals.{literalsInto};
+ghost use Rattle.definition.specs.Listing.{fieldsInto};
 ghost use Rattle.strings.specs.Strings.{says};
 ghost use Rattle.literals.specs.Answers as listing;
-ghost use Rattle.stumpgarret.specs.Twelve.{twelve, CallIs, SignsIs, ListIs};
+ghost use Rattle.listing.specs.Answers as fields;
+ghost use Rattle.stumpgarret.specs.Twelve.{twelve, CallIs, SignsIs, ListIs, FieldsIs};
+
+const SCRIPT_TOO_LONG: u32 = 49;
 
 const TOO_LITTLE_LIST_ROOM: u32 = 53;
 
@@ -99,4 +105,23 @@ pub extern "C" fn stumpgarret_literals(
     ensures { λ _. ⌜ ListIs (literalsInto (now (script .entry)) offset (now (numbers .entry))) (now (answer .exit)) (now (numbers .exit)) ⌝ }
 {
     *answer = twelve_listed(list_literals(script, offset, numbers));
+}
+
+// The numbers of a script's list, and zeros up to twelve.
+fn twelve_fields(x: Fields) -> [u32; 12]
+    ensures { λ r. ⌜ r ≡ twelve (fields.says x) ⌝ }
+{
+    match x {
+        Fields::Listed(l) => [0, l.rows, l.refusals, l.literals, l.to, 0, 0, 0, 0, 0, 0, 0],
+        Fields::TooLong => [SCRIPT_TOO_LONG, 0, 0, 0, 0, 0, 0, 0, 0, 0, 0, 0],
+        Fields::Short(count) => [TOO_LITTLE_LIST_ROOM, 0, 0, 0, 0, 0, 0, 0, 0, count, 0, 0],
+    }
+}
+
+// Lists every field of a script, a row of ten numbers for each, and answers in twelve numbers.
+#[no_mangle]
+pub extern "C" fn stumpgarret_fields(script: &[u8], rows: &mut [u32], answer: &mut [u32; 12])
+    ensures { λ _. ⌜ FieldsIs (fieldsInto (now (script .entry)) (now (rows .entry))) (now (answer .exit)) (now (rows .exit)) ⌝ }
+{
+    *answer = twelve_fields(list_fields(script, rows));
 }

@@ -1,0 +1,18 @@
+-- `stumpgarret::twelve_fields` meets its contract. Assumes nothing.
+use borrow.Author.Needs.{needs}
+use mathlib.Core.Path.{refl}
+use Rattle.stumpgarret.specs.Twelve.{twelve}
+use Rattle.stumpgarret.proofs.twelve_fields.Statement.{statement}
+use Rattle.stumpgarret.proofs.twelve_fields.Tie as tie
+
+pub twelve-fields-spec : {M : Type 1} → statement M
+unfolding twelve
+twelve-fields-spec =
+    tie.close
+    (tie.spec
+    (λ c. search needs)  -- enum-known-l
+    (λ c. search needs)  -- enum-told
+    (λ c. search needs)  -- enum-known-count
+    (λ c. rw (c .before .x .given .1) refl)  -- returns
+    (λ c. rw (c .enum-told .given .1) refl)  -- returns-2
+    (λ c. rw (c .before .x2 .given .1) refl))  -- returns-3
