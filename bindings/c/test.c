@@ -437,6 +437,99 @@ static void refuses_scripts(void)
     not_listed(STUMPGARRET_SCRIPT_TOO_LONG, 0, 0, 3);
 }
 
+/* Lists the fields of so many bytes with so many numbers lent, all filled before. */
+static void fields_with(const char *script, size_t length, size_t lent)
+{
+    memset(words, FILL, sizeof words);
+    memset(answer, FILL, sizeof answer);
+    stumpgarret_fields((const uint8_t *)script, length, words, lent, answer);
+}
+
+/* A list of these rows, and nothing else changed. */
+static void fields_are(const char *script, const uint32_t *numbers, const uint32_t *rows)
+{
+    size_t used = STUMPGARRET_ROW_NUMBERS * (size_t)numbers[STUMPGARRET_FIELDS_ROWS];
+    fields_with(script, strlen(script), WORDS);
+    numbers_are("answer", answer, numbers, STUMPGARRET_ANSWER_NUMBERS);
+    numbers_are("row", words, rows, used);
+    filled("byte of the rows", words, used * sizeof *words, sizeof words, FILL);
+}
+
+/* A refusal with how many rows are needed: zeros in what was lent. */
+static void fields_refused(uint32_t number, uint32_t needed, size_t lent)
+{
+    uint32_t expected[STUMPGARRET_ANSWER_NUMBERS] = {0};
+    expected[STUMPGARRET_ANSWER_NUMBER] = number;
+    expected[STUMPGARRET_FIELDS_NEEDED] = needed;
+    numbers_are("answer", answer, expected, COUNT(expected));
+    filled("byte of the rows", words, 0, lent * sizeof *words, 0);
+    filled("byte of the rows", words, lent * sizeof *words, sizeof words, FILL);
+}
+
+/* Adjacent literals, a comment's quote, a nested field, and an f-string in an expression. */
+static void lists_fields(void)
+{
+    static const char script[] = "'VDD ' f'{mv:.{n}f}' # it's\nRF'''{x!r}{f\"{y=}\"}'''";
+    static const uint32_t numbers[STUMPGARRET_ANSWER_NUMBERS] = {STUMPGARRET_ACCEPTED, 5, 0, 3, 50};
+    static const uint32_t rows[] = {
+        STUMPGARRET_REASON_NONE, 7, 10, 2, 0, 0, 0, 13, 19, 0,
+        STUMPGARRET_REASON_NONE, 7, 15, 1, 0, 0, 0, 0, 17, 0,
+        STUMPGARRET_REASON_WRITTEN, 28, 34, 1, 'r', 0, 36, 0, 38, 0,
+        STUMPGARRET_REASON_NONE, 28, 39, 7, 0, 0, 0, 0, 47, 0,
+        STUMPGARRET_REASON_REPR, 39, 42, 1, 'r', 44, 0, 0, 45, 4,
+    };
+    fields_are(script, numbers, rows);
+    const uint32_t by_name[] = {
+        answer[STUMPGARRET_ANSWER_NUMBER], answer[STUMPGARRET_FIELDS_ROWS],
+        answer[STUMPGARRET_FIELDS_REFUSALS], answer[STUMPGARRET_FIELDS_LITERALS],
+        answer[STUMPGARRET_FIELDS_CUT],
+    };
+    numbers_are("named number", by_name, numbers, COUNT(by_name));
+
+    size_t length = strlen(script);
+    fields_with(script, length, COUNT(rows) - 1);
+    fields_refused(STUMPGARRET_TOO_LITTLE_LIST_ROOM, 5, COUNT(rows) - 1);
+    size_t needed = STUMPGARRET_ROW_NUMBERS * (size_t)answer[STUMPGARRET_FIELDS_NEEDED];
+    fields_with(script, length, needed);
+    numbers_are("answer", answer, numbers, COUNT(numbers));
+    numbers_are("row", words, rows, COUNT(rows));
+    filled("byte of the rows", words, sizeof rows, sizeof words, FILL);
+    fields_with(script, length, 0);
+    fields_refused(STUMPGARRET_TOO_LITTLE_LIST_ROOM, 5, 0);
+}
+
+/* A refused literal ends nothing, one that never closes ends the cut, and what Python reads otherwise is
+   told. */
+static void lists_refusals(void)
+{
+    static const uint32_t numbers[STUMPGARRET_ANSWER_NUMBERS] = {STUMPGARRET_ACCEPTED, 4, 3, 2, 16};
+    static const uint32_t rows[] = {
+        STUMPGARRET_REASON_REFUSED, 0, 6, STUMPGARRET_MISMATCHED_DELIMITER, '(', ']', 4, 0, 0, 0,
+        STUMPGARRET_REASON_NONE, 8, 11, 3, 0, 0, 0, 0, 15, 0,
+        STUMPGARRET_REASON_REFUSED, 16, 16, STUMPGARRET_NEWLINE_IN_LITERAL, 0, 0, 0, 0, 0, 0,
+        STUMPGARRET_REASON_REFUSED, 8, 12, STUMPGARRET_READ_OTHERWISE, 0, 0, 0, 0, 0, 2,
+    };
+    fields_are("f'{(x]}'f'{x#y}'f'\nf'{z}'", numbers, rows);
+    const uint32_t by_name[] = {
+        words[STUMPGARRET_ROW_REASON],  words[STUMPGARRET_ROW_START],
+        words[STUMPGARRET_ROW_PLACE],   words[STUMPGARRET_ROW_REFUSAL],
+        words[STUMPGARRET_ROW_DETAIL_A], words[STUMPGARRET_ROW_DETAIL_B],
+        words[STUMPGARRET_ROW_OPENED],  0,
+        0,                              words[STUMPGARRET_ROW_WITHIN],
+    };
+    numbers_are("named number", by_name, rows, COUNT(by_name));
+
+    enum { MOST = STUMPGARRET_MOST_SCRIPT_BYTES };
+    static char script[MOST + 1];
+    memset(script, ' ', sizeof script);
+    memcpy(script + MOST - 6, "f'{x}'", 6);
+    fields_with(script, MOST, WORDS);
+    static const uint32_t one[STUMPGARRET_ANSWER_NUMBERS] = {STUMPGARRET_ACCEPTED, 1, 0, 1, MOST};
+    numbers_are("answer", answer, one, COUNT(one));
+    fields_with(script, MOST + 1, 3);
+    fields_refused(STUMPGARRET_SCRIPT_TOO_LONG, 0, 3);
+}
+
 int main(void)
 {
     reads_two();
@@ -449,6 +542,8 @@ int main(void)
     signs();
     lists_two();
     refuses_scripts();
+    lists_fields();
+    lists_refusals();
     printf("bindings/c: %d checks passed\n", checks);
     return 0;
 }

@@ -1,5 +1,6 @@
-/* Reads runs of Python string literals to records: texts, formatted fields, format specs; tells where
-   the signs of each field stand; and lists the literals of a script from an offset on.
+/* Lists every formatted field of a whole Python script; reads runs of its string literals to records:
+   texts, formatted fields, format specs; tells where the signs of each field stand; and lists the
+   literals of a script from an offset on.
    For C99 and C++11 on x86-64 Linux:
 
        cc -I bindings/include program.c target/staticlib/libstumpgarret.a
@@ -42,7 +43,7 @@ enum stumpgarret_kind {
 enum stumpgarret_limit {
     STUMPGARRET_MOST_LITERALS = 1024,
     STUMPGARRET_MOST_BODY_BYTES = 1048576, /* all bodies together */
-    STUMPGARRET_MOST_SCRIPT_BYTES = 1048576 /* of stumpgarret_literals */
+    STUMPGARRET_MOST_SCRIPT_BYTES = 1048576 /* of stumpgarret_literals and stumpgarret_fields */
 };
 
 /* A record is eight words, at these indexes. A word that a kind has no use for is 0.
@@ -160,7 +161,11 @@ enum stumpgarret_refusal {
     STUMPGARRET_NEWLINE_IN_LITERAL = 51, /* a byte 10 in a literal of one quote; place: where the
                                             literal starts */
     STUMPGARRET_NO_LITERAL = 52,        /* at the offset, which is the place */
-    STUMPGARRET_TOO_LITTLE_LIST_ROOM = 53 /* see STUMPGARRET_LIST_NEEDED */
+    STUMPGARRET_TOO_LITTLE_LIST_ROOM = 53, /* see STUMPGARRET_LIST_NEEDED */
+
+    /* Of stumpgarret_fields: 49, and 53, see STUMPGARRET_FIELDS_NEEDED; 6, 10 to 28, 50 and 51 as rows,
+       and as a row only: */
+    STUMPGARRET_READ_OTHERWISE = 75     /* Python reads the field otherwise, or not at all */
 };
 
 /* Why an opening brace counts as unclosed: the first detail of STUMPGARRET_UNCLOSED_LBRACE. */
@@ -196,8 +201,8 @@ void stumpgarret_read(const uint8_t *script, size_t script_length,
                       uint8_t *text, size_t text_length,
                       uint32_t answer[STUMPGARRET_ANSWER_NUMBERS]);
 
-/* A row is ten numbers, at these indexes: a field, and where its signs stand. A place is 0 where there
-   is no such sign. */
+/* A row is ten numbers, at these indexes: a field, and where its signs stand; or, in stumpgarret_fields,
+   a refusal. A place is 0 where there is no such sign. */
 enum stumpgarret_row {
     STUMPGARRET_ROW_REASON,      /* one of stumpgarret_reason */
     STUMPGARRET_ROW_START,       /* its literal's start */
@@ -208,16 +213,25 @@ enum stumpgarret_row {
     STUMPGARRET_ROW_BANG,        /* just after its ! */
     STUMPGARRET_ROW_COLON,       /* just after its :, where its spec begins */
     STUMPGARRET_ROW_CLOSE,       /* just after its closing brace */
-    STUMPGARRET_ROW_WITHIN,      /* 0, and kept for later use */
-    STUMPGARRET_ROW_NUMBERS      /* how many: 10 */
+    STUMPGARRET_ROW_WITHIN,      /* the row, from 1, in whose source its literal stands; 0 for a
+                                    literal of the script, and in stumpgarret_signs */
+    STUMPGARRET_ROW_NUMBERS,     /* how many: 10 */
+
+    /* Of a refusal: REASON is STUMPGARRET_REASON_REFUSED, PLACE is its place, START and WITHIN are as
+       for a field, and those not named are 0. */
+    STUMPGARRET_ROW_REFUSAL = 3, /* one of stumpgarret_refusal */
+    STUMPGARRET_ROW_DETAIL_A,
+    STUMPGARRET_ROW_DETAIL_B,
+    STUMPGARRET_ROW_OPENED       /* of 23: the place just after the bracket that is still open */
 };
 
-/* The reason of a field's conversion. */
+/* The reason of a field's conversion, or that the row is a refusal. */
 enum stumpgarret_reason {
     STUMPGARRET_REASON_WRITTEN = 1, /* written after ! */
     STUMPGARRET_REASON_NONE,        /* none: nothing is written, and there is no self-documenting = */
     STUMPGARRET_REASON_REPR,        /* repr: = stands with neither conversion nor spec */
-    STUMPGARRET_REASON_SPEC         /* none: = stands with a spec */
+    STUMPGARRET_REASON_SPEC,        /* none: = stands with a spec */
+    STUMPGARRET_REASON_REFUSED      /* no field */
 };
 
 /* Reads the literals as stumpgarret_read does, and writes a row for each field, in record order,
@@ -260,6 +274,51 @@ enum stumpgarret_list_answer {
 void stumpgarret_literals(const uint8_t *script, size_t script_length, uint32_t offset,
                           uint32_t *numbers, size_t numbers_length,
                           uint32_t answer[STUMPGARRET_ANSWER_NUMBERS]);
+
+/* The answer of stumpgarret_fields. */
+enum stumpgarret_fields_answer {
+    STUMPGARRET_FIELDS_ROWS = 1,    /* how many rows were written */
+    STUMPGARRET_FIELDS_REFUSALS,    /* how many of them are refusals: if none, the list is complete */
+    STUMPGARRET_FIELDS_LITERALS,    /* how many literals the script has, of any kind */
+    STUMPGARRET_FIELDS_CUT,         /* how far the script was cut: its length, or where the literal of
+                                       a 50 or 51 starts */
+
+    STUMPGARRET_FIELDS_NEEDED = 9   /* of 53: how many rows there are */
+};
+
+/* Lists every field of a whole script, a row for each.
+
+   The script is cut from the front. A comment, from # to before a byte 10 or 13, is passed over. A
+   quote begins a literal; the letters before it are its prefix if they are one and no ASCII letter,
+   digit or underscore stands before them. A literal ends as in stumpgarret_literals; one that does
+   not ends the cut, by 50 or 51. Any other byte is passed over.
+
+   Of the literals the f-strings are read, each alone as stumpgarret_signs reads it: no other has a
+   field. An f-string has a row for each field, in record order, or one for its refusal (6, or 10 to
+   28). The row of a 50 or 51 follows those of its cut, with where the literal starts as START and
+   PLACE. After the rows of the script, for each row of a field in order, come those of its source,
+   which goes from its place up to its first !, : or closing brace, and is cut as the script is: first
+   a 75, if there is one, then the rows of its literals; and so on until no row is left.
+
+   A 75 is told once for a field, with START as the field's and WITHIN as its row, at the least place
+   of these: a # in the source outside of its literals; a backslash in the source; the start of a
+   triple-quoted literal in it that has its own quote inside; just after its first self-documenting =,
+   if anything but spaces follows in the source; in an f-string that is not raw, a backslash in its spec
+   before the first nested field.
+
+   Python turns CR LF and CR into byte 10 before it reads a script; for its fields the caller does so
+   too.
+
+   Ten numbers make one row's place; up to nine left over are not used. A script has at most as many
+   rows as bytes. Refusals are 49, and 53 if there are fewer places than rows. On acceptance the rows
+   stand in front in `rows`, and what follows them is unchanged. On refusal every one of `rows` is 0.
+   `answer` always gets twelve numbers.
+
+   The caller sees to the same as for stumpgarret_read: `rows` and `answer` overlap nothing else that
+   is passed. Any bytes and any length get an answer. */
+void stumpgarret_fields(const uint8_t *script, size_t script_length,
+                        uint32_t *rows, size_t rows_length,
+                        uint32_t answer[STUMPGARRET_ANSWER_NUMBERS]);
 
 #ifdef __cplusplus
 }
