@@ -23,6 +23,7 @@ mod string {
 pub use standins::HELD_NAMES;
 
 pub mod answer;
+pub mod listing;
 pub mod literal;
 pub mod rules;
 pub mod rust;

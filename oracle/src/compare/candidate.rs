@@ -9,7 +9,7 @@ use std::process::{Child, ChildStdin, ChildStdout, Command, Stdio};
 
 use inputs::{FILL_BYTE, FILL_WORD};
 
-use crate::check::{Answer, Room, ROWS};
+use crate::check::{Answer, Room};
 
 /// Requests that go together, and their answers, are less than a pipe holds, so that neither
 /// end waits for the other to read.
@@ -51,16 +51,21 @@ impl Server {
     }
 
     /// Puts a request behind those that are to go, with both buffers filled.
-    fn ask(&mut self, script: &[u8], list: &[u32], (words, text): Room) {
+    fn ask(&mut self, script: &[u8], list: &[u32], room: Room) {
         let size = |size: usize| u32::try_from(size).expect("sizes fit 32 bits");
-        let text_size = if text == ROWS { u32::MAX } else { size(text) };
-        for size in [size(list.len()), size(script.len()), size(words), text_size] {
+        let (words, text) = (room.words(), room.text());
+        let (first, last) = match room {
+            Room::Records { .. } => (size(list.len()), size(text)),
+            Room::Rows(_) => (size(list.len()), u32::MAX),
+            Room::Fields(_) => (u32::MAX - 1, 0),
+        };
+        for size in [first, size(script.len()), size(words), last] {
             self.bytes.extend(size.to_le_bytes());
         }
         self.bytes.extend(list.iter().flat_map(|word| word.to_le_bytes()));
         self.bytes.extend(script);
         self.bytes.extend((0..words).flat_map(|_| FILL_WORD.to_le_bytes()));
-        self.bytes.extend((0..text_lent(text)).map(|_| FILL_BYTE));
+        self.bytes.extend((0..text).map(|_| FILL_BYTE));
     }
 
     fn send(&mut self) {
@@ -70,8 +75,9 @@ impl Server {
         self.bytes.clear();
     }
 
-    fn answer(&mut self, (words, text): Room) -> Answer {
-        let mut bytes = vec![0; size_of_answer((words, text))];
+    fn answer(&mut self, room: Room) -> Answer {
+        let words = room.words();
+        let mut bytes = vec![0; size_of_answer(room)];
         if let Err(error) = self.answers.read_exact(&mut bytes) {
             self.ended(error);
         }
@@ -103,20 +109,11 @@ impl Server {
 }
 
 /// Twelve numbers, the words and the text: as many bytes as both buffers take in a request.
-fn size_of_answer((words, text): Room) -> usize {
-    48 + 4 * words + text_lent(text)
+fn size_of_answer(room: Room) -> usize {
+    48 + 4 * room.words() + room.text()
 }
 
-/// How many text bytes are lent: none where rows are asked for.
-fn text_lent(text: usize) -> usize {
-    if text == ROWS {
-        0
-    } else {
-        text
-    }
-}
-
-/// What is answered with each room.
+/// What is answered with each room. A whole script has no list.
 pub fn read(script: &[u8], list: &[u32], rooms: &[Room]) -> Vec<Answer> {
     SERVER.with_borrow_mut(|server| {
         server.get_or_insert_with(Server::start).read(script, list, rooms)

@@ -1,9 +1,11 @@
 //! One input against the reference, with room enough, just enough and too little.
 
+use std::collections::BTreeMap;
 use std::fmt;
 
 use inputs::{Case, FILL_BYTE, FILL_WORD};
-use oracle::answer::{Numbers, Outcome, Row};
+use oracle::answer::{Numbers, Outcome};
+use oracle::listing::{self, Listing};
 use oracle::rules::{self, RECORD_WORDS, ROW_NUMBERS};
 
 use crate::candidate;
@@ -12,10 +14,32 @@ use crate::candidate;
 const RECORDS_SHOWN: usize = 40;
 const TEXT_SHOWN: usize = 2_000;
 
-/// Words and text bytes that are lent; ROWS in place of the text bytes asks for the rows of the
-/// fields, in the words.
-pub type Room = (usize, usize);
-pub const ROWS: usize = usize::MAX;
+/// What is asked for, and lent for it.
+#[derive(Clone, Copy, Debug)]
+pub enum Room {
+    Records {
+        words: usize,
+        text: usize,
+    },
+    /// The rows of a list's fields.
+    Rows(usize),
+    /// Those of a whole script.
+    Fields(usize),
+}
+
+impl Room {
+    pub fn words(self) -> usize {
+        let (Room::Records { words, .. } | Room::Rows(words) | Room::Fields(words)) = self;
+        words
+    }
+
+    pub fn text(self) -> usize {
+        match self {
+            Room::Records { text, .. } => text,
+            _ => 0,
+        }
+    }
+}
 
 /// The numbers answered, and both buffers. What stands around them is watched by server.c.
 #[derive(PartialEq)]
@@ -26,38 +50,41 @@ pub struct Answer {
 }
 
 impl Answer {
-    /// What an outcome, whose rows are these, answers and leaves with a room.
-    fn expected(outcome: &Outcome, rows: &[Row], room: Room) -> Answer {
-        if room.1 == ROWS {
-            let mut words = vec![FILL_WORD; room.0];
-            let numbers = rules::lay_out_rows(outcome, rows, &mut words);
-            return Answer { numbers, words, text: Vec::new() };
-        }
-        let (mut words, mut text) = (vec![FILL_WORD; room.0], vec![FILL_BYTE; room.1]);
-        let numbers = rules::lay_out(outcome, &mut words, &mut text);
+    /// What is answered and left with a room, by what answers and fills both buffers.
+    fn expected(room: Room, lay_out: impl FnOnce(&mut [u32], &mut [u8]) -> Numbers) -> Answer {
+        let (mut words, mut text) = (vec![FILL_WORD; room.words()], vec![FILL_BYTE; room.text()]);
+        let numbers = lay_out(&mut words, &mut text);
         Answer { numbers, words, text }
     }
-}
 
-impl fmt::Display for Answer {
-    fn fmt(&self, f: &mut fmt::Formatter) -> fmt::Result {
-        writeln!(f, "{:?}", self.numbers)?;
-        for record in self.words.chunks(RECORD_WORDS).take(RECORDS_SHOWN) {
-            writeln!(f, "  {record:?}")?;
-        }
-        write!(f, "  \"{}\"", self.text[..self.text.len().min(TEXT_SHOWN)].escape_ascii())
+    /// In lines of a record or a row.
+    fn shown(&self, room: Room) -> String {
+        let width = if let Room::Records { .. } = room { RECORD_WORDS } else { ROW_NUMBERS };
+        let records = self.words.chunks(width).take(RECORDS_SHOWN);
+        let records: String = records.map(|record| format!("  {record:?}\n")).collect();
+        let text = self.text[..self.text.len().min(TEXT_SHOWN)].escape_ascii();
+        format!("{:?}\n{records}  \"{text}\"", self.numbers)
     }
 }
 
 pub struct Difference {
-    pub room: Room,
-    pub expected: Answer,
-    pub given: Answer,
+    room: Room,
+    expected: Answer,
+    given: Answer,
+}
+
+impl fmt::Display for Difference {
+    fn fmt(&self, f: &mut fmt::Formatter) -> fmt::Result {
+        writeln!(f, "lent: {:?}", self.room)?;
+        writeln!(f, "expected: {}", self.expected.shown(self.room))?;
+        writeln!(f, "given:    {}", self.given.shown(self.room))?;
+        write!(f, "first at {}", self.first())
+    }
 }
 
 impl Difference {
     /// Where the answers first differ.
-    pub fn first(&self) -> String {
+    fn first(&self) -> String {
         let (expected, given) = (&self.expected, &self.given);
         if let Some(at) = first_unequal(&expected.numbers, &given.numbers) {
             format!("number {at}")
@@ -74,58 +101,90 @@ fn first_unequal<T: PartialEq>(one: &[T], other: &[T]) -> Option<usize> {
     one.iter().zip(other).position(|(one, other)| one != other)
 }
 
+/// How many by their number.
+type Counts = BTreeMap<u32, u64>;
+
 /// Compares, and counts what was compared.
 #[derive(Default)]
 pub struct Checker {
     calls: u64,
-    readings: [u64; 32],
-    short_of_room: [u64; 32],
+    lists: Counts,
+    scripts: u64,
+    /// The refusals among their rows; 0 for a field.
+    script_rows: Counts,
+    short_of_room: Counts,
 }
 
 impl Checker {
+    /// A list, by its records and by its rows.
     pub fn check(&mut self, case: &Case) -> Option<Difference> {
         let outcome = rules::reading(&case.script, &case.list);
-        self.readings[outcome.as_ref().map_or_else(|refusal| refusal.number as usize, |_| 0)] += 1;
+        let number = outcome.as_ref().map_or_else(|refusal| refusal.number, |_| 0);
+        *self.lists.entry(number).or_default() += 1;
         let rows = outcome
             .as_ref()
             .map_or(Vec::new(), |accepted| rules::rows(&case.script, &case.list, accepted));
-        let rooms = rooms(&outcome, rows.len());
-        let given = candidate::read(&case.script, &case.list, &rooms);
-        let mut answers = rooms.into_iter().zip(given);
-        answers.find_map(|(room, given)| self.compare(&outcome, &rows, room, given))
+        self.compare(case, &rooms(&outcome, rows.len()), |room, words, text| match room {
+            Room::Records { .. } => rules::lay_out(&outcome, words, text),
+            _ => rules::lay_out_rows(&outcome, &rows, words),
+        })
+    }
+
+    /// A whole script, which has no list; and that it has no more rows than bytes.
+    pub fn check_script(&mut self, case: &Case) -> Option<Difference> {
+        let listing = listing::listing(&case.script);
+        let rows = listing.as_ref().map_or(0, |listing| listing.rows.len());
+        assert!(rows <= case.script.len(), "{rows} rows: {case}");
+        self.scripts += 1;
+        for row in listing.iter().flat_map(|listing| &listing.rows) {
+            let number = if row[0] == 5 { row[3] } else { 0 };
+            *self.script_rows.entry(number).or_default() += 1;
+        }
+        self.compare(case, &script_rooms(listing.as_ref()), |_, words, _| {
+            listing::lay_out(listing.as_ref(), words)
+        })
     }
 
     fn compare(
         &mut self,
-        outcome: &Outcome,
-        rows: &[Row],
-        room: Room,
-        given: Answer,
+        case: &Case,
+        rooms: &[Room],
+        lay_out: impl Fn(Room, &mut [u32], &mut [u8]) -> Numbers,
     ) -> Option<Difference> {
-        let expected = Answer::expected(outcome, rows, room);
-        self.calls += 1;
-        if let number @ (30 | 31) = expected.numbers[0] {
-            self.short_of_room[number as usize] += 1;
-        }
-        (expected != given).then_some(Difference { room, expected, given })
+        let given = candidate::read(&case.script, &case.list, rooms);
+        rooms.iter().zip(given).find_map(|(&room, given)| {
+            let expected = Answer::expected(room, |words, text| lay_out(room, words, text));
+            self.calls += 1;
+            if let number @ (30 | 31 | 53) = expected.numbers[0] {
+                *self.short_of_room.entry(number).or_default() += 1;
+            }
+            (expected != given).then_some(Difference { room, expected, given })
+        })
     }
 
-    /// How many inputs were compared.
-    pub fn inputs(&self) -> u64 {
-        self.readings.iter().sum()
+    /// How many lists were compared, and how many scripts.
+    pub fn lists(&self) -> u64 {
+        self.lists.values().sum()
+    }
+
+    pub fn scripts(&self) -> u64 {
+        self.scripts
     }
 
     pub fn summary(&self) -> String {
-        let counts = |by_number: &[u64; 32]| {
-            let met = by_number.iter().enumerate().filter(|(_, count)| **count > 0);
-            met.map(|(number, count)| format!("{number}: {count}")).collect::<Vec<_>>().join(", ")
+        let counts = |counts: &Counts| {
+            let counts = counts.iter().map(|(number, count)| format!("{number}: {count}"));
+            counts.collect::<Vec<_>>().join(", ")
         };
         format!(
-            "compare: {} inputs in {} calls, no difference; inputs by number (0 accepted): {}; \
-             calls with too little room: {}",
-            self.inputs(),
+            "compare: {} lists and {} scripts in {} calls, no difference; lists by number (0 \
+             accepted): {}; rows of the scripts by number (0 fields): {}; calls with too little \
+             room: {}",
+            self.lists(),
+            self.scripts,
             self.calls,
-            counts(&self.readings),
+            counts(&self.lists),
+            counts(&self.script_rows),
             counts(&self.short_of_room)
         )
     }
@@ -135,20 +194,32 @@ impl Checker {
 /// records need, one byte less than the text, both, and none at all; and the same for the rows of so
 /// many fields.
 fn rooms(outcome: &Outcome, fields: usize) -> Vec<Room> {
+    let records = |words, text| Room::Records { words, text };
     let Ok(accepted) = outcome else {
-        return vec![(11, 5), (0, 0), (11, ROWS)];
+        return vec![records(11, 5), records(0, 0), Room::Rows(11)];
     };
     let numbers = fields * ROW_NUMBERS;
     let (words, text) = (accepted.records.len() * RECORD_WORDS, accepted.text.len());
-    let mut rooms = vec![(words + 11, text + 3), (words, text), (numbers + 7, ROWS)];
+    let mut rooms = vec![records(words + 11, text + 3), records(words, text)];
+    rooms.push(Room::Rows(numbers + 7));
     if fields > 0 {
-        rooms.extend([(numbers, ROWS), (numbers - 1, ROWS)]);
+        rooms.extend([numbers, numbers - 1].map(Room::Rows));
     }
     if words > 0 {
-        rooms.extend([(words - 1, text), (0, 0)]);
+        rooms.extend([records(words - 1, text), records(0, 0)]);
     }
     if text > 0 {
-        rooms.extend([(words, text - 1), (words - 1, text - 1)]);
+        rooms.extend([records(words, text - 1), records(words - 1, text - 1)]);
     }
     rooms
+}
+
+/// The same for the rows of a whole script, and a row less than needed.
+fn script_rooms(listing: Option<&Listing>) -> Vec<Room> {
+    let numbers = listing.map_or(0, |listing| listing.rows.len() * ROW_NUMBERS);
+    let rooms = match numbers {
+        0 => vec![7, 0],
+        _ => vec![numbers + 17, numbers, numbers - 1, numbers - ROW_NUMBERS, 0],
+    };
+    rooms.into_iter().map(Room::Fields).collect()
 }

@@ -14,6 +14,9 @@
    u32 offset, the script, the numbers as they are before the call.
    Answer: 12 u32, the numbers after the call.
 
+   The same with u32 FFFFFFFE in front asks for every field of the script: the numbers are lent for
+   the rows, and the offset is not used.
+
    Requests may come together; what was answered goes out before more is waited for. */
 #include <stdint.h>
 #include <stdio.h>
@@ -24,7 +27,7 @@
 #include "stumpgarret.h"
 
 enum { GUARD = 16, FILL = 0x5A };
-static const uint32_t LITERALS = UINT32_MAX, ROWS = UINT32_MAX;
+static const uint32_t LITERALS = UINT32_MAX, FIELDS = UINT32_MAX - 1, ROWS = UINT32_MAX;
 
 static void *lend(size_t size)
 {
@@ -151,7 +154,7 @@ static void answer_rows(const uint32_t size[4])
     give_back(list, list_size, "the list");
 }
 
-static void answer_literals(const uint32_t size[4])
+static void answer_script(const uint32_t size[4])
 {
     size_t numbers_size = 4 * (size_t)size[2];
     uint8_t *script = lend(size[1]);
@@ -162,7 +165,10 @@ static void answer_literals(const uint32_t size[4])
     memcpy(script_before, script, size[1]);
     uint32_t *answer = lend(48);
     memset(answer, 0xFF, 48);
-    stumpgarret_literals(script, size[1], size[3], numbers, size[2], answer);
+    if (size[0] == LITERALS)
+        stumpgarret_literals(script, size[1], size[3], numbers, size[2], answer);
+    else
+        stumpgarret_fields(script, size[1], numbers, size[2], answer);
     put(answer, 48);
     put(numbers, numbers_size);
     unchanged(script, script_before, size[1], "the script");
@@ -178,8 +184,8 @@ int main(void)
     while (more()) {
         uint32_t size[4];
         take(size, sizeof size);
-        if (size[0] == LITERALS)
-            answer_literals(size);
+        if (size[0] == LITERALS || size[0] == FIELDS)
+            answer_script(size);
         else if (size[3] == ROWS)
             answer_rows(size);
         else

@@ -10,6 +10,7 @@ mod lists;
 mod named;
 mod random;
 mod scalars;
+mod scripts;
 mod short;
 
 pub use case::{Case, FILL_BYTE, FILL_WORD};
@@ -59,4 +60,21 @@ pub fn edges(visit: &mut dyn FnMut(&Case)) {
 /// A random list, sound or damaged.
 pub fn random(random: &mut Random) -> Case {
     lists::list(random)
+}
+
+/// Every enumerated whole script. Such a case has no list.
+pub fn scripts(visit: &mut dyn FnMut(&Case)) {
+    scripts::visit_long(visit);
+    scripts::visit_short(visit);
+}
+
+/// The long ones, and a share of the others.
+pub fn sample_scripts(visit: &mut dyn FnMut(&Case)) {
+    scripts::visit_long(visit);
+    one_in(7, scripts::visit_short, visit);
+}
+
+/// A random whole script, sound or damaged.
+pub fn random_script(random: &mut Random) -> Case {
+    scripts::script(random)
 }
