@@ -174,7 +174,7 @@ impl ConversionFlag {
         }
     }
 
-    fn of(word: u32) -> Option<ConversionFlag> {
+    pub(crate) fn of(word: u32) -> Option<ConversionFlag> {
         [Self::None, Self::Str, Self::Ascii, Self::Repr]
             .into_iter()
             .find(|flag| flag.to_char().map_or(0, u32::from) == word)

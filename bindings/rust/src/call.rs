@@ -35,6 +35,13 @@ extern "C" {
         numbers_length: usize,
         answer: *mut u32,
     );
+    fn stumpgarret_fields(
+        script: *const u8,
+        script_length: usize,
+        rows: *mut u32,
+        rows_length: usize,
+        answer: *mut u32,
+    );
 }
 
 pub(crate) fn read(
@@ -89,6 +96,21 @@ pub(crate) fn literals(script: &[u8], offset: u32, numbers: &mut [u32]) -> [u32;
             offset,
             numbers.as_mut_ptr(),
             numbers.len(),
+            answer.as_mut_ptr(),
+        );
+    }
+    answer
+}
+
+pub(crate) fn fields(script: &[u8], rows: &mut [u32]) -> [u32; ANSWER] {
+    let mut answer = [0; ANSWER];
+    // SAFETY: as above.
+    unsafe {
+        stumpgarret_fields(
+            script.as_ptr(),
+            script.len(),
+            rows.as_mut_ptr(),
+            rows.len(),
             answer.as_mut_ptr(),
         );
     }

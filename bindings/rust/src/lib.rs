@@ -1,7 +1,26 @@
-//! Reads runs of Python string literals to texts, formatted fields and format specs, as
-//! `parse_strings` of rustpython-parser 0.4.0 does, by a library that is proved: what comes out
-//! equals one definition, and no field of an adjacent literal is lost. Expressions are not parsed;
-//! a field carries its own as text.
+//! Lists every formatted field of a Python script, and reads runs of its string literals to texts,
+//! fields and format specs, as `parse_strings` of rustpython-parser 0.4.0 does, by a library that is
+//! proved: what comes out equals one definition, and no field of an adjacent literal is lost.
+//! Expressions are not parsed; a field carries its own as text.
+//!
+//! A whole script in, every field out, those in expressions and specs too; the type tells whether the
+//! list is complete ([`fields`]):
+//!
+//! ```
+//! use stumpgarret::{fields, Listed};
+//!
+//! let listing = fields("print('VDD ' f'{mv / 12.5:.0f}')  # it's\nx = f'{unit!r}'\n")?;
+//! assert!(listing.is_complete());
+//! for row in &listing {
+//!     if let Listed::Field(field) = row.listed {
+//!         println!("{}:{} {} {:?}", row.line, row.column, field.expression, field.spec);
+//!     }
+//! }
+//! # assert_eq!(listing.rows().len(), 2);
+//! # Ok::<(), stumpgarret::Refusal>(())
+//! ```
+//!
+//! Literals that the caller has found, to records:
 //!
 //! ```
 //! use stumpgarret::{parse_strings, ConversionFlag, Literal, Record, StringKind};
@@ -55,12 +74,14 @@
 
 mod answer;
 mod call;
+mod listing;
 mod literal;
 mod refusal;
 mod run;
 mod signs;
 
 pub use answer::{Answer, ConversionFlag, Field, Record, Records, Sort, Spec};
+pub use listing::{fields, Listed, ListedField, ListedRefusal, Listing, Row, Rows};
 pub use literal::{Literal, StringKind};
 pub use refusal::{Reason, Refusal, Unclosed};
 pub use run::{literals_at, read_at, Run};
@@ -72,7 +93,7 @@ use std::borrow::Cow;
 pub const MOST_LITERALS: usize = 1_024;
 /// The most bytes that all bodies of a call have together.
 pub const MOST_BODY_BYTES: usize = 1_048_576;
-/// The most bytes of a script that literals are listed from.
+/// The most bytes of a script that literals or fields are listed from.
 pub const MOST_SCRIPT_BYTES: usize = 1_048_576;
 
 /// Reads literals that stand side by side in a script.

@@ -66,6 +66,8 @@ pub enum Reason {
     TooLittleListRoom {
         numbers: usize,
     },
+    /// Python 3.11 reads a field otherwise, or not at all: only in a [`Listing`](crate::Listing).
+    ReadOtherwise,
     /// An answer that this crate cannot read, so the library linked is not the one it is for.
     UnknownAnswer,
 }
@@ -109,6 +111,7 @@ impl fmt::Display for Reason {
             Self::TooLittleListRoom { numbers } => {
                 return write!(f, "the list buffer is too small: {} numbers are needed", numbers)
             }
+            Self::ReadOtherwise => "Python reads the field otherwise, or not at all",
             Self::UnknownAnswer => "the library linked gives answers that this crate does not know",
         })
     }
@@ -220,8 +223,8 @@ impl Refusal {
     }
 
     pub(crate) fn new(answer: [u32; call::ANSWER]) -> Refusal {
-        let [number, literal, place, _, _, opened, line, column, chars, ..] = answer;
-        let reason = reason(answer).unwrap_or(Reason::UnknownAnswer);
+        let [number, literal, place, a, b, opened, line, column, chars, needed, ..] = answer;
+        let reason = reason(number, [a, b], needed).unwrap_or(Reason::UnknownAnswer);
         let [literal, place, opened, line, column, chars] =
             [literal, place, opened, line, column, chars].map(|n| n as usize);
         Refusal { number, reason, literal, place, opened, line, column, chars }
@@ -243,7 +246,8 @@ impl Refusal {
     }
 }
 
-fn reason([number, _, _, a, b, .., needed, _, _]: [u32; call::ANSWER]) -> Option<Reason> {
+/// By a number, its details, and what is needed for want of room.
+pub(crate) fn reason(number: u32, [a, b]: [u32; 2], needed: u32) -> Option<Reason> {
     let (records, text) = (a as usize, b as usize);
     Some(match number {
         1 => Reason::EmptyList,
@@ -273,6 +277,7 @@ fn reason([number, _, _, a, b, .., needed, _, _]: [u32; call::ANSWER]) -> Option
         51 => Reason::NewlineInLiteral,
         52 => Reason::NoLiteral,
         53 => Reason::TooLittleListRoom { numbers: needed as usize },
+        75 => Reason::ReadOtherwise,
         _ => return None,
     })
 }

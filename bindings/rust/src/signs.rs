@@ -38,7 +38,7 @@ impl FieldSigns {
     }
 
     /// Nothing, if it does not hang together.
-    fn new(row: &[u32]) -> Option<FieldSigns> {
+    pub(crate) fn new(row: &[u32]) -> Option<FieldSigns> {
         let reason = match row[0] {
             1 => ConversionReason::Written,
             2 => ConversionReason::None,

@@ -1,5 +1,6 @@
 //! Real readings through the library.
 mod common;
+mod fields;
 mod literals;
 mod readings;
 mod refusals;
