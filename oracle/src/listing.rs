@@ -1,4 +1,5 @@
-//! Every field of a whole script: document 02's item 11, over this crate's reading of a literal.
+//! Every field of a whole script, by the rules that bindings/include/stumpgarret.h states for
+//! stumpgarret_fields, over this crate's reading of a literal.
 
 use crate::answer::{Numbers, Row};
 use crate::rules::{self, NUMBERS, ROW_NUMBERS};
