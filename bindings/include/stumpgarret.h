@@ -301,10 +301,10 @@ enum stumpgarret_fields_answer {
    a 75, if there is one, then the rows of its literals; and so on until no row is left.
 
    A 75 is told once for a field, with START as the field's and WITHIN as its row, at the least place
-   of these: a # in the source outside of its literals; a backslash in the source; the start of a
-   triple-quoted literal in it that has its own quote inside; just after its first self-documenting =,
-   if anything but spaces follows in the source; in an f-string that is not raw, a backslash in its spec
-   before the first nested field.
+   of these: a # in the source outside of its literals, and not behind a 50 or 51; a backslash in the
+   source; the start of a triple-quoted literal in it that has its own quote inside; just after its
+   first self-documenting =, if anything but spaces follows in the source; in an f-string that is not
+   raw, a backslash in its spec before the first nested field.
 
    Python turns CR LF and CR into byte 10 before it reads a script; for its fields the caller does so
    too.
