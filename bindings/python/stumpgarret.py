@@ -1,15 +1,13 @@
 #!/usr/bin/env python3
-"""Lists the formatted fields in the string literals of Python 3.11 scripts, by the proved library stumpgarret.
+"""Lists every formatted field in the string literals of Python 3.11 scripts, by the proved library stumpgarret.
 
-    python3 stumpgarret.py [--why] SCRIPT...
+    python3 stumpgarret.py [--why] [--json] [--check] SCRIPT...
 
-prints a line for each field: path:line:column, the expression, the conversion with its `!` and the spec with its
-`:`, with tabs between them; with --why also the reason of the conversion. Control characters are shown as Python's
-escapes. What could not be read is told on standard error, and the exit status is then 1.
+`python3 stumpgarret.py --help` says what is printed, and what the exit status means. Any Python from 3.7 on will do.
 
-In a program, `fields` gives the same list, or raises `Incomplete`. `runs` cuts a script into runs of adjacent
-literals, and `read` is the library's call: it reads one run. `literals` is the library's other call: it lists the
-adjacent literals of a script from an offset on.
+In a program, `fields` gives the same list, or raises `Incomplete`; `list_script` gives what is refused as well.
+`rows` is the library's call behind both: every row of a whole script, by places. `read` reads one run of literals, and
+`literals` lists the adjacent literals of a script from an offset on.
 
 The shared library is the one that the variable STUMPGARRET_LIBRARY names, else libstumpgarret.so beside this file,
 else the one under target/python of the clone, where `bindings/python/build` puts it.
@@ -18,18 +16,20 @@ else the one under target/python of the clone, where `bindings/python/build` put
 from __future__ import annotations
 
 import argparse
-import bisect
+import ast
+import codecs
+import collections
 import ctypes
 import enum
 import functools
 import io
-import itertools
+import json
 import os
 import platform
 import re
 import signal
 import sys
-import tokenize
+import warnings
 from collections.abc import Callable, Iterable, Iterator
 from dataclasses import dataclass
 
@@ -136,6 +136,44 @@ class Field:
 
 
 @dataclass(frozen=True)
+class FieldRow:
+    """A field of a whole script. All places count the script's bytes: its literal's `start`, its own `place` just after
+    its `{`, its `signs`. `length` is that of its expression as read, and `within` the number, from 1, of the row in
+    whose expression its literal stands, 0 for a literal of the script."""
+
+    reason: Reason
+    start: int
+    place: int
+    length: int
+    conversion: str | None
+    signs: Signs
+    within: int
+
+
+@dataclass(frozen=True)
+class RefusalRow:
+    """Something of a script that is refused, by a number of `REFUSALS`. `start`, `place` and `within` are as a field's;
+    of 75 `within` is the field's own row. `opened` is just after the bracket that is closed by another, else None."""
+
+    start: int
+    place: int
+    number: int
+    details: tuple[int, int]
+    opened: int | None
+    within: int
+
+
+@dataclass(frozen=True)
+class Rows:
+    """Every row of a script, level by level: those of its literals, then those in their fields' expressions, and so on.
+    How many literals the script has, and how far it was cut into them: to its end, or to a 50 or 51."""
+
+    rows: tuple[FieldRow | RefusalRow, ...]
+    literals: int
+    cut_to: int
+
+
+@dataclass(frozen=True)
 class Bytes:
     """The value of a run of bytes literals, with the whole run's range."""
 
@@ -187,10 +225,17 @@ REFUSALS = {
     51: ("newline in a literal of one quote", ""),
     52: ("no literal at the offset", ""),
     53: ("list buffer too short", ""),
+    75: (
+        "read otherwise by Python",
+        "Python reads this field otherwise or not at all, by a #, a backslash, a triple-quoted literal with its own quote "
+        "inside, or something after a self-documenting =",
+    ),
 }
 NO_LIST_ROOM = 53
 IN_A_BODY = range(10, 29)
-OF_A_LIST = range(49, 54)
+NEVER_CLOSED = 50, 51
+READ_OTHERWISE = 75
+OF_A_LIST = *range(49, 54), READ_OTHERWISE
 
 # Why a brace counts as unclosed, by the first detail of 20.
 UNCLOSED = {
@@ -229,14 +274,12 @@ class Refusal(Exception):
         self.opened = opened
         self.chars = chars
 
-        self.name, self._said = REFUSALS.get(number, ("unknown to this module", ""))
+        self.name = _name(number)
 
     @property
     def meaning(self) -> str:
         """Number and name, and what they mean."""
-        unclosed = UNCLOSED.get(self.details[0], "a field does not end as it should")
-        said = self._said.format(*self.details, unclosed=unclosed)
-        return f"{self.number} {self.name}" + (f": {said}" if said else "")
+        return _meaning(self.number, self.details)
 
     def position(self, line: int, column: int) -> tuple[int, int]:
         """Line and column in a script where the literal's body begins at these, from 1."""
@@ -250,26 +293,38 @@ class Refusal(Exception):
         return f"{at}: {self.meaning}{opened}"
 
 
+def _name(number: int) -> str:
+    return REFUSALS.get(number, ("unknown to this module", ""))[0]
+
+
+def _meaning(number: int, details: tuple[int, int]) -> str:
+    unclosed = UNCLOSED.get(details[0], "a field does not end as it should")
+    said = REFUSALS.get(number, ("", ""))[1].format(*details, unclosed=unclosed)
+    return f"{number} {_name(number)}" + (f": {said}" if said else "")
+
+
 class Unavailable(Exception):
-    """The shared library, or the Python version that is needed, is not there."""
+    """The shared library is not there, or cannot be used."""
 
 
-# The call
+# The calls
 
 SHARED_LIBRARY = "libstumpgarret.so"
 ELF_MACHINES = {62: "x86_64", 183: "aarch64"}
 WORDS_OF_A_RECORD = 8
 NUMBERS_OF_A_ROW = 10
+REFUSAL_ROW = 5
 NUMBERS_OF_A_LITERAL = 6
 MOST_BODY_BYTES = 1_048_576
 FIRST_LITERALS = 16
+FIRST_ROWS = 256
 
 
 def read(script: bytes | str, literals: Iterable[Literal]) -> Answer:
     """Reads a run of literals, whose bodies lie in `script`; a str stands for its UTF-8 bytes.
 
     Raises `Refusal` if the library refuses them, and ValueError for a number that does not fit into 32 bits."""
-    script = _encoded(script) if isinstance(script, str) else bytes(script)
+    script = _bytes(script)
     numbers = _numbers(literals)
     answer, words, text = _call(script, numbers)
     if answer[0]:
@@ -277,8 +332,8 @@ def read(script: bytes | str, literals: Iterable[Literal]) -> Answer:
         raise Refusal(number, literal, place, (a, b), line, column, opened, chars)
     _, sort, u_mark, start, end, _, _, _, chars, *_ = answer
     records = (words[at : at + WORDS_OF_A_RECORD] for at in range(0, len(words), WORDS_OF_A_RECORD))
-    rows = iter(_rows(script, numbers, sum(kind == 2 for kind in words[::WORDS_OF_A_RECORD])))
-    parts = tuple(_record(own, records, text, rows) for own in records)
+    signs = iter(_signs(script, numbers, sum(kind == 2 for kind in words[::WORDS_OF_A_RECORD])))
+    parts = tuple(_record(own, records, text, signs) for own in records)
     return Answer(Sort(sort), bool(u_mark), start, end, parts, chars)
 
 
@@ -288,26 +343,55 @@ def literals(script: bytes | str, offset: int) -> Listing:
     `read` takes the script and what is listed.
 
     Raises `Refusal` if the library refuses it, and ValueError for an offset that does not fit into 32 bits."""
-    script = _encoded(script) if isinstance(script, str) else bytes(script)
+    script = _bytes(script)
     if not 0 <= offset < 2**32:
         raise ValueError(f"the offset is {offset}, which is no number of 32 bits")
-    answer, numbers = _list_call(script, offset, FIRST_LITERALS * NUMBERS_OF_A_LITERAL)
-    if answer[0] == NO_LIST_ROOM:
-        answer, numbers = _list_call(script, offset, answer[9])
-    if answer[0]:
-        raise Refusal(*answer[:3], tuple(answer[3:5]))
+    answer, numbers = _list_call("literals", [script, len(script), offset], FIRST_LITERALS * NUMBERS_OF_A_LITERAL, 1)
     _, count, _, stop, *_ = answer
-    starts = range(0, count * NUMBERS_OF_A_LITERAL, NUMBERS_OF_A_LITERAL)
-    return Listing(tuple(_listed(*numbers[at : at + NUMBERS_OF_A_LITERAL]) for at in starts), stop)
+    return Listing(tuple(_listed(*own) for own in _cut(numbers, NUMBERS_OF_A_LITERAL, count)), stop)
+
+
+def rows(script: bytes | str) -> Rows:
+    """Every row of a whole script; a str stands for its UTF-8 bytes. Line ends are taken as they stand: where Python
+    would read a carriage return as a newline, so must the caller (`list_script` does).
+
+    Raises `Refusal` 49 if the script has more bytes than the library takes."""
+    script = _bytes(script)
+    room = FIRST_ROWS * NUMBERS_OF_A_ROW
+    answer, numbers = _list_call("fields", [script, len(script)], room, NUMBERS_OF_A_ROW)
+    _, count, _, literals, cut_to, *_ = answer
+    return Rows(tuple(_row(*own) for own in _cut(numbers, NUMBERS_OF_A_ROW, count)), literals, cut_to)
 
 
 def _listed(kind: int, triple: int, *rest: int) -> Literal:
     return Literal(Kind(kind), bool(triple), *rest)
 
 
-def _encoded(text: str) -> bytes:
-    """UTF-8; a lone surrogate becomes bytes that are none, which the library refuses."""
-    return text.encode("utf-8", "surrogatepass")
+def _row(sort: int, start: int, place: int, *rest: int) -> FieldRow | RefusalRow:
+    within = rest[6]
+    if sort == REFUSAL_ROW:
+        number, a, b, opened, *_ = rest
+        return RefusalRow(start, place, number, (a, b), opened or None, within)
+    length, conversion, *signs = rest[:6]
+    return FieldRow(Reason(sort), start, place, length, _conversion(conversion), _signs_of(*signs), within)
+
+
+def _conversion(number: int) -> str | None:
+    return chr(number) if number else None
+
+
+def _signs_of(equals: int, bang: int, colon: int, close: int) -> Signs:
+    return Signs(equals or None, bang or None, colon or None, close)
+
+
+def _cut(numbers: list[int], size: int, count: int) -> list[list[int]]:
+    """The first so many groups of so many numbers."""
+    return [numbers[at : at + size] for at in range(0, count * size, size)]
+
+
+def _bytes(script: bytes | str) -> bytes:
+    """A str's UTF-8; a lone surrogate becomes bytes that are none, which the library refuses in an f-string."""
+    return script.encode("utf-8", "surrogatepass") if isinstance(script, str) else bytes(script)
 
 
 def _numbers(literals: Iterable[Literal]) -> list[int]:
@@ -334,33 +418,38 @@ def _call(script: bytes, numbers: list[int]) -> tuple[list[int], list[int], byte
     words = (ctypes.c_uint32 * (records * WORDS_OF_A_RECORD))()
     text = (ctypes.c_char * text_bytes)()
     answer = (ctypes.c_uint32 * 12)()
-    _function()(script, len(script), listed, len(listed), words, len(words), text, len(text), answer)
+    _function("read")(script, len(script), listed, len(listed), words, len(words), text, len(text), answer)
     if answer[0]:
         return list(answer), [], b""
     return list(answer), words[: answer[5] * WORDS_OF_A_RECORD], text[: answer[6]]
 
 
-def _rows(script: bytes, numbers: list[int], fields: int) -> list[list[int]]:
+def _signs(script: bytes, numbers: list[int], fields: int) -> list[list[int]]:
     """The rows of so many fields, which are all fields of literals that are accepted; no call for none."""
     if not fields:
         return []
     listed = (ctypes.c_uint32 * len(numbers))(*numbers)
     rows = (ctypes.c_uint32 * (fields * NUMBERS_OF_A_ROW))()
     answer = (ctypes.c_uint32 * 12)()
-    _signs_function()(script, len(script), listed, len(listed), rows, len(rows), answer)
-    return [rows[at : at + NUMBERS_OF_A_ROW] for at in range(0, len(rows), NUMBERS_OF_A_ROW)]
+    _function("signs")(script, len(script), listed, len(listed), rows, len(rows), answer)
+    return _cut(rows[:], NUMBERS_OF_A_ROW, fields)
 
 
-def _list_call(script: bytes, offset: int, room: int) -> tuple[list[int], list[int]]:
-    """One call with room for so many numbers: answer and list."""
+def _list_call(name: str, lent: list[bytes | int], room: int, size: int) -> tuple[list[int], list[int]]:
+    """Answer and list of a call with room for so many numbers, and of a second one if it tells that more are needed, by
+    so many at once."""
     numbers = (ctypes.c_uint32 * room)()
     answer = (ctypes.c_uint32 * 12)()
-    _list_function()(script, len(script), offset, numbers, len(numbers), answer)
+    _function(name)(*lent, numbers, room, answer)
+    if answer[0] == NO_LIST_ROOM and answer[9] * size > room:
+        return _list_call(name, lent, answer[9] * size, size)
+    if answer[0]:
+        raise Refusal(*answer[:3], tuple(answer[3:5]))
     return list(answer), numbers[:]
 
 
 def _record(
-    own: list[int], following: Iterator[list[int]], text: bytes, rows: Iterator[list[int]]
+    own: list[int], following: Iterator[list[int]], text: bytes, signs: Iterator[list[int]]
 ) -> Text | Field | Bytes:
     """The record of eight words; a field takes its row, and the records of its spec from the following ones."""
     kind, offset, length, start, end, mark, parts, place = own
@@ -369,47 +458,36 @@ def _record(
         return Bytes(own_text, start, end)
     if kind == 1:
         return Text(own_text.decode(), start, end, bool(mark))
-    reason, *_, equals, bang, colon, close, _ = next(rows)
-    signs = Signs(equals or None, bang or None, colon or None, close)
+    row = _row(*next(signs))
     spec = None
     if parts:
         spec_parts = next(following)[6]
-        spec = tuple(_record(next(following), following, text, rows) for _ in range(spec_parts))
-    return Field(own_text.decode(), chr(mark) if mark else None, spec, start, end, place, Reason(reason), signs)
+        spec = tuple(_record(next(following), following, text, signs) for _ in range(spec_parts))
+    return Field(own_text.decode(), _conversion(mark), spec, start, end, place, row.reason, row.signs)
 
 
 TEXT, NUMBERS, LENGTH = ctypes.c_char_p, ctypes.POINTER(ctypes.c_uint32), ctypes.c_size_t
+# The types of each C call's arguments, in order.
+CALLS = {
+    "read": [TEXT, LENGTH, NUMBERS, LENGTH, NUMBERS, LENGTH, TEXT, LENGTH, NUMBERS],
+    "signs": [TEXT, LENGTH, NUMBERS, LENGTH, NUMBERS, LENGTH, NUMBERS],
+    "literals": [TEXT, LENGTH, ctypes.c_uint32, NUMBERS, LENGTH, NUMBERS],
+    "fields": [TEXT, LENGTH, NUMBERS, LENGTH, NUMBERS],
+}
 
 
-@functools.cache
-def _function() -> Callable[..., None]:
-    """The library's function; its nine arguments are those of the C call."""
-    return _loaded("stumpgarret_read", [TEXT, LENGTH, NUMBERS, LENGTH, NUMBERS, LENGTH, TEXT, LENGTH, NUMBERS])
-
-
-@functools.cache
-def _signs_function() -> Callable[..., None]:
-    """The library's function for rows; its seven arguments are those of the C call."""
-    return _loaded("stumpgarret_signs", [TEXT, LENGTH, NUMBERS, LENGTH, NUMBERS, LENGTH, NUMBERS])
-
-
-@functools.cache
-def _list_function() -> Callable[..., None]:
-    """The library's function for literals; its six arguments are those of the C call."""
-    return _loaded("stumpgarret_literals", [TEXT, LENGTH, ctypes.c_uint32, NUMBERS, LENGTH, NUMBERS])
-
-
-def _loaded(name: str, arguments: list[type]) -> Callable[..., None]:
-    """A function of the library, by its name and the types of its arguments."""
+@functools.lru_cache(maxsize=None)
+def _function(name: str) -> Callable[..., None]:
+    """A function of the library, by its name without `stumpgarret_`."""
     path = _library_path()
     machine = _machine_of(path)
     if machine != platform.machine():
         raise Unavailable(f"{path} is for {machine}, and this Python runs on {platform.machine()}")
     try:
-        function = getattr(ctypes.CDLL(path), name)
+        function = getattr(ctypes.CDLL(path), "stumpgarret_" + name)
     except (OSError, AttributeError) as error:
         raise Unavailable(f"{path} cannot be used: {error}") from error
-    function.argtypes = arguments
+    function.argtypes = CALLS[name]
     function.restype = None
     return function
 
@@ -442,68 +520,71 @@ def _machine_of(path: str) -> str:
 
 # Scripts
 
-KINDS = {
-    b"": Kind.STRING,
-    b"f": Kind.FSTRING,
-    b"b": Kind.BYTES,
-    b"r": Kind.RAW_STRING,
-    b"fr": Kind.RAW_FSTRING,
-    b"br": Kind.RAW_BYTES,
-    b"u": Kind.UNICODE,
-}
-OPENING = re.compile(rb"([A-Za-z]*)('''|\"\"\"|'|\")")
-PASSED_OVER = {tokenize.NL, tokenize.COMMENT}
-
-
-@dataclass(frozen=True)
-class Run:
-    """Adjacent literals, which Python takes for one. `source` is how they stand in the script, from the first to the
-    last, and the bodies' offsets count from its beginning. `start` and `end` of each count from the script's."""
-
-    source: bytes
-    literals: tuple[Literal, ...]
+BYTE_ORDER_MARK = "\ufeff"
+CODING_LINE = re.compile(rb"[ \t\f]*#.*?coding[:=][ \t]*([-\w.]+)")
+USUAL_CODINGS = [("utf-8-", "utf-8"), *((begin, "iso-8859-1") for begin in ("latin-1-", "iso-8859-1-", "iso-latin-1-"))]
+BLANK_LINE = re.compile(rb"[ \t\f]*(#|\n|$)")
+CONTINUATION_BYTES = bytes(range(0x80, 0xC0))
 
 
 @dataclass(frozen=True)
 class ScriptField:
-    """A field of a script. Line and column are those of the character after its `{`: both count from 1, the column
-    by characters (the columns of `ast` count from 0, by UTF-8 bytes). `spec` is as it is written, and None if there
-    is no `:`. `record` has what was read. `depth` says in how many other fields, by expression or spec, it stands."""
+    """A field of a script. `line` and `column` are those of the character after its `{`, `end` those after its `}`: they
+    count from 1, columns by characters (those of `ast` count from 0, by UTF-8 bytes). `expression` and `spec` are as
+    they are written; `spec` is None if there is no `:`. `documented` says whether a self-documenting `=` follows the
+    expression; of one that goes on after it (75) `expression` is all of the source. `depth` says in how many other
+    fields, by expression or spec, it stands."""
 
     line: int
     column: int
+    end: tuple[int, int]
+    expression: str
+    documented: bool
+    conversion: str | None
+    reason: Reason
     spec: str | None
-    record: Field
     depth: int
-
-    @property
-    def expression(self) -> str:
-        return self.record.expression
-
-    @property
-    def conversion(self) -> str | None:
-        return self.record.conversion
-
-    @property
-    def reason(self) -> Reason:
-        return self.record.reason
+    row: FieldRow
 
 
 @dataclass(frozen=True)
 class Refused:
-    """Something in a script whose fields are not known. Line and column count from 1, the column by characters.
-    `number` is the library's, and None where the script itself is no Python; `reason` is meant for people. `opened`
-    has line and column just after a bracket that is closed by another."""
+    """Something in a script that is not listed, or that Python reads otherwise (75), by a number of `REFUSALS` and its
+    name. Line and column count from 1, columns by characters. `meaning` and `lost` are meant for people: what it is,
+    and what is not listed because of it. `opened` has line and column just after a bracket that is closed by another.
+    `depth` says in how many fields it stands."""
 
     line: int
     column: int
-    number: int | None
+    number: int
     name: str
-    reason: str
-    opened: tuple[int, int] | None = None
+    meaning: str
+    lost: str
+    opened: tuple[int, int] | None
+    depth: int
+
+    @property
+    def reason(self) -> str:
+        where = ", opened at line {}, column {}".format(*self.opened) if self.opened else ""
+        return f"refused: {self.meaning}{where}" + (f"; {self.lost}" if self.lost else "")
 
 
-NO_PYTHON = "no Python"
+@dataclass(frozen=True)
+class ScriptList:
+    """What is known of a script: `entries` has its fields and what is refused, in the order of their places. `literals`
+    is how many literals it has, and `complete` says whether its fields are all there are."""
+
+    entries: tuple[ScriptField | Refused, ...]
+    literals: int
+    complete: bool
+
+    @property
+    def fields(self) -> list[ScriptField]:
+        return [entry for entry in self.entries if isinstance(entry, ScriptField)]
+
+    @property
+    def refused(self) -> list[Refused]:
+        return [entry for entry in self.entries if isinstance(entry, Refused)]
 
 
 class Incomplete(Exception):
@@ -519,215 +600,275 @@ class Incomplete(Exception):
         return "\n".join(f"{self.name}:{one.line}:{one.column}: {one.reason}" for one in self.refused)
 
 
-def fields(source: str | bytes, name: str = "<script>") -> list[ScriptField]:
+class Undecodable(ValueError):
+    """A script's bytes are no text: its coding is unknown, or its bytes are not of that coding."""
+
+
+def fields(source: bytes | str, name: str = "<script>") -> list[ScriptField]:
     """Every field of a script, in the order in which they begin. A field in another's expression (in an f-string
     there) or in another's spec is an item of its own, and comes after the other.
 
-    The name stands in messages. Raises `Incomplete` if anything is refused, with all that was found."""
+    The name stands in messages. Raises `Incomplete` if anything is refused, with all that was found, and `Undecodable`
+    for bytes that are no text."""
+    found = list_script(source)
+    if not found.complete:
+        raise Incomplete(name, found.fields, found.refused)
+    return found.fields
+
+
+def list_script(source: bytes | str) -> ScriptList:
+    """Every field of a script, and what is refused. Raises `Undecodable` for bytes that are no text."""
+    script = _bytes(text_of(source))
     try:
-        text = text_of(source)
-    except (SyntaxError, UnicodeDecodeError) as error:
-        line = source.count(b"\n", 0, getattr(error, "start", 0)) + 1
-        raise Incomplete(name, [], [Refused(line, 1, None, NO_PYTHON, f"{NO_PYTHON}: {error}")]) from error
-    lister = _Lister(text)
-    lister.list_literals(text, 0, 0)
-    if lister.refused:
-        raise Incomplete(name, lister.found, lister.refused)
-    return lister.found
-
-
-def text_of(source: str | bytes) -> str:
-    """A script's text as Python sees it: decoded by byte order mark or cookie, with newlines for line ends.
-
-    Raises SyntaxError or UnicodeDecodeError where Python would not take its encoding."""
-    if isinstance(source, str):
-        text = source.removeprefix("\ufeff")
-    else:
-        encoding, _ = tokenize.detect_encoding(io.BytesIO(source).readline)
-        text = source.decode(encoding)
-    return text.replace("\r\n", "\n").replace("\r", "\n")
-
-
-class NoPython(Exception):
-    """What Python itself would not take, and its place."""
-
-    def __init__(self, reason: str, place: int):
-        super().__init__(reason, place)
-        self.reason = reason
-        self.place = place
-
-    def __str__(self) -> str:
-        return f"{NO_PYTHON}: {self.reason}"
-
-
-def runs(text: str, base: int = 0) -> Iterator[Run]:
-    """The runs of adjacent literals in the text of a script (see `text_of`), or in a part of it at place `base`.
-
-    Raises `NoPython` where the text cannot be cut into Python's tokens, after the runs before that."""
-    if hasattr(tokenize, "FSTRING_START"):
-        raise Unavailable("Python 3.11 is needed: later ones cut an f-string into several tokens")
-    source = _encoded(text)
-    run = []
-    for string in _strings(text, base):
-        if string:
-            run.append(string)
-        elif run:
-            literals = tuple(_literal(*string, run[0][0]) for string in run)
-            yield Run(source[literals[0].start - base : literals[-1].end - base], literals)
-            run = []
-
-
-def _literal(start: int, string: bytes, first: int) -> Literal:
-    """The literal that starts at a place of the script, in a run that starts at the place `first`."""
-    prefix, quotes = OPENING.match(string).groups()
-    kind = KINDS[bytes(sorted(prefix.lower()))]
-    opening = len(prefix + quotes)
-    length = len(string) - opening - len(quotes)
-    return Literal(kind, len(quotes) == 3, start + opening - first, length, start, start + len(string))
-
-
-def _strings(text: str, base: int) -> Iterator[tuple[int, bytes] | None]:
-    """The string literals of a text at place `base`, each with its place, and None for what ends a run of them."""
-    lines = io.StringIO(text).readlines()
-    places = [*itertools.accumulate((len(_encoded(line)) for line in lines), initial=base)]
-
-    def place_of(line: int, column: int) -> int:
-        return places[line - 1] + len(_encoded(lines[line - 1][:column])) if line <= len(lines) else places[-1]
-
-    try:
-        for token in tokenize.generate_tokens(iter(lines).__next__):
-            if token.type == tokenize.STRING:
-                yield place_of(*token.start), _encoded(token.string)
-            elif token.type == tokenize.ERRORTOKEN and _is_wrong(token.string):
-                raise tokenize.TokenError(f"{token.string.splitlines()[0]} is out of place", token.start)
-            elif token.type not in PASSED_OVER:
-                yield None
-    except tokenize.TokenError as error:
-        yield None
-        raise NoPython(error.args[0], place_of(*error.args[1])) from error
-    except IndentationError as error:
-        raise NoPython(error.msg, place_of(error.lineno, 0)) from error
-
-
-def _is_wrong(string: str) -> bool:
-    """Whether an error token is an error: blanks before one, and rare characters of names, are not."""
-    return string.strip(" \t\f") != "" and not ("_" + string).isidentifier()
-
-
-class _Lister:
-    """Collects the fields of one script, and what is refused."""
-
-    def __init__(self, text: str):
-        self.script = _encoded(text)
-        self.lines = [0, *(newline.end() for newline in re.finditer(b"\n", self.script))]
-        self.found: list[ScriptField] = []
-        self.refused: list[Refused] = []
-
-    def list_literals(self, text: str, base: int, depth: int) -> None:
-        """Lists the fields of all literals in a text that stands at place `base`."""
-        try:
-            for run in runs(text, base):
-                self.list_run(run, depth)
-        except NoPython as error:
-            self.refuse_text(error, "; no field behind it is listed")
-
-    def list_run(self, run: Run, depth: int) -> None:
-        try:
-            answer = read(run.source, run.literals)
-        except Refusal as refusal:
-            self.refuse_run(run, refusal)
-            return
-        for record in answer.records:
-            if isinstance(record, Field):
-                self.list_field(record, depth)
-
-    def list_field(self, field: Field, depth: int) -> None:
-        """Lists a field, those in its expression, and those in its spec."""
-        if self.goes_on(field):
-            error = NoPython(f"{field.expression} goes on after its =", field.place)
-            self.refuse_text(error, "; this field is not listed")
-            return
-        signs = field.signs
-        spec = None if signs.colon is None else self.script[signs.colon : signs.close - 1].decode()
-        self.found.append(ScriptField(*self.position(field.place), spec, field, depth))
-        self.list_literals(f"({field.expression})", field.place - 1, depth + 1)
-        for part in field.spec or ():
-            if isinstance(part, Field):
-                self.list_field(part, depth + 1)
-
-    def goes_on(self, field: Field) -> bool:
-        """Whether anything but spaces stands between a field's first self-documenting `=` and its `!`, `:` or `}`."""
-        signs = field.signs
-        end = signs.bang or signs.colon or signs.close
-        return signs.equals is not None and self.script[signs.equals : end - 1].strip(b" ") != b""
-
-    def refuse_run(self, run: Run, refusal: Refusal) -> None:
-        start, end = run.literals[0].start, run.literals[-1].end
-        first, last = self.position(start)[0], self.position(end)[0]
-        lines = f"line {first}" if first == last else f"lines {first} to {last}"
-        opened = self.position(refusal.opened) if refusal.opened else None
-        where = ", opened at line {}, column {}".format(*opened) if opened else ""
-        reason = f"refused: {refusal.meaning}{where}; no field of the literals in {lines} is listed"
-        if refusal.number in IN_A_BODY:
-            body = start + run.literals[refusal.literal].offset
-            position = refusal.position(*self.position(body))
+        found = rows(script)
+    except Refusal as refusal:
+        return ScriptList((_refused(refusal, (1, 1), "no field of the script is listed", None, 0),), 0, False)
+    by_place = sorted(found.rows, key=lambda row: (row.place, isinstance(row, RefusalRow)))
+    where = positions(script, (place for row in by_place for place in _places(row)))
+    entries, ends = [], []
+    for row in by_place:
+        while ends and ends[-1] <= row.place:
+            ends.pop()
+        if isinstance(row, FieldRow):
+            entries.append(_field(script, row, where, len(ends)))
+            ends.append(row.signs.close)
         else:
-            position = self.position(refusal.place or start)
-        self.refused.append(Refused(*position, refusal.number, refusal.name, reason, opened))
+            opened = None if row.opened is None else where[row.opened]
+            entries.append(_refused(row, where[row.place], _lost(row, where), opened, len(ends)))
+    complete = found.cut_to == len(script) and not any(isinstance(entry, Refused) for entry in entries)
+    return ScriptList(tuple(entries), found.literals, complete)
 
-    def refuse_text(self, error: NoPython, lost: str) -> None:
-        self.refused.append(Refused(*self.position(error.place), None, NO_PYTHON, str(error) + lost))
 
-    def position(self, place: int) -> tuple[int, int]:
-        """The line and column of a place, both from 1."""
-        line = bisect.bisect_right(self.lines, place)
-        return line, len(self.script[self.lines[line - 1] : place].decode("utf-8", "replace")) + 1
+def text_of(source: bytes | str) -> str:
+    """A script's text as Python sees it: decoded by byte order mark or coding line, with newlines for line ends.
+
+    Raises `Undecodable` where Python would not take its coding."""
+    if isinstance(source, str):
+        text = source[1:] if source.startswith(BYTE_ORDER_MARK) else source
+        return text.replace("\r\n", "\n").replace("\r", "\n")
+    content = bytes(source).replace(b"\r\n", b"\n").replace(b"\r", b"\n")
+    marked = content.startswith(codecs.BOM_UTF8)
+    content = content[len(codecs.BOM_UTF8) :] if marked else content
+    coding = _coding(content)
+    if marked and coding != "utf-8":
+        raise Undecodable(f"its coding line says {coding}, and it has a byte order mark of UTF-8")
+    try:
+        return content.decode(coding)
+    except LookupError as error:
+        raise Undecodable(f"unknown coding {coding}: {error}") from error
+    except UnicodeError as error:
+        line = content.count(b"\n", 0, getattr(error, "start", 0)) + 1
+        raise Undecodable(f"line {line} is not {coding}: {error}") from error
+
+
+def _coding(content: bytes) -> str:
+    """What a coding line says, by PEP 263: it is one of the first two lines, and a comment or nothing stands before it."""
+    first, _, rest = content.partition(b"\n")
+    found = CODING_LINE.match(first)
+    if not found and BLANK_LINE.match(first):
+        found = CODING_LINE.match(rest.partition(b"\n")[0])
+    name = found[1].decode() if found else "utf-8"
+    plain = name[:12].lower().replace("_", "-") + "-"
+    return next((usual for begin, usual in USUAL_CODINGS if plain.startswith(begin)), name)
+
+
+def positions(script: bytes, places: Iterable[int]) -> dict[int, tuple[int, int]]:
+    """Line and column of places in UTF-8 bytes, in one pass: both count from 1, columns by characters."""
+    found = {}
+    line, column, at = 1, 1, 0
+    for place in sorted(set(places)):
+        newlines = script.count(b"\n", at, place)
+        if newlines:
+            line += newlines
+            column, at = 1, script.rindex(b"\n", at, place) + 1
+        column += len(script[at:place].translate(None, CONTINUATION_BYTES))
+        at = place
+        found[place] = line, column
+    return found
+
+
+def _places(row: FieldRow | RefusalRow) -> tuple[int, ...]:
+    """The places of a row that have a line and column to be told."""
+    return (row.place, row.signs.close) if isinstance(row, FieldRow) else (row.start, row.place, row.opened or 0)
+
+
+def _field(script: bytes, row: FieldRow, where: dict[int, tuple[int, int]], depth: int) -> ScriptField:
+    signs = row.signs
+    end = (signs.bang or signs.colon or signs.close) - 1
+    documented = signs.equals is not None and not script[signs.equals : end].strip(b" ")
+    expression = script[row.place : signs.equals - 1 if documented else end].decode()
+    spec = None if signs.colon is None else script[signs.colon : signs.close - 1].decode()
+    place, close = where[row.place], where[signs.close]
+    return ScriptField(*place, close, expression, documented, row.conversion, row.reason, spec, depth, row)
+
+
+def _refused(
+    one: RefusalRow | Refusal, place: tuple[int, int], lost: str, opened: tuple[int, int] | None, depth: int
+) -> Refused:
+    return Refused(*place, one.number, _name(one.number), _meaning(one.number, one.details), lost, opened, depth)
+
+
+def _lost(row: RefusalRow, where: dict[int, tuple[int, int]]) -> str:
+    """What is not listed because of a refusal."""
+    if row.number == READ_OTHERWISE:
+        return ""
+    if row.number in NEVER_CLOSED:
+        return "no field behind it in the expression is listed" if row.within else "no field behind it is listed"
+    return "no field of the literal at line {}, column {} is listed".format(*where[row.start])
+
+
+# Python's own reading
+
+PYTHON_OF_THE_CHECK = 3, 11
+NOT_TAKEN = SyntaxError, ValueError, RecursionError, MemoryError
+OPENING = re.compile(rb"[A-Za-z]*('''|\"\"\"|'|\")")
+
+
+def differences(source: bytes, found: ScriptList) -> list[str]:
+    """Where the fields found of a script are not those that Python's own `ast` gives: expression, conversion and spec,
+    as Python reads each of them; a line of text for each. Python must be 3.11, whose grammar it is."""
+    with warnings.catch_warnings():
+        warnings.simplefilter("ignore")
+        try:
+            tree = ast.parse(source)
+        except NOT_TAKEN as error:
+            return [f"{getattr(error, 'lineno', None) or 1}: Python refuses the script: {error}"]
+        python, ours = collections.defaultdict(list), collections.defaultdict(list)
+        for node in ast.walk(tree):
+            if isinstance(node, ast.FormattedValue):
+                spec = node.format_spec and ast.dump(node.format_spec)
+                python[ast.dump(node.value), max(node.conversion, 0), spec].append(node)
+        script = _bytes(text_of(source))
+        for field in found.fields:
+            key = _dump(f"({field.expression})"), ord(field.conversion or "\0"), _spec_dump(script, field)
+            ours[key].append(field)
+    lacking = [node for key, nodes in python.items() for node in nodes[len(ours.get(key, ())) :]]
+    more = [field for key, listed in ours.items() for field in listed[len(python.get(key, ())) :]]
+    said = [f"{node.lineno}: Python alone has {_unparsed(node)}" for node in lacking]
+    return said + [f"{field.line}:{field.column}: Python does not have {_braced(field)}" for field in more]
+
+
+def _dump(expression: str) -> str:
+    """What Python reads of an expression; one that it does not take stays as it is."""
+    try:
+        return ast.dump(ast.parse(expression, mode="eval").body)
+    except NOT_TAKEN:
+        return expression
+
+
+def _spec_dump(script: bytes, field: ScriptField) -> str | None:
+    """What Python reads of a spec in its literal's quotes."""
+    if field.spec is None:
+        return None
+    opening = OPENING.match(script, field.row.start)
+    literal = f"({opening[0].decode()}{{x:{field.spec}}}{opening[1].decode()})"
+    try:
+        return ast.dump(ast.parse(literal, mode="eval").body.values[0].format_spec)
+    except (*NOT_TAKEN, AttributeError):
+        return field.spec
+
+
+def _unparsed(node: ast.FormattedValue) -> str:
+    try:
+        return ast.unparse(ast.JoinedStr([node]))
+    except ValueError:
+        return ast.dump(node)
+
+
+def _braced(field: ScriptField) -> str:
+    return _one_line("{" + "".join(_columns(field)) + "}")
 
 
 # The command
 
+COMPLETE, INCOMPLETE, UNREAD = range(3)
+STANDARD_INPUT = "-"
+EPILOG = r"""
+A line for each field, with tabs between: path:line:column of its expression, the expression, the conversion with its
+`!`, the spec with its `:`. They are sorted by place; a field in the expression or spec of another comes after it. A
+self-documenting `=` is shown behind the expression. A control character is shown as Python's escape, a newline as \n,
+and a backslash as two: a written \n is \\n. What is refused is told on standard error.
+
+Exit status: 0 if these are all fields of all scripts, 1 if something was refused (or --check found a difference),
+2 for a wrong use, for a script that cannot be read or decoded, and without the shared library.
+"""
+
 
 def main(arguments: list[str] | None = None) -> int:
-    """Prints the fields of the scripts that are named; the exit status is 0 if those are all fields of all of them."""
-    parser = argparse.ArgumentParser(description="Lists the formatted fields in the string literals of Python scripts.")
-    parser.add_argument("--why", action="store_true", help="add the reason of each conversion")
-    parser.add_argument("scripts", nargs="+", metavar="SCRIPT")
+    """The command; gives its exit status."""
+    given = _arguments(arguments)
     for stream in (sys.stdout, sys.stderr):
         if isinstance(stream, io.TextIOWrapper):
             stream.reconfigure(errors="backslashreplace")
     try:
-        given = parser.parse_args(arguments)
-        complete = [_print_fields(path, given.why) for path in given.scripts]
+        return max(_print_script(path, given) for path in given.scripts)
     except Unavailable as error:
         print(f"stumpgarret: {error}", file=sys.stderr)
-        return 2
-    return 0 if all(complete) else 1
+        return UNREAD
 
 
-def _print_fields(path: str, why: bool) -> bool:
-    """Prints a script's fields; whether all of them are known."""
-    complete = False
+def _arguments(arguments: list[str] | None) -> argparse.Namespace:
+    parser = argparse.ArgumentParser(
+        description="Lists every formatted field in the string literals of Python scripts.",
+        epilog=EPILOG,
+        formatter_class=argparse.RawDescriptionHelpFormatter,
+    )
+    parser.add_argument("--why", action="store_true", help="add the reason of each conversion")
+    parser.add_argument("--json", action="store_true", help="a JSON object for each field, and for each refusal")
+    parser.add_argument("--check", action="store_true", help="compare with Python's own ast (Python 3.11 only)")
+    parser.add_argument("scripts", nargs="+", metavar="SCRIPT", help="a path, or - for standard input")
+    given = parser.parse_args(arguments)
+    if given.check and sys.version_info[:2] != PYTHON_OF_THE_CHECK:
+        parser.error("--check needs Python 3.11, and this is {}.{}".format(*sys.version_info))
+    return given
+
+
+def _print_script(path: str, given: argparse.Namespace) -> int:
+    """Prints what is known of a script; gives the exit status for it."""
+    name = "<stdin>" if path == STANDARD_INPUT else path
     try:
-        with open(path, "rb") as file:
-            found = fields(file.read(), path)
-        complete = True
-    except OSError as error:
-        found = []
-        print(f"{path}: {error.strerror}", file=sys.stderr)
-    except Incomplete as error:
-        found = error.fields
-        print(error, file=sys.stderr)
-    for field in found:
-        conversion = f"!{field.conversion}" if field.conversion else ""
-        spec = "" if field.spec is None else f":{field.spec}"
-        at = f"{path}:{field.line}:{field.column}"
-        reason = (REASONS[field.reason],) if why else ()
-        print(*map(_one_line, (at, field.expression, conversion, spec, *reason)), sep="\t")
-    return complete
+        source = _content(path)
+        found = list_script(source)
+    except (OSError, Undecodable) as error:
+        _complain(name, f" {getattr(error, 'strerror', None) or error}")
+        return UNREAD
+    for entry in found.entries:
+        if given.json:
+            print(json.dumps({"file": name, **_json(entry)}))
+        elif isinstance(entry, ScriptField):
+            reason = (REASONS[entry.reason],) if given.why else ()
+            print(*map(_one_line, (f"{name}:{entry.line}:{entry.column}", *_columns(entry), *reason)), sep="\t")
+    told = [f"{one.line}:{one.column}: {one.reason}" for one in found.refused]
+    told += differences(source, found) if given.check else []
+    for said in told:
+        _complain(name, said)
+    return COMPLETE if found.complete and not told else INCOMPLETE
+
+
+def _content(path: str) -> bytes:
+    if path == STANDARD_INPUT:
+        return sys.stdin.buffer.read()
+    with open(path, "rb") as file:
+        return file.read()
+
+
+def _complain(name: str, said: str) -> None:
+    print(f"{_one_line(name)}:{said}", file=sys.stderr)
+
+
+def _columns(field: ScriptField) -> tuple[str, str, str]:
+    """Expression, conversion and spec, as they are shown."""
+    conversion = f"!{field.conversion}" if field.conversion else ""
+    return field.expression + "=" * field.documented, conversion, "" if field.spec is None else f":{field.spec}"
+
+
+def _json(entry: ScriptField | Refused) -> dict[str, object]:
+    said = {name: value for name, value in vars(entry).items() if name not in ("row", "lost")}
+    return {**said, "reason": entry.reason.name.lower()} if isinstance(entry, ScriptField) else said
 
 
 def _one_line(text: str) -> str:
-    return re.sub(r"[\x00-\x1f\x7f-\x9f\u2028\u2029]", lambda control: ascii(control[0])[1:-1], text)
+    return re.sub(r"[\\\x00-\x1f\x7f-\x9f\u2028\u2029]", lambda shown: ascii(shown[0])[1:-1], text)
 
 
 if __name__ == "__main__":

@@ -4,6 +4,7 @@ Where this Python cannot load the library, the variable STUMPGARRET_SERVER has t
 (oracle/src/compare/server.c, which says what goes over the pipe). All but the call by ctypes is then tested.
 """
 
+import contextlib
 import ctypes
 import importlib.machinery
 import importlib.util
@@ -12,6 +13,7 @@ import pathlib
 import struct
 import subprocess
 import sys
+from unittest import mock
 
 sys.dont_write_bytecode = True
 
@@ -49,8 +51,14 @@ class Server:
         self.ask(head + bytes(numbers) + script[:script_length] + bytes(rows), answer, rows)
 
     def literals(self, script, script_length, offset, numbers, numbers_length, answer):
-        head = struct.pack("<4I", 2**32 - 1, script_length, numbers_length, offset)
-        self.ask(head + script[:script_length] + bytes(numbers), answer, numbers)
+        self.ask_script(2**32 - 1, script[:script_length], offset, numbers, answer)
+
+    def fields(self, script, script_length, rows, rows_length, answer):
+        self.ask_script(2**32 - 2, script[:script_length], 0, rows, answer)
+
+    def ask_script(self, verb, script, offset, numbers, answer):
+        head = struct.pack("<4I", verb, len(script), len(numbers), offset)
+        self.ask(head + script + bytes(numbers), answer, numbers)
 
     def ask(self, request, *written):
         self.process.stdin.write(request)
@@ -64,11 +72,23 @@ class Server:
             got = got[size:]
 
 
+@contextlib.contextmanager
+def calls_of(name):
+    """Collects the arguments of each call of one of the library's functions."""
+    function = stumpgarret._function
+    seen = []
+
+    def counted(*arguments):
+        seen.append(arguments)
+        function(name)(*arguments)
+
+    with mock.patch.object(stumpgarret, "_function", lambda other: counted if other == name else function(other)):
+        yield seen
+
+
 load_function = stumpgarret._function.__wrapped__
 command = os.environ.get("STUMPGARRET_SERVER")
 HAS_STANDIN = command is not None
 if HAS_STANDIN:
     server = Server(command.split())
-    stumpgarret._function = lambda: server.read
-    stumpgarret._signs_function = lambda: server.signs
-    stumpgarret._list_function = lambda: server.literals
+    stumpgarret._function = lambda name: getattr(server, name)

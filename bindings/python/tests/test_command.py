@@ -2,6 +2,7 @@
 
 import contextlib
 import io
+import json
 import os
 import pathlib
 import subprocess
@@ -14,6 +15,7 @@ from support import HAS_STANDIN, stumpgarret
 
 BENCH = 'print("VDD "\n      f"{mv / 12.5:.0f} {n!r}\\n")\n'
 BENCH_FIELDS = "bench.py:2:10\tmv / 12.5\t\t:.0f\nbench.py:2:26\tn\t!r\t\n"
+IS_3_11 = sys.version_info[:2] == (3, 11)
 
 
 class Command(unittest.TestCase):
@@ -21,23 +23,31 @@ class Command(unittest.TestCase):
         self.folder = self.enterContext(tempfile.TemporaryDirectory())
         self.enterContext(contextlib.chdir(self.folder))
 
-    def run_on(self, **scripts):
+    def run_on(self, *options, **scripts):
         """Exit status, output and errors of the command over scripts, whose names get an ending."""
         for name, content in scripts.items():
-            pathlib.Path(name + ".py").write_bytes(content.encode())
-        return self.run_main(*(name + ".py" for name in scripts))
+            pathlib.Path(name + ".py").write_bytes(content if isinstance(content, bytes) else content.encode())
+        return self.run_main(*options, *(name + ".py" for name in scripts))
 
-    def run_main(self, *arguments):
+    def run_main(self, *arguments, given=b""):
         with contextlib.redirect_stdout(io.StringIO()) as out, contextlib.redirect_stderr(io.StringIO()) as err:
-            status = stumpgarret.main(list(arguments))
+            with mock.patch.object(sys, "stdin", io.TextIOWrapper(io.BytesIO(given))):
+                status = stumpgarret.main(list(arguments))
         return status, out.getvalue(), err.getvalue()
 
+    def wrong_use(self, *arguments):
+        with contextlib.redirect_stderr(io.StringIO()) as err, self.assertRaises(SystemExit) as caught:
+            stumpgarret.main(list(arguments))
+        self.assertEqual(caught.exception.code, 2)
+        return err.getvalue()
+
+
+class Plain(Command):
     def test_fields(self):
         self.assertEqual(self.run_on(bench=BENCH), (0, BENCH_FIELDS, ""))
 
     def test_why(self):
-        pathlib.Path("a.py").write_text("f'{x!r}{y=}{z=:3}{w}'")
-        status, out, err = self.run_main("--why", "a.py")
+        status, out, err = self.run_on("--why", a="f'{x!r}{y=}{z=:3}{w}'")
         reasons = ["written after `!`", "repr: `=` with no spec", "none: `=` with a spec", "none: no `!` and no `=`"]
         self.assertEqual((status, [line.split("\t")[4] for line in out.splitlines()], err), (0, reasons, ""))
 
@@ -45,53 +55,178 @@ class Command(unittest.TestCase):
         status, out, err = self.run_on(a="f'{x:}'", b="1", c="f'{y}'")
         self.assertEqual((status, out, err), (0, "a.py:1:4\tx\t\t:\nc.py:1:4\ty\t\t\n", ""))
 
+    def test_self_documenting(self):
+        self.assertEqual(self.run_on(a="f'{x = }{y=:3}'")[1], "a.py:1:4\tx =\t!r\t\na.py:1:10\ty=\t\t:3\n")
+
+    def test_sorted_by_place(self):
+        status, out, _ = self.run_on(a="f'{g(f\"{a}\"):{b}}' f'{f\"{c}\"}'\nf'{d}'")
+        places = [tuple(map(int, line.split("\t")[0].split(":")[1:])) for line in out.splitlines()]
+        self.assertEqual((status, places), (0, [(1, 4), (1, 9), (1, 15), (1, 23), (1, 26), (2, 4)]))
+
     def test_a_line_each(self):
-        status, out, _ = self.run_on(a="f'''{\n(\tx)\\\n:\t\\t}'''".replace("\\\n", ""))
-        self.assertEqual((status, out), (0, "a.py:1:6\t\\n(\\tx)\t\t:\\t\\t\n"))
+        """A newline is told apart from a written backslash and letter."""
+        status, out, _ = self.run_on(a="f'''{\n(\tx)!r:{w}\t\n\\n\\\\}'''")
+        self.assertEqual((status, out.splitlines()[0]), (0, r"a.py:1:6" "\t" r"\n(\tx)" "\t!r\t" r":{w}\t\n\\n\\\\"))
+        _, out, _ = self.run_on(a="f'{x:{w}\\n\x7f\x85\u2028é}'")
+        self.assertEqual(out.splitlines()[0].split("\t")[3], r":{w}\\n\x7f\x85\u2028é")
 
     def test_refused(self):
         status, out, err = self.run_on(a="f'{x}'\nf'}'", b="f'{y}'")
         self.assertEqual((status, out), (1, "a.py:1:4\tx\t\t\nb.py:1:4\ty\t\t\n"))
-        self.assertRegex(err, r"^a.py:2:4: refused: 25 SingleRbrace: a single } .*\n$")
+        lost = "no field of the literal at line 2, column 1 is listed"
+        self.assertEqual(err, f"a.py:2:4: refused: 25 SingleRbrace: a single }} stands in an f-string; {lost}\n")
 
     def test_opened(self):
         status, out, err = self.run_on(a="f'''{f(\n[x)}'''")
         self.assertEqual((status, out), (1, ""))
         said = "refused: 23 MismatchedDelimiter: [ is closed by ), opened at line 2, column 2"
-        self.assertEqual(err, f"a.py:2:4: {said}; no field of the literals in lines 1 to 2 is listed\n")
+        self.assertEqual(err, f"a.py:2:4: {said}; no field of the literal at line 1, column 1 is listed\n")
 
-    def test_no_python(self):
+    def test_cut_ended_early(self):
         status, out, err = self.run_on(a="f'{x}' '")
         self.assertEqual((status, out), (1, "a.py:1:4\tx\t\t\n"))
-        self.assertRegex(err, r"^a.py:1:8: no Python: ' is out of place; no field behind it is listed\n$")
+        self.assertEqual(err, "a.py:1:8: refused: 50 quote never closed; no field behind it is listed\n")
 
-    def test_missing_script(self):
+    def test_read_otherwise(self):
+        status, out, err = self.run_on(a="f'{x#}'")
+        self.assertEqual((status, out), (1, "a.py:1:4\tx#\t\t\n"))
+        self.assertRegex(err, "^a.py:1:5: refused: 75 read otherwise by Python: Python reads this field otherwise or not")
+
+    def test_too_long(self):
+        status, out, err = self.run_on(a=1_048_577 * " ")
+        said = "a.py:1:1: refused: 49 script over 1,048,576 bytes; no field of the script is listed\n"
+        self.assertEqual((status, out, err), (1, "", said))
+
+    def test_unread(self):
+        """The others are read all the same, and the worst status is the command's."""
         pathlib.Path("b.py").write_text("f'{y}'")
-        self.assertEqual(self.run_main("a.py", "b.py"), (1, "b.py:1:4\ty\t\t\n", "a.py: No such file or directory\n"))
+        pathlib.Path("c.py").write_text("f'}'")
+        status, out, err = self.run_main("a.py", "b.py")
+        self.assertEqual((status, out, err), (2, "b.py:1:4\ty\t\t\n", "a.py: No such file or directory\n"))
+        status, out, err = self.run_main("b.py", ".", "c.py")
+        self.assertEqual((status, out, err.splitlines()[0]), (2, "b.py:1:4\ty\t\t\n", ".: Is a directory"))
+        self.assertEqual(len(err.splitlines()), 2)
+        self.assertEqual(self.run_main("c.py", "b.py")[0], 1)
 
-    def test_no_script(self):
-        with self.assertRaises(SystemExit) as caught:
-            self.run_main()
-        self.assertEqual(caught.exception.code, 2)
+    def test_undecodable(self):
+        status, out, err = self.run_on(a=b"# coding: unknown\nf'{x}'", b="f'{y}'", c=b"\n'\xff'")
+        self.assertEqual((status, out), (2, "b.py:1:4\ty\t\t\n"))
+        self.assertRegex(err, r"^a.py: unknown coding unknown.*\nc.py: line 2 is not utf-8: .*\n$")
+
+    def test_standard_input(self):
+        said = "<stdin>:2:4\té\t\t\n"
+        self.assertEqual(self.run_main("-", given="# coding: latin-1\r\nf'{é}'".encode("latin-1")), (0, said, ""))
+        self.assertEqual(self.run_main("-", given=b"'"), (1, "", mock.ANY))
+        self.assertEqual(self.run_main("-", given=b"\xff"), (2, "", mock.ANY))
+
+    def test_wrong_use(self):
+        self.assertIn("SCRIPT", self.wrong_use())
+        self.assertIn("--unknown", self.wrong_use("--unknown", "a.py"))
+
+    def test_help(self):
+        with contextlib.redirect_stdout(io.StringIO()) as out, self.assertRaises(SystemExit) as caught:
+            stumpgarret.main(["--help"])
+        self.assertEqual(caught.exception.code, 0)
+        for said in (r"a newline as \n", r"a written \n is \\n", "Exit status: 0 if these are all", "or - for standard input"):
+            self.assertIn(said, out.getvalue())
 
     def test_no_library(self):
         unavailable = mock.Mock(side_effect=stumpgarret.Unavailable("it is missing"))
         with mock.patch.object(stumpgarret, "_function", unavailable):
             self.assertEqual(self.run_on(a="''"), (2, "", "stumpgarret: it is missing\n"))
 
-    def test_later_python(self):
-        with mock.patch.object(stumpgarret.tokenize, "FSTRING_START", 61, create=True):
-            status, out, err = self.run_on(a="f'{x}'")
-        self.assertEqual((status, out), (2, ""))
-        self.assertRegex(err, "^stumpgarret: Python 3.11 is needed")
-
     @unittest.skipIf(HAS_STANDIN, "a process of its own has no stand-in for the library")
     def test_process(self):
         """The command as it is used; STUMPGARRET_PYTHON has the command of a Python that can load the library."""
         python = os.environ.get("STUMPGARRET_PYTHON", sys.executable).split()
         pathlib.Path("bench.py").write_text(BENCH)
-        ran = subprocess.run([*python, stumpgarret.__file__, "bench.py"], capture_output=True, text=True)
-        self.assertEqual((ran.returncode, ran.stdout, ran.stderr), (0, BENCH_FIELDS, ""))
+        for path, shown in (("bench.py", BENCH_FIELDS), ("-", BENCH_FIELDS.replace("bench.py", "<stdin>"))):
+            with open("bench.py") as given:
+                command = [*python, stumpgarret.__file__, path]
+                ran = subprocess.run(command, stdin=given, capture_output=True, text=True)
+            self.assertEqual((ran.returncode, ran.stdout, ran.stderr), (0, shown, ""))
+
+
+class Json(Command):
+    def lines(self, source):
+        status, out, err = self.run_on("--json", a=source)
+        return status, [json.loads(line) for line in out.splitlines()], err
+
+    def test_fields(self):
+        field = {"file": "a.py", "line": 1, "column": 7, "end": [3, 2], "expression": "é\n", "documented": True}
+        field.update({"conversion": "r", "reason": "written", "spec": ">{w}\n", "depth": 0})
+        nested = {"file": "a.py", "line": 2, "column": 7, "end": [2, 9], "expression": "w", "documented": False}
+        nested.update({"conversion": None, "reason": "none", "spec": None, "depth": 1})
+        status, lines, err = self.lines("rf'''{é\n=!r:>{w}\n}'''")
+        self.assertEqual((status, lines, err), (0, [field, nested], ""))
+        self.assertEqual([*lines[0]], [*field])
+
+    def test_reasons_and_depths(self):
+        _, lines, _ = self.lines("f'{x!r}{y=}{z=:3}{w}'")
+        self.assertEqual([line["reason"] for line in lines], ["written", "repr", "spec", "none"])
+        _, lines, _ = self.lines("f'''{f\"{w:{g(f'{v}')}}\"}{x}'''")
+        depths = [(line["expression"], line["depth"]) for line in lines]
+        self.assertEqual(depths[1:], [("w", 1), ("g(f'{v}')", 2), ("v", 3), ("x", 0)])
+
+    def test_refusals(self):
+        """They stand at their place among the fields, and on standard error."""
+        status, lines, err = self.lines("f'{x}' f'{(]}' f'{y}' f'{z#}' '")
+        self.assertEqual((status, [line.get("number") for line in lines]), (1, [None, 23, None, None, 75, 50]))
+        mismatched = {"file": "a.py", "line": 1, "column": 13, "number": 23, "name": "MismatchedDelimiter"}
+        mismatched.update({"meaning": "23 MismatchedDelimiter: ( is closed by ]", "opened": [1, 12], "depth": 0})
+        self.assertEqual(lines[1], mismatched)
+        self.assertEqual([(line["depth"], line["opened"]) for line in lines[4:]], [(1, None), (0, None)])
+        self.assertEqual(len(err.splitlines()), 3)
+
+    def test_ascii(self):
+        _, out, _ = self.run_on("--json", **{"é": "f'{é}'"})
+        self.assertTrue(out.isascii())
+
+
+@unittest.skipUnless(IS_3_11, "Python 3.11 has the grammar")
+class Check(Command):
+    def test_no_difference(self):
+        status, out, err = self.run_on("--check", a="f'{x!r:>{w=}\\t}' f'''{f\"{y:{w}}\"\n}'''", b=BENCH)
+        self.assertEqual((status, len(out.splitlines()), err), (0, 7, ""))
+        self.assertEqual(self.run_on("--check", a=b"# coding: latin-1\rf'\xe9{\xe9:\xe9>5}'\r")[0], 0)
+
+    def test_told_difference(self):
+        status, _, err = self.run_on("--check", a="\nf'{\"\"\"\"{{\"}\"\"\"}{\"\"\"\"}}\":\"\"\"}'")
+        self.assertEqual((status, len(err.splitlines())), (1, 4))
+        self.assertRegex(err, r"a.py:2:4: refused: 75 .*\n(a.py:2: Python alone has f.*\n){2}a.py:2:4: Python does not have {\"")
+
+    def test_each_difference(self):
+        """Expression, conversion and spec count, and so does how often they stand there."""
+        source = b"f'{x!r:3}' f'{x!r:3}'"
+        found = stumpgarret.list_script(source)
+        self.assertEqual(stumpgarret.differences(source, found), [])
+        for other in (b"f'{y!r:3}'", b"f'{x!s:3}'", b"f'{x!r:4}'", b"f'{x!r}'"):
+            said = [f"1: Python alone has {other.decode()}", "1:15: Python does not have {x!r:3}"]
+            self.assertEqual(stumpgarret.differences(other.ljust(10) + source[10:], found), said)
+        self.assertEqual(stumpgarret.differences(source[:13] + b"'", found), ["1:15: Python does not have {x!r:3}"])
+        self.assertEqual(stumpgarret.differences(2 * source, found), 2 * ["1: Python alone has f'{x!r:3}'"])
+
+    def test_syntax_error(self):
+        for source in ("f'{a b}'", "\nx = = 1", "if x:\nf'{x}'", "f'{x}'\n\0"):
+            status, _, err = self.run_on("--check", a=source)
+            self.assertEqual(status, 1)
+            self.assertRegex(err, r"^a.py:\d: Python refuses the script: ")
+
+    def test_with_json(self):
+        status, out, err = self.run_on("--check", "--json", a="f'{a b}'")
+        self.assertEqual((status, json.loads(out)["expression"]), (1, "a b"))
+        self.assertIn("Python refuses", err)
+
+
+class OtherPythons(Command):
+    def test_check(self):
+        with mock.patch.object(sys, "version_info", (3, 12, 1)):
+            self.assertIn("--check needs Python 3.11, and this is 3.12", self.wrong_use("--check", "a.py"))
+
+    def test_syntax(self):
+        """The module has nothing that the grammar of Python 3.7 does not have."""
+        with open(stumpgarret.__file__, encoding="utf-8") as file:
+            compile(file.read(), "stumpgarret.py", "exec", stumpgarret.ast.PyCF_ONLY_AST, _feature_version=7)
 
 
 if __name__ == "__main__":

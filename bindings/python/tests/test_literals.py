@@ -1,10 +1,9 @@
-"""The other call: the literals of a script from an offset on."""
+"""The literals of a script from an offset on."""
 
 import ctypes
 import unittest
-from unittest import mock
 
-from support import stumpgarret
+from support import calls_of, stumpgarret
 from stumpgarret import Kind, Literal, Refusal, Text, literals, read
 
 PREFIXES = {"": Kind.STRING, "f": Kind.FSTRING, "b": Kind.BYTES, "r": Kind.RAW_STRING, "u": Kind.UNICODE}
@@ -99,18 +98,11 @@ class Listed(unittest.TestCase):
 class Room(unittest.TestCase):
     def calls(self, count):
         """How many numbers each call lent for so many literals."""
-        lent = []
-        function = stumpgarret._list_function()
-
-        def counted(*arguments):
-            lent.append(arguments[4])
-            function(*arguments)
-
-        with mock.patch.object(stumpgarret, "_list_function", lambda: counted):
+        with calls_of("literals") as calls:
             listing = literals(count * "'' ", 0)
         self.assertEqual((len(listing.literals), listing.stop), (count, 3 * count))
         self.assertEqual(listing.literals[-1].start, 3 * count - 3)
-        return lent
+        return [arguments[4] for arguments in calls]
 
     def test_first_room_is_enough(self):
         self.assertEqual(self.calls(16), [96])
@@ -123,7 +115,7 @@ class Room(unittest.TestCase):
         """The list in front and what follows as it was, or zeros throughout."""
         for offset, lent, first, listed in ((0, 13, 0, 12), (2, 13, 52, 0), (0, 11, 53, 0)):
             numbers, answer = (ctypes.c_uint32 * lent)(*lent * [7]), (ctypes.c_uint32 * 12)(*12 * [7])
-            stumpgarret._list_function()(b"'' f''", 6, offset, numbers, lent, answer)
+            stumpgarret._function("literals")(b"'' f''", 6, offset, numbers, lent, answer)
             expected = [0, 0, 1, 0, 0, 2, 1, 0, 5, 0, 3, 6]
             rest = 7 if listed else 0
             self.assertEqual(list(numbers), expected[:listed] + (lent - listed) * [rest])

@@ -8,7 +8,7 @@ import tempfile
 import unittest
 from unittest import mock
 
-from support import load, load_function, stumpgarret
+from support import calls_of, load, load_function, stumpgarret
 from stumpgarret import Answer, Bytes, Field, Kind, Literal, Reason, Refusal, Signs, Sort, Text, Unavailable, read
 
 expected = load("crates/try_readings/expected.py")
@@ -66,7 +66,7 @@ class Rows(unittest.TestCase):
                 for lent in (lent_words, lent_text, twelve):
                     ctypes.memset(lent, expected.FILL_BYTE, ctypes.sizeof(lent))
                 lent = listed, len(listed), lent_words, len(lent_words), lent_text, len(lent_text), twelve
-                stumpgarret._function()(script, len(script), *lent)
+                stumpgarret._function("read")(script, len(script), *lent)
                 self.assertEqual(list(twelve), answer + [0] * (12 - len(answer)))
                 self.assertEqual(list(lent_words), words)
                 self.assertEqual(lent_text.raw, text)
@@ -183,17 +183,10 @@ class Answers(unittest.TestCase):
 class Room(unittest.TestCase):
     def calls(self, body):
         """What is read of an f-string, and how many words and text bytes each call lent."""
-        lent = []
-        function = stumpgarret._function()
-
-        def counted(*arguments):
-            lent.append((arguments[5], arguments[7]))
-            function(*arguments)
-
         length = len(body.encode())
-        with mock.patch.object(stumpgarret, "_function", lambda: counted):
+        with calls_of("read") as calls:
             records = read(body, [Literal(Kind.FSTRING, True, 0, length, 0, length + 7)]).records
-        return records, lent
+        return records, [(arguments[5], arguments[7]) for arguments in calls]
 
     def test_one_call(self):
         for body in ("", "a", 31 * "{x}" + 993 * "a", "{y}" + 100_000 * "é"):
@@ -220,7 +213,7 @@ class Room(unittest.TestCase):
 
     def test_no_second_call(self):
         function = mock.Mock(side_effect=lambda *arguments: ctypes.memmove(arguments[8], bytes([30, *47 * [0]]), 48))
-        with mock.patch.object(stumpgarret, "_function", lambda: function):
+        with mock.patch.object(stumpgarret, "_function", lambda name: function):
             with self.assertRaisesRegex(Refusal, "30 too few record places"):
                 read(b"", [Literal(0, False, 0, 0, 0, 2)])
         self.assertEqual(function.call_count, 1)
@@ -236,7 +229,7 @@ class Loading(unittest.TestCase):
                 path.write_bytes(content)
             with mock.patch.dict(os.environ, STUMPGARRET_LIBRARY=str(path)):
                 with self.assertRaises(Unavailable) as caught:
-                    load_function()
+                    load_function("read")
             return str(caught.exception).replace(str(path), "PATH")
 
     def test_missing(self):
@@ -246,7 +239,7 @@ class Loading(unittest.TestCase):
         with mock.patch.dict(os.environ), mock.patch.object(os.path, "isfile", lambda path: False):
             os.environ.pop("STUMPGARRET_LIBRARY", None)
             with self.assertRaisesRegex(Unavailable, "bindings/python/libstumpgarret.so and no .*/target/python/"):
-                load_function()
+                load_function("read")
 
     def test_no_library(self):
         self.assertEqual(self.said(b"!<arch>\n" + bytes(60)), "PATH is no shared library")

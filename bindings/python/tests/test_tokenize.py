@@ -6,13 +6,13 @@ checked too. A script in ten is taken; the variable STUMPGARRET_SHARE names anot
 """
 
 import collections
-import io
 import itertools
 import os
 import re
 import tokenize
 import unittest
 
+from by_python import strings
 from support import CLONE, load, stumpgarret
 
 differences = load("oracle/differences")
@@ -51,22 +51,6 @@ def chains(text):
         if token not in ENDS_A_LINE and chain:
             yield chain
             chain = []
-
-
-def strings(text):
-    """The literals of a text, with their places in its UTF-8 bytes; and the type of each token that ends a run."""
-    lines = io.StringIO(text).readlines()
-    encoded = [line.encode() for line in lines]
-    places = [*itertools.accumulate(map(len, encoded), initial=0)]
-    for token in tokenize.generate_tokens(iter(lines).__next__):
-        if token.type == tokenize.STRING:
-            line, column = token.start
-            place = places[line - 1] + len(lines[line - 1][:column].encode())
-            yield stumpgarret._literal(place, token.string.encode(), 0)
-        elif token.type == tokenize.ERRORTOKEN and stumpgarret._is_wrong(token.string):
-            raise tokenize.TokenError(token.string, token.start)
-        elif token.type not in stumpgarret.PASSED_OVER:
-            yield token.type
 
 
 def expected(source, run, later):
@@ -119,7 +103,7 @@ class Library(unittest.TestCase):
         self.count["scripts"] += 1
         try:
             text = stumpgarret.text_of(content)
-        except (SyntaxError, UnicodeDecodeError):
+        except stumpgarret.Undecodable:
             self.count["scripts that Python cannot decode"] += 1
             return
         source = text.encode("utf-8", "surrogatepass")
