@@ -9,6 +9,11 @@ from stumpgarret import FieldRow, Incomplete, Reason, Refusal, RefusalRow, Signs
 from stumpgarret import fields, list_script, positions, rows, text_of
 
 MOST = 1_048_576
+CODINGS = {
+    **dict.fromkeys(("latin-1", "Latin_1", "ISO-8859-1-unix", "iso-latin-1-dos", "l1"), "latin-1"),
+    **dict.fromkeys(("utf-8", "UTF_8-mac", "utf-8-sig", "u8"), "utf-8"),
+    **dict.fromkeys(("shift_jis", "SJIS"), "shift_jis"),
+}
 
 
 def told(source):
@@ -146,12 +151,11 @@ class Codings(unittest.TestCase):
             "# -*- coding: {} -*-", "#coding={}", "\f\t # vim: set fileencoding={} :", "#!python\n# coding: {}",
             "\n# coding:\t{}", " \t#\n#coding:{}", "# é coding: {}", "#!python\r# coding: {}", "\r\n# coding: {}",
         ):
-            for coding in ("latin-1", "Latin_1", "ISO-8859-1-unix", "iso-latin-1-dos", "l1", "shift_jis", "utf-8", "UTF_8-mac"):
+            for coding, codec in CODINGS.items():
                 said = line.format(coding)
-                if "é" in said and coding == "shift_jis":
+                if "é" in said and codec == "shift_jis":
                     continue
-                codec = "utf-8" if "8-mac" in coding else "latin-1" if "1" in coding else coding
-                text = said + ("\nf'表{x}ボ'" if coding == "shift_jis" else "\nf'é{x}µ'")
+                text = said + ("\nf'表{x}ボ'" if codec == "shift_jis" else "\nf'é{x}µ'")
                 with self.subTest(line=said):
                     self.assertEqual(text_of(text.encode(codec)), text.replace("\r\n", "\n").replace("\r", "\n"))
                     self.assertEqual([row[1:3] for row in told(text.encode(codec))], [(5, "x")])
@@ -341,7 +345,8 @@ class Refusals(unittest.TestCase):
         ):
             with self.subTest(source=source):
                 self.assertEqual(refused(source), (found, [(1, column, 75)]))
-                self.assertRegex(list_script(source).refused[0].reason, "^refused: 75 .*: Python reads this field otherwise")
+                reason = list_script(source).refused[0].reason
+                self.assertRegex(reason, "^refused: 75 .*: Python reads this field otherwise")
         self.assertEqual(written(r"f'{" + '"#"' + r"}{x:>{w}\n}' rf'{x:\n}'"), ['"#"', r"x:>{w}\n", "w", r"x:\n"])
 
     def test_lone_surrogate(self):

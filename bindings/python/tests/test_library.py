@@ -61,7 +61,8 @@ class Library(unittest.TestCase):
             ours = readings.Refused(f"{refusal.number} at {refusal.place}")
         python = readings.python_reading(source)
         found = survey.classes(source, python, ours)
-        self.assertIsNotNone(found, f"{source:.500}\n  Python {readings.shown(python):.500}\n  read   {readings.shown(ours):.500}")
+        shown = f"{source:.500}\n  Python {readings.shown(python):.500}\n  read   {readings.shown(ours):.500}"
+        self.assertIsNotNone(found, shown)
         self.count.update(f"runs of the class: {name}" for name in found)
 
 

@@ -22,7 +22,7 @@ import unittest
 import warnings
 
 from by_python import encoded, literal, strings
-from cut_model import closes, cut, is_cut
+from cut_model import closes, cut, is_cut, prefix_at
 from support import CLONE, load, stumpgarret
 from stumpgarret import Field, FieldRow, Kind, Literal, Refusal, ScriptField, Undecodable
 from stumpgarret import differences, list_script, literals, read, rows, text_of
@@ -35,16 +35,17 @@ F_STRING = re.compile(rb"(f|fr|rf)['\"]", re.IGNORECASE)
 TRIPLE = re.compile(rb"'''|\"\"\"")
 
 # What differs, the smallest script that shows it, the fields by Python's `ast`, and what is listed.
-SIGN, BACKSLASH, ESCAPE, EQUALS, QUOTE = (
-    "75: `#` in a field",
-    "75: backslash in an expression",
-    "75: escape in a spec's first piece",
-    "75: something after a self-documenting `=`",
-    "75: quote in a triple-quoted literal",
-)
+ESCAPE = "75: escape in a spec's first piece"
+QUOTE = "75: quote in a triple-quoted literal"
+NEVER_CLOSED = "50: literal in an expression that never closes"
 ROWS = [
-    (SIGN, "f'{x#}'", "refused: f-string expression part cannot include '#'", "{x#}, 75 at 4"),
-    (BACKSLASH, r'''f"{'\n'}"''', "refused: f-string expression part cannot include a backslash", r"{'\n'}, 75 at 4"),
+    ("75: `#` in a field", "f'{x#}'", "refused: f-string expression part cannot include '#'", "{x#}, 75 at 4"),
+    (
+        "75: backslash in an expression",
+        r'''f"{'\n'}"''',
+        "refused: f-string expression part cannot include a backslash",
+        r"{'\n'}, 75 at 4",
+    ),
     (ESCAPE, r"f'{x:\t}'", "f'{x:\t}'", r"{x:\t}, 75 at 5"),
     (
         "75: field that is an escape for Python",
@@ -52,7 +53,7 @@ ROWS = [
         "f'{x:°}'",
         r"{x:\N{DEGREE SIGN}}, 75 at 5, {DEGREE SIGN}",
     ),
-    (EQUALS, "f'{x=()}'", "refused: f-string: expecting '}'", "{x=()!r}, 75 at 5"),
+    ("75: something after a self-documenting `=`", "f'{x=()}'", "refused: f-string: expecting '}'", "{x=()!r}, 75 at 5"),
     (QUOTE, r"""f"{'''a' 'b'''}" """.strip(), r'''f"""{"a' 'b"}"""''', "{'''a' 'b'''}, 75 at 3"),
     (
         "75: field lost in a triple-quoted literal",
@@ -61,7 +62,7 @@ ROWS = [
         r'''{""""{{"}"""}{""""}}":"""}, 75 at 3''',
     ),
     (
-        "50: literal in an expression that never closes",
+        NEVER_CLOSED,
         r"""f"{'''x'}{'x'''}" """.strip(),
         r'''f"""{"x'}{'x"}"""''',
         "{'''x'}, 50 at 3, {'x'''}",
@@ -74,6 +75,7 @@ NAME = "13: name not held"
 WHITE_SPACE = "white space other than spaces after `=`"
 BRACKETS = "28: 65 to 199 open brackets"
 TRIPLE_QUOTED = "same quote in a triple-quoted run"
+BY_NUMBER = {13: NAME, 28: BRACKETS, 50: NEVER_CLOSED, 51: NEVER_CLOSED}
 
 
 def classes(script):
@@ -86,13 +88,16 @@ def classes(script):
 
 
 def class_of(script, row):
+    if row.number == 75 and script[row.place] == ord("\\"):
+        return ESCAPE
     if row.number == 75:
-        return ESCAPE if script[row.place] == ord("\\") else QUOTE if closes(script, row.place)[1] else None
-    if row.number in (13, 28) or row.number == 20 and row.details[0] == 3:
-        return {13: NAME, 28: BRACKETS, 20: WHITE_SPACE}[row.number]
+        return QUOTE if prefix_at(script, row.place) is not None else None
+    if row.number in BY_NUMBER:
+        return BY_NUMBER[row.number]
+    if row.number == 20 and row.details[0] == 3:
+        return WHITE_SPACE
     _, end = closes(script, row.start)
-    triple = TRIPLE.search(script[row.start : end].lstrip(b"fFrR"), 3)
-    return TRIPLE_QUOTED if triple or row.number in (50, 51) else None
+    return TRIPLE_QUOTED if TRIPLE.search(script[row.start : end].lstrip(b"fFrR"), 3) else None
 
 
 def by_ast(script):
@@ -254,7 +259,9 @@ EXPRESSIONS = [
     " {1: 2}[1]", "x if y else z", "'}'", '"{"', "'#'", "'a' \"b\"", "'''a'''", "(yield)", "1_0.5", "\nx\n",
 ]
 RARE = [r"'\n'", "x # y", "'''a'b'''", '"""a"}{"b"""', "''''''", "x=()", "a b"]
-AROUND = ["{}", "g({})", "[{} for y in z]", " {{'k': {}}}", "({}, 'a')", "{} 'b'", "'a' {}", "{}[0]", "x[{}]", "(lambda: {})"]
+AROUND = [
+    "{}", "g({})", "[{} for y in z]", " {{'k': {}}}", "({}, 'a')", "{} 'b'", "'a' {}", "{}[0]", "x[{}]", "(lambda: {})",
+]
 NOISE = [*"!=:{}()[]'\"\\ #f\n", "'''", "f'", 'rf"', "!r", "=="]
 
 
@@ -386,7 +393,8 @@ class Random(unittest.TestCase):
         script = b"x = f'a' # 'b'\n'c'"
         good = [(4, 8), (15, 18)]
         self.assertTrue(is_cut(script, good, None))
-        for wrong in ([(4, 8)], [(15, 18)], [(5, 8), (15, 18)], [(4, 8), (11, 14), (15, 18)], [(4, 18)], [(4, 8), (15, 17)]):
+        more = [(4, 8), (11, 14), (15, 18)]
+        for wrong in ([(4, 8)], [(15, 18)], [(5, 8), (15, 18)], more, [(4, 18)], [(4, 8), (15, 17)]):
             self.assertFalse(is_cut(script, wrong, None), wrong)
         self.assertFalse(is_cut(script, good[:1], (50, 15)))
         self.assertTrue(is_cut(b"xf'a' '", [(2, 5)], (50, 6)))
