@@ -744,8 +744,10 @@ def differences(source: bytes, found: ScriptList) -> list[str]:
             ours[key].append(field)
     lacking = [node for key, nodes in python.items() for node in nodes[len(ours.get(key, ())) :]]
     more = [field for key, listed in ours.items() for field in listed[len(python.get(key, ())) :]]
-    said = [f"{node.lineno}: Python alone has {_unparsed(node)}" for node in lacking]
-    return said + [f"{field.line}:{field.column}: Python does not have {_braced(field)}" for field in more]
+    said = [(node.lineno, 0, f"{node.lineno}: Python alone has {_unparsed(node)}") for node in lacking]
+    for one in more:
+        said.append((one.line, one.column, f"{one.line}:{one.column}: Python does not have {_braced(one)}"))
+    return [text for _, _, text in sorted(said)]
 
 
 def _dump(expression: str) -> str:

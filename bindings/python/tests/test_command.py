@@ -207,6 +207,12 @@ class Check(Command):
         self.assertEqual(stumpgarret.differences(source[:13] + b"'", found), ["1:15: Python does not have {x!r:3}"])
         self.assertEqual(stumpgarret.differences(2 * source, found), 2 * ["1: Python alone has f'{x!r:3}'"])
 
+    def test_in_the_order_of_lines(self):
+        source = b"f'{a}'\nf'{b}'\nf'{c}' f'{d}'\nf'{e}'"
+        said = stumpgarret.differences(source.translate(bytes.maketrans(b"abcd", b"xbyz")), stumpgarret.list_script(source))
+        lines = ["1", "1:4", "3", "3", "3:4", "3:11"]
+        self.assertEqual([one.split(": ")[0] for one in said], lines)
+
     def test_syntax_error(self):
         for source in ("f'{a b}'", "\nx = = 1", "if x:\nf'{x}'", "f'{x}'\n\0"):
             status, _, err = self.run_on("--check", a=source)

@@ -58,7 +58,7 @@ class Calls(unittest.TestCase):
 
     def test_room(self):
         """A second call has room for just as many rows as there are."""
-        for count, lent in ((256, [2560]), (257, [2560, 2570]), (100_000, [2560, 1_000_000])):
+        for count, lent in ((256, [2560]), (257, [2560, 2570]), (10_000, [2560, 100_000])):
             with calls_of("fields") as calls:
                 found = rows(f"f'''{count * '{x}'}'''")
             self.assertEqual([arguments[3] for arguments in calls], lent)
