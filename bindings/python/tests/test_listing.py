@@ -135,6 +135,33 @@ class Rows(unittest.TestCase):
             self.assertIn(f"| {title}", titles)
 
 
+def own_rows(script):
+    """The rows of a script's own literals, by the reading of each f-string alone: start, place, and a refusal's number."""
+    for start, end in cut(script)[0]:
+        one = literal(start, script[start:end])
+        if one.kind in (Kind.FSTRING, Kind.RAW_FSTRING):
+            try:
+                yield from ((start, place) for place in places(read(script, [one]).records))
+            except Refusal as refusal:
+                yield start, refusal.place, refusal.number
+
+
+def places(records):
+    for record in records:
+        if isinstance(record, Field):
+            yield record.place
+            yield from places(record.spec or ())
+
+
+def listed_rows(script):
+    """The same by the list of the whole script."""
+    for row in rows(script).rows:
+        if row.within == 0 and isinstance(row, FieldRow):
+            yield row.start, row.place
+        elif row.within == 0 and row.number not in (50, 51):
+            yield row.start, row.place, row.number
+
+
 def library_paths():
     folders = {sysconfig.get_path("stdlib"), sysconfig.get_path("purelib")}
     return sorted({path for folder in folders for path in pathlib.Path(folder).rglob("*.py") if path.is_file()})
@@ -220,13 +247,14 @@ class Library(unittest.TestCase):
             self.assertRegex(text[begin - 1 : end], f"^(?:{written})$")
 
     def compare_literals(self, text, found):
-        """They are as the model cuts them, and that is as tokenize does."""
+        """They are as the model cuts them, which is as tokenize does, and each f-string has the rows of its reading."""
         script = encoded(text)
         if len(script) > MOST:
             self.assertEqual([one.number for one in found.refused], [49])
             return
         model, ending = cut(script)
         self.assertEqual(found.literals, len(model))
+        self.assertEqual([*listed_rows(script)], [*own_rows(script)])
         try:
             tokens = [(one.start, one.end) for one in strings(text) if isinstance(one, Literal)]
         except (tokenize.TokenError, IndentationError):
@@ -305,33 +333,6 @@ class Nests:
             spec = ":" + rng.choice(["", ">", "5", "é<"])
             spec += "".join(self.field(level, around, True) + rng.choice(["", "d"]) for _ in range(nested))
         return "{" + expression + equals + conversion + spec + "}"
-
-
-def own_rows(script):
-    """The rows of a script's own literals, by the reading of each f-string alone: start, place, and a refusal's number."""
-    for start, end in cut(script)[0]:
-        one = literal(start, script[start:end])
-        if one.kind in (Kind.FSTRING, Kind.RAW_FSTRING):
-            try:
-                yield from ((start, place) for place in places(read(script, [one]).records))
-            except Refusal as refusal:
-                yield start, refusal.place, refusal.number
-
-
-def places(records):
-    for record in records:
-        if isinstance(record, Field):
-            yield record.place
-            yield from places(record.spec or ())
-
-
-def listed_rows(script):
-    """The same by the list of the whole script."""
-    for row in rows(script).rows:
-        if row.within == 0 and isinstance(row, FieldRow):
-            yield row.start, row.place
-        elif row.within == 0 and row.number not in (50, 51):
-            yield row.start, row.place, row.number
 
 
 class Random(unittest.TestCase):
