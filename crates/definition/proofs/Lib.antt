@@ -64,3 +64,15 @@ pub mod CompleteLaw
 pub mod ListingSteps
 pub mod RunRows
 pub mod ListingOne
+pub mod NameOrder
+pub mod NameLists
+pub mod NameFields
+pub mod NameLines
+pub mod NameScan
+pub mod NameIndex
+pub mod NameLookup
+pub mod NameWalk
+pub mod NameSearch
+pub mod NameChecked
+pub mod NamesShown
+pub mod NameTable

@@ -20,3 +20,5 @@ pub mod IsCut
 pub mod Cut
 pub mod Listing
 pub mod Complete
+pub mod Names
+pub mod IsIndex

@@ -105,6 +105,19 @@ noLiteral = 52
 abbrev pub tooLittleListRoom : ℕ
 tooLittleListRoom = 53
 
+-- of a lent file of names and its index
+abbrev pub lineMalformed : ℕ
+lineMalformed = 60
+
+abbrev pub nameTwice : ℕ
+nameTwice = 61
+
+abbrev pub tooLittleIndexRoom : ℕ
+tooLittleIndexRoom = 62
+
+abbrev pub wrongIndex : ℕ
+wrongIndex = 63
+
 -- of every field of a script: a number of our own, where Python reads otherwise
 abbrev pub readOtherwise : ℕ
 readOtherwise = 75
