@@ -94,7 +94,7 @@ pub fn is_any_bytes(kind: u32) -> bool
 }
 
 // The value of a hex digit; 16 if the character is none.
-fn hex_digit(c: u32) -> u32
+pub fn hex_digit(c: u32) -> u32
     ensures { λ r. ⌜ r ≡ hexDigit c ⌝ }
 {
     match c {
