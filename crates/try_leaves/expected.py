@@ -1,6 +1,6 @@
 # Run with Python 3.11, `python3 crates/try_leaves/expected.py`: writes the vectors to `stdin` beside it and what must come out to `stdout`.
 # With `--check` it writes nothing and fails if one of them is not what it would write.
-"""By Python's own UTF-8 decoder and unicodedata, and by document 01's rules for escapes. Python's reading of literals is asked too."""
+"""By Python's own UTF-8 decoder and unicodedata, and by the rules for escapes (RULES 3). Python's reading of literals is asked too."""
 import ast
 import itertools
 import os
@@ -82,7 +82,7 @@ def chars(s):
 
 
 def escape(kind, s, i):
-    """01, reading rules, escapes: the answer and its numbers."""
+    """RULES 3.2 to 3.4: the answer and its numbers."""
     in_bytes = kind in (2, 5)
     if i >= len(s):
         return "refused", 10, i

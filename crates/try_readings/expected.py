@@ -1,8 +1,7 @@
 # Run with Python 3.11, `python3 crates/try_readings/expected.py`: writes the cases to `stdin` beside it and what must come out to `stdout`, and
 # keeps what stands there behind them, the reference's list; `--reference STDIN STDOUT` at the end puts another one there (oracle/fixed).
 # With `--check` it writes nothing and fails if one of them is not what it would write.
-"""Document 01's readings, refusals and limits, with what 02 adds. What each row expects stands there in their terms, worked out from them by
-hand."""
+"""Readings, refusals and limits by docs/RULES.md. What each row expects is worked out from the rules by hand."""
 import itertools
 import os
 import struct
@@ -12,7 +11,7 @@ FILL_WORD, FILL_BYTE = 0xA5A5A5A5, 0xA5
 PREFIX = [0, 1, 1, 1, 2, 2, 1]
 PLAIN, JOINED, BYTES = 0, 1, 2
 NUMBERS = {1, 2, 3, 4, 5, 6, 7, 10, 11, 12, 13, 20, 21, 22, 23, 24, 25, 26, 27, 28, 30, 31}
-# Why a brace counts as unclosed (02, item 1).
+# Why a brace counts as unclosed (RULES 11.20).
 AFTER_BANG, AFTER_CONVERSION, AFTER_EQUALS, IN_FIELD, LAST_BRACE = REASONS = 1, 2, 3, 4, 5
 MOST_LITERALS, MOST_BYTES = 1_024, 1_048_576
 ROOM = 11, 5
@@ -76,7 +75,7 @@ def part(text, of=0):
 
 def reads(lent, sort, *records, room=ROOM):
     """An acceptance. `room` is how many words and text bytes are lent beyond those needed; None is as much as any list of so many bytes and
-    literals needs (02, item 11)."""
+    literals needs (RULES 5.7)."""
     numbers, pieces = lent
     words, text = [], b""
     for kind, own, *rest in (record(numbers) for record in records):
@@ -113,7 +112,7 @@ def counts(chars):
 
 
 def small_readings():
-    """01, "Small readings to check", in its order; then the examples of the program and the near misses."""
+    """The starred readings (RULES 5.11), in their order; then the examples of the program and near misses."""
     reads(fstring("{x!=y}"), JOINED, field("x!=y", 3))
     refuses(fstring("{x!r b}"), 20, 6, AFTER_CONVERSION)
     refuses(fstring("{x:{y:{z}}}"), 24, 8)
@@ -224,7 +223,7 @@ def fields():
 
 
 def blanks():
-    """02, item 4: an expression of White_Space alone is refused as an empty one is; U+180E, U+200B and the like are no blanks."""
+    """RULES 4.8: an expression of White_Space alone is refused as an empty one is; U+180E, U+200B and the like are no blanks."""
     two = 0x85, 0xA0
     three = 0x1680, *range(0x2000, 0x200B), 0x2028, 0x2029, 0x202F, 0x205F, 0x3000
     for place, codes in ((6, two), (7, three)):
@@ -253,7 +252,7 @@ def blanks():
 
 
 def openers():
-    """02, item 5: where the bracket that 23 names was opened."""
+    """RULES 4.6: where the bracket that 23 names was opened."""
     for body, taken, a, b, opened in (
         ("{f(a[0)}", 7, "[", ")", 5),                       # the innermost
         ("{[a](b}", 7, "(", "}", 5),                        # not one that was closed
@@ -271,7 +270,7 @@ def openers():
 
 
 def lines():
-    """02, item 7: line and column from the opening of a literal's body."""
+    """RULES 5.6: line and column from the opening of a literal's body."""
     refuses(side_by_side((1, "a\n}", 1)), 25, 4 + 3, at=(1, 1))
     refuses(side_by_side((1, "\n\né\n\U0001f600é{!}", 1)), 22, 4 + 13, at=(3, 4))
     refuses(side_by_side((1, "é\n{x!\n}", 1)), 21, 4 + 7, at=(2, 0))            # at a line's start
@@ -287,7 +286,7 @@ def lines():
 
 
 def read_characters():
-    """02, item 11: how many characters were read, of any width; and with the room that is known beforehand there is an acceptance."""
+    """RULES 5.6, 5.7: how many characters were read, of any width; and with the room that is known beforehand there is an acceptance."""
     reads(side_by_side((0, "é\n"), (0, ""), (1, "€{x}\U0001f600", 1)), JOINED, literal("é\n€"), field("x", 7 + 4 + 4, of=2), literal("\U0001f600"))
     counts(2 + 0 + 5)
     reads(side_by_side((0, r"\U0001f600\u00e9")), PLAIN, literal("\U0001f600é"))     # an escape's characters, not what it stands for

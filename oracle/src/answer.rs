@@ -1,4 +1,4 @@
-//! An outcome in document 01's terms, and the twelve numbers of the C interface.
+//! An outcome in the terms of RULES 5, and the twelve numbers of the C interface.
 
 #[derive(Clone, Copy, Debug, PartialEq)]
 pub struct Refusal {

@@ -1,7 +1,7 @@
 //! Answers questions from standard input, one line each.
 //!
 //!   ask rust    what the published Rust gives (1, 2, 4 and 6 stand for lists it cannot take)
-//!   ask rules   what document 01 expects, with room enough
+//!   ask rules   what the rules expect, with room enough
 //!
 //! A question is the list's numbers and, last, the script in hexadecimal after a `|`:
 //!

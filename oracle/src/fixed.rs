@@ -1,7 +1,7 @@
 //! Writes the fixed list of answers, for a replay without the Rust at hand.
 //!
 //!   fixed cases     the inputs, as crates/try_readings takes them
-//!   fixed answers   what document 01 expects of each, as crates/try_readings writes it
+//!   fixed answers   what the rules expect of each, as crates/try_readings writes it
 //!
 //! Before a call every word is A5A5A5A5 and every text byte A5 (hexadecimal).
 
@@ -168,7 +168,7 @@ fn put(file: &mut Vec<u8>, numbers: &[u32]) {
     numbers.iter().for_each(|number| file.extend_from_slice(&number.to_le_bytes()));
 }
 
-/// Every number of document 01's table and every kind must be there.
+/// Every number of a reading in RULES 11 and every kind must be there.
 fn check_coverage(cases: &[Answered], bytes: usize) {
     let mut by_number = BTreeMap::new();
     let mut by_kind = BTreeMap::new();

@@ -1,5 +1,5 @@
 //! What the port is compared with: the published string.rs, compiled as it stands but for
-//! `parse_fstring_expr`, and document 01's rules for what lies off the Rust's domain.
+//! `parse_fstring_expr`, and the rules (docs/RULES.md) for what lies off the Rust's domain.
 //!
 //! string.rs looks for its imports in its own crate and in four others. This crate plays
 //! all five parts, so that none of its `use` lines is edited.

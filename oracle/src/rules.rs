@@ -1,4 +1,4 @@
-//! Document 01's rules, and 02's, for what the Rust does not have, around what the Rust gives.
+//! The rules (docs/RULES.md) for what the Rust does not have, around what the Rust gives.
 //!
 //! * 1 to 6 are checked here, before the Rust is asked.
 //! * 28 is found by a scan of its own. The scan may assume that the Rust refuses nothing up
@@ -7,12 +7,12 @@
 //!   gives number and place, and the detail is added only if the scan comes to the same place.
 //! * Where the bracket of 23 was opened is found by the same scan, and added only if the scan comes
 //!   to the same place with the same two brackets.
-//! * Line and column of 10 to 28, which document 02 adds, are counted in the characters of the
+//! * Line and column of 10 to 28 (RULES 5.6) are counted in the characters of the
 //!   refused body before the place.
-//! * The characters that were read, which document 02 adds too, are counted in all bodies, or in
+//! * The characters that were read (RULES 5.6) are counted in all bodies, or in
 //!   those before a refused one and in that one before the place.
 //! * 30 and 31 compare an acceptance with the room that is lent.
-//! * A field's signs, which document 02's item 13 needs, are found by the same scan; the rest of its
+//! * A field's signs (RULES 7.1) are found by the same scan; the rest of its
 //!   row is the field's record.
 
 use std::ops::Range;
@@ -26,7 +26,7 @@ pub const MAX_LITERALS: usize = 1_024;
 pub const MAX_BODY_BYTES: usize = 1_048_576;
 const MAX_OPEN_BRACKETS: usize = 64;
 
-/// 02, item 1: the body ends right after `!`; the character after a conversion is neither `}` nor
+/// RULES 11.20: the body ends right after `!`; the character after a conversion is neither `}` nor
 /// `:`, or there is none; something not allowed follows a self-documenting `=`; the body ends
 /// elsewhere inside a field; a `{` at depth 0 is the last character.
 const AFTER_BANG: u32 = 1;
@@ -135,7 +135,7 @@ fn fitting(outcome: &Outcome, words: usize, text: usize) -> Result<&Acceptance, 
     }
 }
 
-/// The reason of a conversion, 02, item 13: written after `!`; none, and no self-documenting `=`;
+/// The reason of a conversion, RULES 7.2: written after `!`; none, and no self-documenting `=`;
 /// repr, because `=` stands with neither conversion nor spec; none, because `=` stands with a spec.
 fn reason(signs: &Signs) -> u32 {
     match (signs.bang, signs.equals, signs.colon) {

@@ -1,4 +1,4 @@
-//! What the published Rust gives, in document 01's terms.
+//! What the published Rust gives, in the terms of RULES 5.
 
 use crate::answer::{Acceptance, Outcome, Refusal, Sort};
 use crate::ast::{Constant, Expr, ExprConstant, ExprFormattedValue, ExprJoinedStr};

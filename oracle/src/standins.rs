@@ -163,7 +163,7 @@ pub mod parser {
     pub use super::ParseError as LalrpopError;
 }
 
-/// Kinds of literals, numbered and with prefix lengths by document 01: stands in for the
+/// Kinds of literals, numbered and with prefix lengths by RULES 2.2: stands in for the
 /// crate's own tokens.
 pub mod token {
     use super::text_size::TextSize;
@@ -227,7 +227,7 @@ pub enum ParseError<L, T, E> {
     User { error: E },
 }
 
-/// Stands in for `rustpython_parser_core::ConversionFlag`; the values are document 01's.
+/// Stands in for `rustpython_parser_core::ConversionFlag`; the values are those of RULES 5.2.
 #[derive(Clone, Copy, PartialEq)]
 pub enum ConversionFlag {
     None = 0,
@@ -250,7 +250,7 @@ pub trait Itertools: Iterator {
 
 impl<I: Iterator> Itertools for I {}
 
-/// The names that document 01 holds.
+/// The held names (RULES 3.4).
 pub const HELD_NAMES: [(&str, char); 14] = [
     ("DEGREE SIGN", '\u{00B0}'),
     ("PLUS-MINUS SIGN", '\u{00B1}'),

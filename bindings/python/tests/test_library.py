@@ -17,7 +17,7 @@ readings = load("oracle/readings.py")
 survey = load("oracle/survey")
 
 SHARE = int(os.environ.get("STUMPGARRET_SHARE", "10"))
-# Refusals that document 01 adds to the Rust's, of which the survey does not know.
+# Refusals that the port adds to the Rust's (RULES 1.1), of which the survey does not know.
 ADDED = (3, 5, 28)
 
 

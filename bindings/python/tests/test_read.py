@@ -1,4 +1,4 @@
-"""The call: document 01's readings and refusals, the room that is lent, and what cannot be lent."""
+"""The call: readings and refusals by RULES 2 to 5 and 11, the room that is lent, and what cannot be lent."""
 
 import ctypes
 import os

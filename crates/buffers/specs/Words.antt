@@ -4,7 +4,7 @@ use mathlib.Core.List.{List, [], _∷_}
 use Rattle.buffers.specs.declared.Record.{Record}
 use Rattle.buffers.specs.declared.Row.{Row}
 
--- in 01's order
+-- in the order of RULES 5.2
 abbrev pub wordsOf : Record → List ℕ
 wordsOf r = r .kind ∷ r .offset ∷ r .length ∷ r .start ∷ r .end ∷ r .conversion ∷ r .parts ∷ r .place ∷ []
 

@@ -1,4 +1,4 @@
--- What an acceptance comes from: items in 01's order. Assumes nothing.
+-- What an acceptance comes from: items in order (RULES 5.3). Assumes nothing.
 use mathlib.Core.Path.{_≡_, refl, sym}
 use mathlib.Core.Bool.{Bool, true, false, _||_, true≢false, false≢true}
 use mathlib.Core.List.{List, [], _∷_, _++_, map}
@@ -105,7 +105,7 @@ alone-piece kind s ps j h e = go (stringN (enough s) kind s 0 []) (rw (h, readBo
     go (got t k) f = (t, cc)
     go (refused x) f = let z : _≡_ {A = ℕ} 0 1 = cc in absurd (omega arith)
 
--- THE ITEMS KEEP 01'S ORDER AND RANGES, and each field has what it must
+-- THE ITEMS KEEP ORDER AND RANGES (RULES 5.3, 5.5), and each field has what it must
 literal-run : (script : List ℕ) (i : ℕ) (l : Literal) → Utf8 (body script l) → Holds (Run false [] 0 0) (refl, refl) (run-append false [] 0 0) (readLiteral script i l)
 literal-run script i l utf8 = literal-holds (Run false [] 0 0) (refl, refl) (run-append false [] 0 0) script i l (λ ps j e. go (isFString (l .kind)) refl ps j e)
   where

@@ -1,4 +1,4 @@
--- 02's blanks: fields of one character each, and one claim over them, computed. Assumes nothing.
+-- Blanks (RULES 4.8): fields of one character each, and one claim over them, computed. Assumes nothing.
 use Prim.Native.Nat.{ℕ}
 use mathlib.Core.Path.{_≡_, refl}
 use mathlib.Core.List.{List, [], _∷_, _++_, map}

@@ -17,8 +17,8 @@ use Rattle.definition.proofs.Adds.{sees-char, adds-pair, closing, adds-
 use Rattle.definition.proofs.Cases.{Tells, told}
 use Rattle.definition.proofs.OpenBrackets.{Level, Open, Wrong, open-on, open-more, open-less, closes-wrong}
 
--- A REFUSAL'S DETAILS, by its number: 20's first is one of 02's five reasons; 23 has an opener and a closer, 26 a closer, 30 and 31 two
--- counts; all others have none
+-- A REFUSAL'S DETAILS (RULES 11), by its number: 20's first is one of five reasons; 23 has an opener and a closer, 26 a closer, 30 and 31
+-- two counts; all others have none
 abbrev pub detailed : (number a b : ℕ) → Bool
 detailed number a b =
     if eqb number unclosedLbrace then inside (afterBang to lastBrace) a && eqb b 0 else
@@ -26,7 +26,7 @@ detailed number a b =
     if eqb number unmatched then a is ")]}" && eqb b 0 else
     if leb tooFewRecordPlaces number then true else eqb a 0 && eqb b 0
 
--- the number is one of 01's for a body, with its details
+-- the number is one of a body's, with its details
 abbrev pub OfBody : (number a b : ℕ) → Type 0
 OfBody number a b = T (ofBody number && detailed number a b)
 

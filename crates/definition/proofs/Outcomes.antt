@@ -150,7 +150,7 @@ abbrev pub sizes : List Record → ℕ
 sizes [] = 0
 sizes (r ∷ rs) = r .size + sizes rs
 
--- EVERY OUTCOME IS A CONSISTENT ACCEPTANCE OR A REFUSAL WHOSE NUMBER STANDS IN 01'S TABLE, with that number's details
+-- EVERY OUTCOME IS A CONSISTENT ACCEPTANCE OR A REFUSAL WHOSE NUMBER STANDS IN THE TABLE (RULES 11), with that number's details
 abbrev pub Sane : Outcome Answer → Type 0
 Sane (accepts x) = Gapless 0 (x .records) (length (x .text)) × (sizes (x .records) ≡ length (x .text))
 Sane (refuses r) = Listed r

@@ -30,7 +30,7 @@ asks gives is = record { asks = asks; is = is }
 pub signings : List Asked
 unfolding ascii
 signings =
-    -- 02's four reasons
+    -- the four reasons (RULES 7.2)
     (asked "{x!r}{y=}{z=:3}{w}" (1 ∷ 0 ∷ 0 ∷ 18 ∷ 0 ∷ 21 ∷ []) 41 gives (0 ∷ 1 ∷ 0 ∷ 0 ∷ 21 ∷ 4 ∷ 0 ∷ 0 ∷ 18 ∷ [], 1 ∷ 0 ∷ 3 ∷ 1 ∷ 114 ∷ 0 ∷ 5 ∷ 0 ∷ 7 ∷ 0 ∷ 3 ∷ 0 ∷ 8 ∷ 1 ∷ 114 ∷ 10 ∷ 0 ∷ 0 ∷ 11 ∷ 0 ∷ 4 ∷ 0 ∷ 12 ∷ 1 ∷ 0 ∷ 14 ∷ 0 ∷ 15 ∷ 17 ∷ 0 ∷ 2 ∷ 0 ∷ 18 ∷ 1 ∷ 0 ∷ 0 ∷ 0 ∷ 0 ∷ 20 ∷ 0 ∷ 9 ∷ []))
     -- written beside a self-documenting `=`; an empty spec; the first of two `=`
     ∷ (asked "{x=!r}{x=!r:>5}{x=:}{x= =}" (1 ∷ 0 ∷ 0 ∷ 26 ∷ 0 ∷ 29 ∷ []) 40 gives (0 ∷ 1 ∷ 0 ∷ 0 ∷ 29 ∷ 4 ∷ 0 ∷ 0 ∷ 26 ∷ [], 1 ∷ 0 ∷ 3 ∷ 1 ∷ 114 ∷ 5 ∷ 6 ∷ 0 ∷ 8 ∷ 0 ∷ 1 ∷ 0 ∷ 9 ∷ 1 ∷ 114 ∷ 11 ∷ 12 ∷ 14 ∷ 17 ∷ 0 ∷ 4 ∷ 0 ∷ 18 ∷ 1 ∷ 0 ∷ 20 ∷ 0 ∷ 21 ∷ 22 ∷ 0 ∷ 3 ∷ 0 ∷ 23 ∷ 1 ∷ 114 ∷ 25 ∷ 0 ∷ 0 ∷ 28 ∷ 0 ∷ []))

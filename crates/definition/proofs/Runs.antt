@@ -1,4 +1,4 @@
--- The items of an accepted list keep 01's order and ranges: a field, its spec, the spec's parts; each field has what it must. Merging keeps that. Assumes nothing.
+-- The items of an accepted list keep order and ranges (RULES 5.3, 5.5): a field, its spec, the spec's parts; each field has what it must. Merging keeps that. Assumes nothing.
 use mathlib.Core.Path.{_≡_, refl}
 use mathlib.Core.Bool.{Bool, true, false, _&&_, _||_, not, or-true, false≢true}
 use mathlib.Core.List.{List, [], _∷_, _++_, map}

@@ -1,4 +1,4 @@
--- 01's examples of the lines, and a reason of 20: one table and one claim over it, computed. Assumes nothing.
+-- The examples of the lines (RULES 10.1), and a reason of 20: one table and one claim over it, computed. Assumes nothing.
 use Prim.Native.Nat.{ℕ}
 use Prim.Native.String.{String}
 use mathlib.Core.Path.{_≡_, refl}

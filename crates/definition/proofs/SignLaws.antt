@@ -21,7 +21,7 @@ use Rattle.definition.proofs.Cases.{Tells, told, TextTells, text-told}
 use Rattle.definition.proofs.Moves.{Ahead, textSize, text-ahead, FieldAhead, field-ahead}
 use Rattle.definition.proofs.Steps.{text-goes, text-stops, text-ends, text-got, text-refused, field-goes, field-stops, field-ends, field-got, field-refused, firstPiece, spec-calls, spec-ends}
 
--- A REASON FITS, by 02's words
+-- A REASON FITS, by the words of RULES 7.2
 pub data Fits (g : Signs) : ℕ → Type 0 where
   written : 1 ≤ g .bang → Fits g 1
   neither : g .bang ≡ 0 → g .equals ≡ 0 → Fits g 2

@@ -1,4 +1,4 @@
--- 01's starred readings, 02's five reasons of 20, its places of 23 and its count of characters: a table and a claim over it each, computed.
+-- The starred readings (RULES 5.11), the five reasons of 20, the places of 23 and the count of characters: a table and a claim over it each, computed.
 -- Assumes nothing.
 use Prim.Native.Nat.{ℕ, _+_}
 use Prim.Native.String.{String}

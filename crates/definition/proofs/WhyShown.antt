@@ -1,4 +1,4 @@
--- 02's reasons, line by line: one table and one claim over it, computed. Assumes nothing.
+-- The reasons (RULES 7.2), line by line: one table and one claim over it, computed. Assumes nothing.
 use Prim.Native.Nat.{ℕ}
 use Prim.Native.String.{String}
 use mathlib.Core.Path.{_≡_, refl}

@@ -1,4 +1,4 @@
--- 01's join of two answers, and of two outcomes. Nothing of the reading uses it.
+-- The join of two answers, and of two outcomes (RULES 6). Nothing of the reading uses it.
 use Prim.Native.Nat.{ℕ, _+_, _/_, _≤_}
 use mathlib.Core.List.{List, [], _∷_, _++_, map}
 use lib.ListN.{length}

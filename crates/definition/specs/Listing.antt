@@ -166,7 +166,7 @@ fieldsCall x buffer = record { listed = x; rows = fieldsAfter x buffer }
 unfoldable pub fieldsInto : (script buffer : List ℕ) → FieldsCall
 fieldsInto s buffer = fieldsCall (fieldsOf s (length buffer)) buffer
 
--- The paper's numbers: 0 first for a list, and with 53 at 9 how many rows there are
+-- The numbers of RULES 9.6: 0 first for a list, and with 53 at 9 how many rows there are
 unfoldable pub fieldsNumbers : Fields → List ℕ
 fieldsNumbers (fields rows literals cutTo) = 0 ∷ length rows ∷ refusalsIn rows ∷ literals ∷ cutTo ∷ []
 fieldsNumbers tooLong = scriptTooLong ∷ []

@@ -132,7 +132,7 @@ listInto l buffer = record { listing = l; list = listAfter l buffer }
 unfoldable pub literalsInto : (script : List ℕ) (offset : ℕ) (buffer : List ℕ) → ListCall
 literalsInto script offset buffer = listInto (listed (length buffer) (literalsFrom script offset)) buffer
 
--- The paper's numbers: 0 first for a run, and with 53 at 9 how many are needed
+-- The numbers of RULES 8.5: 0 first for a run, and with 53 at 9 how many are needed
 unfoldable pub listNumbers : Listing → List ℕ
 listNumbers (lists x) = 0 ∷ length (x .literals) ∷ lastEnd 0 (x .literals) ∷ x .stop ∷ []
 listNumbers (refused r) = r .number ∷ r .literal ∷ r .place ∷ []

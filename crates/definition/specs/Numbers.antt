@@ -1,4 +1,4 @@
--- 01's numbers by their names: the kinds of a literal, and what a refusal returns.
+-- Numbers by their names: the kinds of a literal (RULES 2.2), and what a refusal returns (RULES 11).
 use Prim.Native.Nat.{ℕ}
 use mathlib.Core.Bool.{Bool, false, _&&_, _||_}
 use mathlib.Core.List.{List, [], _∷_}

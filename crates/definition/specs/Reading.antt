@@ -142,7 +142,7 @@ unfoldable pub readNumbers : List ℕ → List ℕ → List ℕ → List ℕ →
 readNumbers script ns words text =
     elim (sixes ns) [ none ↦ called (refuses (refusal notSixes 0 0 0 0)) words text | some ls ↦ readInto script ls words text ]
 
--- The paper's numbers: of a sort; of an outcome, 0 first for an acceptance
+-- The numbers of RULES 5.1 and 5.6: of a sort; of an outcome, 0 first for an acceptance
 unfoldable pub sortNumber : Sort → ℕ
 sortNumber plain = 0
 sortNumber joined = 1

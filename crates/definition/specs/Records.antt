@@ -1,4 +1,4 @@
--- 01's records: a literal's pieces with their ranges, touching ones joined, and all laid out over one text.
+-- Records (RULES 5): a literal's pieces with their ranges, touching ones joined, and all laid out over one text.
 use Prim.Native.Nat.{ℕ, zero, suc, _+_}
 use mathlib.Core.Bool.{Bool, true, false}
 use mathlib.Core.List.{List, [], _∷_, _++_, map}

@@ -106,7 +106,7 @@ unfoldable pub signsNumbers : (script ns buffer : List ℕ) → SignsCall
 signsNumbers script ns buffer =
     elim (sixes ns) [ none ↦ calledRows (refuses (refusal notSixes 0 0 0 0)) buffer | some ls ↦ signsInto script ls buffer ]
 
--- The paper's numbers: an acceptance has the rows in place of the records, and no text
+-- The numbers of RULES 7.4: an acceptance has the rows in place of the records, and no text
 unfoldable pub rowedNumbers : Outcome Rowed → List ℕ
 rowedNumbers (refuses r) = numbers (refuses r)
 rowedNumbers (accepts x) =

@@ -1,4 +1,4 @@
--- 01's view over an accepted answer: the record at a number.
+-- The view over an accepted answer: the record at a number (RULES 5.9).
 use Prim.Native.Nat.{ℕ, _+_, _*_}
 use mathlib.Core.Bool.{_||_}
 use mathlib.Core.List.{List}

@@ -1,4 +1,4 @@
--- What records are by their numbers alone: the answer that a caller holds, 01's record rules, and what every expression has. Nothing of the reading uses it.
+-- What records are by their numbers alone: the answer that a caller holds, the record rules (RULES 5), and what every expression has. Nothing of the reading uses it.
 use Prim.Native.Nat.{ℕ, zero, suc, _+_, _-_, _*_}
 use mathlib.Core.Bool.{Bool, true, false, _&&_, _||_, not, Bool·beq}
 use mathlib.Core.List.{List, [], _∷_}
@@ -54,7 +54,7 @@ answerFrom sort u start end count size chars words text =
 unfoldable pub heldFrom : (numbers words text : List ℕ) → Answer
 heldFrom ns words text = answerFrom (word ns 1) (word ns 2) (word ns 3) (word ns 4) (word ns 5) (word ns 6) (word ns 8) words text
 
--- 01'S RECORD RULES. So many records and text bytes lie in the buffers
+-- THE RECORD RULES. So many records and text bytes lie in the buffers
 unfoldable pub lie : (count size : ℕ) (words text : List ℕ) → Bool
 lie count size words text = leb (count * 8) (length words) && leb size (length text)
 
@@ -148,7 +148,7 @@ apart [] = true
 apart (r ∷ []) = true
 apart (r ∷ r′ ∷ rs) = not (alike (r .role) (r′ .role)) && apart (r′ ∷ rs)
 
--- WELL FORMED: all of 01's record rules
+-- WELL FORMED: all of the record rules
 unfoldable pub recordsWellFormed : Answer → Bool
 recordsWellFormed x =
     recordsFormed x
@@ -157,7 +157,7 @@ recordsWellFormed x =
     && apart (x .records)
     && leb (x .uMark) 1
 
--- WHAT YOU MAY ASSUME OF EVERY EXPRESSION (02, item 14). The text of each field is matched and not blank
+-- WHAT YOU MAY ASSUME OF EVERY EXPRESSION (RULES 5.10). The text of each field is matched and not blank
 unfoldable pub expressed : (text : List ℕ) → List Record → Bool
 expressed text [] = true
 expressed text (r ∷ rs) =

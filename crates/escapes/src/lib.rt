@@ -22,7 +22,7 @@ pub enum Escaped {
     Refused(Refusal),
 }
 
-// Numbers of 01's table.
+// Numbers of the table in RULES 11.
 const STRING_ERROR: u32 = 10;
 
 const UNICODE_ERROR: u32 = 11;

@@ -97,7 +97,7 @@ abbrev pub RunIs : Outcome s.Run → List ℕ → List ℕ → Ran → Type 0
 RunIs o buffer buffer′ (ran.Done x) = Wrote o buffer buffer′ x
 RunIs o buffer buffer′ (ran.Refused r) = o ≡ refuses (refusalOf r)
 
--- the paper's numbers of an answer
+-- the numbers of an answer (RULES 8.5)
 abbrev pub says : Listing → List ℕ
 says (Lists x) = 0 ∷ x .count ∷ x .end ∷ x .stop ∷ []
 says (Refused r) = r .number ∷ 0 ∷ r .place ∷ []

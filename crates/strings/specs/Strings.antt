@@ -29,7 +29,7 @@ use Rattle.strings.specs.Emit.{Out, emits}
 use Rattle.strings.specs.Sinks.{loadOf, outOf, Fits}
 use Rattle.strings.specs.Rows.{Through}
 
--- the paper's numbers of an answer
+-- the numbers of an answer (RULES 5.1, 5.6)
 abbrev pub says : Outcome → List ℕ
 says (Accepted x) = 0 ∷ x .sort ∷ x .mark ∷ x .start ∷ x .end ∷ x .records ∷ x .text ∷ 0 ∷ x .chars ∷ []
 says (Refused r) = r .number ∷ r .literal ∷ r .place ∷ r .a ∷ r .b ∷ r .opened ∷ r .line ∷ r .column ∷ r .chars ∷ []

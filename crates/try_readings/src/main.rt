@@ -1,4 +1,4 @@
-// Document 01's readings and limits, which expected.py writes down, and after them the reference's answers, which oracle/fixed
+// Readings and limits by RULES, which expected.py writes down, and after them the reference's answers, which oracle/fixed
 // writes down: each case is taken from standard input and read, and what it gave is written as lines of numbers.
 //
 // The input is numbers of 32 bits, least byte first. Of each of the two lists first comes how many cases there are, then each

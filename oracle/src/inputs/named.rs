@@ -1,4 +1,4 @@
-//! The readings that document 01 names, its near misses, and others that are easy to get
+//! The starred readings (RULES 5.11), near misses, and others that are easy to get
 //! wrong.
 
 use crate::Case;

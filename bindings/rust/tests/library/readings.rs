@@ -1,4 +1,4 @@
-//! Document 01's readings.
+//! The starred readings of RULES 5.11, and others.
 use crate::common::{append, side_by_side, written};
 use stumpgarret::StringKind::{
     Bytes, FString, RawBytes, RawFString, RawString, String as Plain, Unicode,
