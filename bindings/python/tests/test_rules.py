@@ -4,6 +4,7 @@ cited anywhere is there."""
 import ctypes
 import json
 import re
+import sys
 import unittest
 
 from support import CLONE, stumpgarret
@@ -38,8 +39,13 @@ def plain(text):
     return MARK.sub(one, text).encode("utf-8", "surrogateescape")
 
 
+def lent(of, count):
+    """A buffer that is filled."""
+    return (of * count).from_buffer_copy(count * FILL.to_bytes(ctypes.sizeof(of), sys.byteorder))
+
+
 def numbers_of(count):
-    return (ctypes.c_uint32 * count)(*count * [FILL])
+    return lent(ctypes.c_uint32, count)
 
 
 # The calls: the answer, and what the buffers hold
@@ -60,7 +66,7 @@ def list_fields(script, room=ROOM_FOR_ALL):
 def read(script, listed, room=None):
     words_room, text_room = room or (ROOM_FOR_ALL, ROOM_FOR_ALL)
     numbers, words, answer = (ctypes.c_uint32 * len(listed))(*listed), numbers_of(words_room), numbers_of(12)
-    text = (ctypes.c_char * text_room)(*text_room * [FILL])
+    text = lent(ctypes.c_char, text_room)
     stumpgarret._function("read")(script, len(script), numbers, len(numbers), words, words_room, text, text_room, answer)
     return list(answer), list(words), text.raw
 
