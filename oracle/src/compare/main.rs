@@ -16,7 +16,7 @@ use inputs::{Case, Random};
 
 const GATE_SEED: u64 = 20_260_101;
 const GATE_LISTS: u64 = 1_300_000;
-const GATE_SCRIPTS: u64 = 300_000;
+const GATE_SCRIPTS: u64 = 100_000;
 
 fn main() -> ExitCode {
     let arguments: Vec<String> = std::env::args().skip(1).collect();
