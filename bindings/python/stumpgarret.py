@@ -9,6 +9,12 @@ In a program, `fields` gives the same list, or raises `Incomplete`; `list_script
 `rows` is the library's call behind both: every row of a whole script, by places. `read` reads one run of literals, and
 `literals` lists the adjacent literals of a script from an offset on.
 
+    >>> import stumpgarret
+    >>> for field in stumpgarret.fields("print(f'{mv / 12.5:.0f} {n!r}')", "bench.py"):
+    ...     print(field.line, field.column, field.expression, field.conversion, field.spec)
+    1 10 mv / 12.5 None .0f
+    1 26 n r None
+
 The shared library is the one that the variable STUMPGARRET_LIBRARY names, else libstumpgarret.so beside this file,
 else the one under target/python of the clone, where `bindings/python/build` puts it.
 """
@@ -24,6 +30,7 @@ import enum
 import functools
 import io
 import json
+import operator
 import os
 import platform
 import re
@@ -32,6 +39,8 @@ import sys
 import warnings
 from collections.abc import Callable, Iterable, Iterator
 from dataclasses import dataclass
+
+__version__ = "0.1.0"
 
 
 # What is lent and what comes back
@@ -344,8 +353,7 @@ def literals(script: bytes | str, offset: int) -> Listing:
 
     Raises `Refusal` if the library refuses it, and ValueError for an offset that does not fit into 32 bits."""
     script = _bytes(script)
-    if not 0 <= offset < 2**32:
-        raise ValueError(f"the offset is {offset}, which is no number of 32 bits")
+    offset = _number("the offset", offset)
     answer, numbers = _list_call("literals", [script, len(script), offset], FIRST_LITERALS * NUMBERS_OF_A_LITERAL, 1)
     _, count, _, stop, *_ = answer
     return Listing(tuple(_listed(*own) for own in _cut(numbers, NUMBERS_OF_A_LITERAL, count)), stop)
@@ -391,17 +399,36 @@ def _cut(numbers: list[int], size: int, count: int) -> list[list[int]]:
 
 def _bytes(script: bytes | str) -> bytes:
     """A str's UTF-8; a lone surrogate becomes bytes that are none, which the library refuses in an f-string."""
-    return script.encode("utf-8", "surrogatepass") if isinstance(script, str) else bytes(script)
+    return script.encode("utf-8", "surrogatepass") if isinstance(script, str) else _undecoded(script)
+
+
+def _undecoded(script: bytes) -> bytes:
+    if not isinstance(script, (bytes, bytearray, memoryview)):
+        raise TypeError(f"a script's content is wanted, as bytes or str, not {_type(script)}")
+    return bytes(script)
 
 
 def _numbers(literals: Iterable[Literal]) -> list[int]:
+    if not isinstance(literals, Iterable):
+        raise TypeError(f"a list of Literals is wanted, not {_type(literals)}")
     numbers = []
     for index, literal in enumerate(literals):
-        for name, number in vars(literal).items():
-            if not 0 <= number < 2**32:
-                raise ValueError(f"literal {index}: {name} is {number}, which is no number of 32 bits")
-            numbers.append(int(number))
+        if not isinstance(literal, Literal):
+            raise TypeError(f"literal {index}: a Literal is wanted, not {_type(literal)}")
+        numbers += [_number(f"literal {index}: {name}", number) for name, number in vars(literal).items()]
     return numbers
+
+
+def _number(name: str, number: int) -> int:
+    if not hasattr(number, "__index__"):
+        raise TypeError(f"{name} is to be a whole number, not {_type(number)}")
+    if not 0 <= number < 2**32:
+        raise ValueError(f"{name} is {number}, which is no number of 32 bits")
+    return operator.index(number)
+
+
+def _type(given: object) -> str:
+    return type(given).__name__
 
 
 def _room(numbers: list[int]) -> tuple[int, int]:
@@ -646,7 +673,7 @@ def text_of(source: bytes | str) -> str:
     if isinstance(source, str):
         text = source[1:] if source.startswith(BYTE_ORDER_MARK) else source
         return text.replace("\r\n", "\n").replace("\r", "\n")
-    content = bytes(source).replace(b"\r\n", b"\n").replace(b"\r", b"\n")
+    content = _undecoded(source).replace(b"\r\n", b"\n").replace(b"\r", b"\n")
     marked = content.startswith(codecs.BOM_UTF8)
     content = content[len(codecs.BOM_UTF8) :] if marked else content
     coding = _coding(content)
@@ -727,6 +754,9 @@ OPENING = re.compile(rb"[A-Za-z]*('''|\"\"\"|'|\")")
 def differences(source: bytes, found: ScriptList) -> list[str]:
     """Where the fields found of a script are not those that Python's own `ast` gives: expression, conversion and spec,
     as Python reads each of them; a line of text for each. Python must be 3.11, whose grammar it is."""
+    script = _bytes(text_of(source))
+    if not isinstance(found, ScriptList):
+        raise TypeError(f"what list_script gives is wanted, not {_type(found)}")
     with warnings.catch_warnings():
         warnings.simplefilter("ignore")
         try:
@@ -738,7 +768,6 @@ def differences(source: bytes, found: ScriptList) -> list[str]:
             if isinstance(node, ast.FormattedValue):
                 spec = node.format_spec and ast.dump(node.format_spec)
                 python[ast.dump(node.value), max(node.conversion, 0), spec].append(node)
-        script = _bytes(text_of(source))
         for field in found.fields:
             key = _dump(f"({field.expression})"), ord(field.conversion or "\0"), _spec_dump(script, field)
             ours[key].append(field)
@@ -811,6 +840,7 @@ def main(arguments: list[str] | None = None) -> int:
 
 def _arguments(arguments: list[str] | None) -> argparse.Namespace:
     parser = argparse.ArgumentParser(
+        prog="stumpgarret",
         description="Lists every formatted field in the string literals of Python scripts.",
         epilog=EPILOG,
         formatter_class=argparse.RawDescriptionHelpFormatter,
@@ -818,6 +848,7 @@ def _arguments(arguments: list[str] | None) -> argparse.Namespace:
     parser.add_argument("--why", action="store_true", help="add the reason of each conversion")
     parser.add_argument("--json", action="store_true", help="a JSON object for each field, and for each refusal")
     parser.add_argument("--check", action="store_true", help="compare with Python's own ast (Python 3.11 only)")
+    parser.add_argument("--version", action="version", version=f"%(prog)s {__version__}")
     parser.add_argument("scripts", nargs="+", metavar="SCRIPT", help="a path, or - for standard input")
     given = parser.parse_args(arguments)
     if given.check and sys.version_info[:2] != PYTHON_OF_THE_CHECK:

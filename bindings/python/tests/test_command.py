@@ -123,12 +123,19 @@ class Plain(Command):
         self.assertIn("SCRIPT", self.wrong_use())
         self.assertIn("--unknown", self.wrong_use("--unknown", "a.py"))
 
-    def test_help(self):
+    def said(self, option):
         with contextlib.redirect_stdout(io.StringIO()) as out, self.assertRaises(SystemExit) as caught:
-            stumpgarret.main(["--help"])
+            stumpgarret.main([option])
         self.assertEqual(caught.exception.code, 0)
+        return out.getvalue()
+
+    def test_help(self):
+        out = self.said("--help")
         for said in (r"a newline as \n", r"a written \n is \\n", "Exit status: 0 if these are", "or - for standard input"):
-            self.assertIn(said, out.getvalue())
+            self.assertIn(said, out)
+
+    def test_version(self):
+        self.assertEqual(self.said("--version"), f"stumpgarret {stumpgarret.__version__}\n")
 
     def test_no_library(self):
         unavailable = mock.Mock(side_effect=stumpgarret.Unavailable("it is missing"))

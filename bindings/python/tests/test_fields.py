@@ -1,12 +1,16 @@
 """Scripts: the call's rows, where fields stand, what is written, and what is refused."""
 
+import array
 import ctypes
+import doctest
+import pathlib
+import re
 import unittest
 from unittest import mock
 
-from support import calls_of, stumpgarret
-from stumpgarret import FieldRow, Incomplete, Reason, Refusal, RefusalRow, Signs, Undecodable
-from stumpgarret import fields, list_script, positions, rows, text_of
+from support import CLONE, calls_of, stumpgarret
+from stumpgarret import FieldRow, Incomplete, Literal, Reason, Refusal, RefusalRow, Signs, Undecodable
+from stumpgarret import differences, fields, list_script, literals, positions, read, rows, text_of
 
 MOST = 1_048_576
 CODINGS = {
@@ -87,6 +91,47 @@ class Calls(unittest.TestCase):
         with self.assertRaisesRegex(Refusal, "49 script over"):
             rows(script + " ")
         self.assertEqual(refused(script + " "), ([], [(1, 1, 49)]))
+
+
+class WrongTypes(unittest.TestCase):
+    def refuses(self, said, call, *arguments):
+        with self.assertRaises(TypeError) as caught:
+            call(*arguments)
+        self.assertEqual(str(caught.exception), said)
+
+    def test_scripts(self):
+        for wrong in (None, 5, ["f'{x}'"], pathlib.PurePosixPath("a.py"), array.array("I", [1])):
+            said = f"a script's content is wanted, as bytes or str, not {type(wrong).__name__}"
+            for call in (fields, list_script, rows, text_of):
+                self.refuses(said, call, wrong)
+            self.refuses(said, literals, wrong, 0)
+            self.refuses(said, read, wrong, [])
+            self.refuses(said, differences, wrong, list_script(""))
+
+    def test_right_scripts(self):
+        for right in (b"f'{x}'", bytearray(b"f'{x}'"), memoryview(b"f'{x}'"), "f'{x}'"):
+            self.assertEqual([field.expression for field in fields(right)], ["x"])
+
+    def test_numbers(self):
+        for wrong in (None, "0", 1.0):
+            said = f"to be a whole number, not {type(wrong).__name__}"
+            self.refuses(f"the offset is {said}", literals, "''", wrong)
+            self.refuses(f"literal 1: start is {said}", read, "''", [Literal(0, 0, 1, 0, 0, 2), Literal(0, 0, 1, 0, wrong, 2)])
+
+    def test_others(self):
+        self.refuses("literal 0: a Literal is wanted, not tuple", read, "''", [(0, 0, 1, 0, 0, 2)])
+        self.refuses("a list of Literals is wanted, not Literal", read, "''", Literal(0, 0, 1, 0, 0, 2))
+        self.refuses("what list_script gives is wanted, not list", differences, b"", [])
+
+
+class Module(unittest.TestCase):
+    def test_example_of_help(self):
+        ran = doctest.testmod(stumpgarret)
+        self.assertEqual((ran.failed, ran.attempted), (0, 2))
+
+    def test_one_version(self):
+        crate = (CLONE / "bindings/rust/Cargo.toml").read_text()
+        self.assertEqual(re.search('^version = "(.*)"$', crate, re.M)[1], stumpgarret.__version__)
 
 
 class Places(unittest.TestCase):
