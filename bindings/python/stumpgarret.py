@@ -814,6 +814,10 @@ def _braced(field: ScriptField) -> str:
 
 COMPLETE, INCOMPLETE, UNREAD = range(3)
 STANDARD_INPUT = "-"
+DESCRIPTION = """
+Lists every formatted field of the f-strings of Python scripts. The operator `%`, `str.format` and `format()` format
+too, and are not listed.
+"""
 EPILOG = r"""
 A line for each field, with tabs between: path:line:column of its expression, the expression, the conversion with its
 `!`, the spec with its `:`. They are sorted by place; a field in the expression or spec of another comes after it. A
@@ -841,7 +845,7 @@ def main(arguments: list[str] | None = None) -> int:
 def _arguments(arguments: list[str] | None) -> argparse.Namespace:
     parser = argparse.ArgumentParser(
         prog="stumpgarret",
-        description="Lists every formatted field in the string literals of Python scripts.",
+        description=DESCRIPTION,
         epilog=EPILOG,
         formatter_class=argparse.RawDescriptionHelpFormatter,
     )

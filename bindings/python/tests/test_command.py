@@ -133,6 +133,8 @@ class Plain(Command):
         out = self.said("--help")
         for said in (r"a newline as \n", r"a written \n is \\n", "Exit status: 0 if these are", "or - for standard input"):
             self.assertIn(said, out)
+        self.assertIn("of the f-strings of Python scripts. The operator `%`, `str.format` and `format()`", out)
+        self.assertRegex(out, r"format\s+too, and are not listed")
 
     def test_version(self):
         self.assertEqual(self.said("--version"), f"stumpgarret {stumpgarret.__version__}\n")
