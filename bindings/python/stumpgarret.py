@@ -908,6 +908,11 @@ def _one_line(text: str) -> str:
     return re.sub(r"[\\\x00-\x1f\x7f-\x9f\u2028\u2029]", lambda shown: ascii(shown[0])[1:-1], text)
 
 
-if __name__ == "__main__":
+def process() -> None:
+    """The command as a process of its own."""
     signal.signal(signal.SIGPIPE, signal.SIG_DFL)
     sys.exit(main())
+
+
+if __name__ == "__main__":
+    process()

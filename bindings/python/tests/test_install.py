@@ -1,0 +1,300 @@
+"""./fields and ./install: built once, then run by any user, without the kit, from a clone that nobody may write to.
+
+STUMPGARRET_STATIC names the static library. Where the tests run as root the other user is nobody, else the same one.
+"""
+
+import base64
+import contextlib
+import hashlib
+import os
+import pathlib
+import platform
+import shutil
+import stat
+import subprocess
+import sys
+import tempfile
+import unittest
+import zipfile
+
+from support import CLONE, stumpgarret
+
+CALLS_AT_ONCE = 24
+EMULATED = platform.machine() != "x86_64"
+EMULATOR = ["qemu-x86_64"] if EMULATED else []
+SYSTEM = "/usr/local/bin:/usr/bin:/bin"
+OTHER_USER = ["runuser", "-u", "nobody", "--"] if os.geteuid() == 0 else []
+# All that a call needs of a system, once the library is built.
+NEEDED = ["bash", "dirname", "env", "find", "python3", "readlink", "sh", "uname", *EMULATOR]
+BENCH_FIELDS = """\
+examples/bench.py:2:28\tmv / 1000\t\t:.3f
+examples/bench.py:4:10\t743 / 12.5\t\t:.0f
+examples/bench.py:5:10\trail\t\t:<8
+examples/bench.py:5:20\tmv=\t!r\t
+examples/bench.py:5:26\tstatus\t!r\t:>{2 + len(status)}
+examples/bench.py:5:37\t2 + len(status)\t\t
+"""
+# A stand-in for rt, which writes the static library in two halves.
+RT = """#!/bin/sh
+test "$*" = "staticlib stumpgarret" || exit 2
+echo called >> rt-calls
+mkdir -p target/staticlib
+size=$(stat -c %s "$STUMPGARRET_STATIC")
+head -c $((size / 2)) "$STUMPGARRET_STATIC" > target/staticlib/libstumpgarret.a
+sleep 1
+tail -c +$((size / 2 + 1)) "$STUMPGARRET_STATIC" >> target/staticlib/libstumpgarret.a
+"""
+
+
+def start(*command, user=(), cwd, **variables):
+    streams = {"stdin": subprocess.DEVNULL, "stdout": subprocess.PIPE, "stderr": subprocess.PIPE}
+    return subprocess.Popen([*user, "env", "-i", *command_line(variables), *command], cwd=cwd, text=True, **streams)
+
+
+def command_line(variables):
+    return [f"{name}={value}" for name, value in variables.items()]
+
+
+def ended(process):
+    out, err = process.communicate()
+    return process.returncode, out, err
+
+
+def run(*command, **given):
+    return ended(start(*command, **given))
+
+
+def state(folder):
+    """Each file below a folder, with its time and size."""
+    found = ((path, path.lstat()) for path in sorted(folder.rglob("*")))
+    return [(str(path), seen.st_mtime_ns, seen.st_size) for path, seen in found if not path.is_dir()]
+
+
+class Copy(unittest.TestCase):
+    """Tests over a copy of the clone that is built."""
+
+    @classmethod
+    def setUpClass(cls):
+        cls.work = pathlib.Path(cls.enterClassContext(tempfile.TemporaryDirectory()))
+        cls.work.chmod(0o755)
+        cls.built = cls.work / "built"
+        (cls.built / "target/staticlib").mkdir(parents=True)
+        for part in ("NOTICE", "bindings", "crates", "crates.txt", "examples", "fields", "install", "prepare"):
+            subprocess.run(["cp", "-a", CLONE / part, cls.built], check=True)
+        shutil.copy(os.environ["STUMPGARRET_STATIC"], cls.built / "target/staticlib/libstumpgarret.a")
+        subprocess.run(["cp", "-a", CLONE / "target/python", cls.built / "target"], check=True)
+        (cls.built / "target/python/libstumpgarret.so").touch()
+        subprocess.run(["chmod", "-R", "a+rX,a-w", cls.built], check=True)
+        cls.few = cls.tools("few", *NEEDED)
+
+    @classmethod
+    def tools(cls, name, *needed):
+        """A folder with links to these commands alone."""
+        folder = cls.work / name
+        folder.mkdir()
+        for command in needed:
+            (folder / command).symlink_to(shutil.which(command, path=SYSTEM) or shutil.which(command))
+        return str(folder)
+
+    @classmethod
+    def tearDownClass(cls):
+        subprocess.run(["chmod", "-R", "u+w", cls.work], check=True)
+
+    def writable(self):
+        """A copy of the copy, which its owner may write to, with all but the library."""
+        clone = self.folder() / "clone"
+        subprocess.run(["cp", "-a", self.built, clone], check=True)
+        subprocess.run(["chmod", "-R", "u+w", clone], check=True)
+        (clone / "target/python/libstumpgarret.so").unlink()
+        return clone
+
+    def folder(self):
+        folder = pathlib.Path(self.enterContext(tempfile.TemporaryDirectory(dir=self.work)))
+        folder.chmod(0o755)
+        return folder
+
+    def with_rt(self):
+        """Variables for a call that finds the stand-in for rt."""
+        folder = self.folder()
+        (folder / "rt").write_text(RT)
+        (folder / "rt").chmod(0o755)
+        return {"PATH": f"{folder}:{SYSTEM}", "STUMPGARRET_STATIC": os.environ["STUMPGARRET_STATIC"]}
+
+
+class Fields(Copy):
+    def test_any_user_at_once(self):
+        before = state(self.built)
+        calls = [
+            start("./fields", "examples/bench.py", user=OTHER_USER, cwd=self.built, PATH=self.few)
+            for _ in range(CALLS_AT_ONCE)
+        ]
+        for call in calls:
+            self.assertEqual(ended(call), (0, BENCH_FIELDS, ""))
+        self.assertEqual(state(self.built), before)
+
+    def test_by_a_link(self):
+        link = self.work / "link"
+        link.symlink_to(self.built / "fields")
+        self.assertEqual(run(link, "--version", cwd="/", PATH=self.few)[:2], (0, f"stumpgarret {stumpgarret.__version__}\n"))
+
+    def test_built_once(self):
+        """Of calls at once one builds; the others wait for it, and then there is a whole library."""
+        clone, variables = self.writable(), self.with_rt()
+        calls = [start("bindings/python/ready", cwd=clone, **variables) for _ in range(CALLS_AT_ONCE)]
+        self.assertEqual([call[0] for call in map(ended, calls)], CALLS_AT_ONCE * [0])
+        self.assertEqual((clone / "rt-calls").read_text(), "called\n")
+        self.assertLessEqual({path.name for path in (clone / "target/python").glob("*.so*")}, {"libstumpgarret.so"})
+        self.assertEqual(run("./fields", "examples/bench.py", cwd=clone, PATH=self.few), (0, BENCH_FIELDS, ""))
+
+    def test_built_again(self):
+        """After a change, and only then."""
+        clone, variables = self.writable(), self.with_rt()
+        for calls, change in enumerate([None, None, "crates.txt", None, "crates/strings/src/lib.rt", "bindings/python/build"]):
+            if change:
+                (clone / change).touch()
+            self.assertEqual(run("bindings/python/ready", cwd=clone, **variables)[0], 0)
+        self.assertEqual((clone / "rt-calls").read_text(), 4 * "called\n")
+
+    def test_changed_meanwhile(self):
+        """A source that changed while the library was built counts as changed."""
+        clone, variables = self.writable(), self.with_rt()
+        rt = pathlib.Path(variables["PATH"].split(":")[0], "rt")
+        rt.write_text(RT + "touch crates.txt\n")
+        for _ in range(2):
+            self.assertEqual(run("bindings/python/ready", cwd=clone, **variables)[0], 0)
+        self.assertEqual((clone / "rt-calls").read_text(), 2 * "called\n")
+
+    def test_failed(self):
+        """Nothing is left of a build that failed, and the next call tries again."""
+        clone, variables = self.writable(), self.with_rt()
+        rt = pathlib.Path(variables["PATH"].split(":")[0], "rt")
+        rt.write_text("#!/bin/sh\necho it is not proved >&2\nexit 1\n")
+        status, out, err = run("./fields", "examples/bench.py", cwd=clone, **variables)
+        self.assertEqual((status, out), (1, ""))
+        self.assertIn("it is not proved", err)
+        self.assertEqual([*(clone / "target/python").glob("*.so*")], [])
+        rt.write_text(RT)
+        self.assertEqual(run("bindings/python/ready", cwd=clone, **variables)[0], 0)
+
+    def test_not_built(self):
+        """Who may not write, and would have to build, is told so."""
+        clone = self.writable()
+        tools = self.tools("tools", *NEEDED, "mkdir")
+        said = f"{clone} is not built, or has changed since, and you may not write there: who may, runs ./fields once\n"
+        with read_only(clone):
+            call = run("./fields", "examples/bench.py", user=OTHER_USER, cwd=clone, PATH=tools)
+        self.assertEqual(call, (2, "", said))
+
+
+@contextlib.contextmanager
+def read_only(folder):
+    subprocess.run(["chmod", "-R", "a-w", folder], check=True)
+    yield
+    subprocess.run(["chmod", "-R", "u+w", folder], check=True)
+
+
+class Install(Copy):
+    @classmethod
+    def setUpClass(cls):
+        super().setUpClass()
+        cls.prefix = cls.work / "a prefix"
+        before = state(cls.built)
+        cls.status, cls.out, cls.err = run("./install", "--prefix", cls.prefix, cwd=cls.built, PATH=SYSTEM)
+        cls.unchanged = state(cls.built) == before
+        cls.built.rename(cls.work / "away")
+        cls.wheel = cls.prefix / f"share/stumpgarret/stumpgarret-{stumpgarret.__version__}-py3-none-linux_x86_64.whl"
+        # What runs the module: a Python for x86-64.
+        root = cls.prefix / "lib/stumpgarret/root"
+        cls.python = [*EMULATOR, "-L", root, root / "usr/bin/python3.11"] if EMULATED else [shutil.which("python3", path=SYSTEM)]
+
+    def test_files(self):
+        self.assertEqual((self.status, self.err, self.unchanged), (0, "", True))
+        modules = ["stumpgarret.py", "libstumpgarret.so"]
+        files = ["bin/stumpgarret", *(f"lib/stumpgarret/{name}" for name in modules), "lib/libstumpgarret.a"]
+        files += ["include/stumpgarret.h", "share/doc/stumpgarret/NOTICE", self.wheel.relative_to(self.prefix)]
+        said = self.out.splitlines()
+        for file in files:
+            path = self.prefix / file
+            self.assertEqual(stat.S_IMODE(path.stat().st_mode), 0o755 if path.parent.name == "bin" else 0o644, file)
+            self.assertIn(str(path), said)
+        self.assertEqual([*self.prefix.rglob("*.new")], [])
+        self.assertEqual("Python for x86-64 under qemu-x86_64" in self.out, EMULATED)
+
+    def test_command(self):
+        """It runs for another user, with the clone gone, in any folder, and by a link."""
+        examples = self.work / "away"
+        link = self.work / "command"
+        link.symlink_to(self.prefix / "bin/stumpgarret")
+        for command in (self.prefix / "bin/stumpgarret", link):
+            call = run(command, "examples/bench.py", user=OTHER_USER, cwd=examples, PATH=self.few)
+            self.assertEqual(call, (0, BENCH_FIELDS, ""))
+
+    def test_again(self):
+        """Over what is installed already."""
+        (self.work / "away").rename(self.built)
+        try:
+            again = run("./install", "--prefix", self.prefix, cwd=self.built, PATH=SYSTEM)
+        finally:
+            self.built.rename(self.work / "away")
+        self.assertEqual(again, (0, self.out, ""))
+
+    def test_wrong_use(self):
+        for words in (["--prefix"], ["--prefix", ""], ["there"], ["--prefix", "there", "and"]):
+            status, _, err = run(CLONE / "install", *words, cwd=self.work, PATH=SYSTEM)
+            self.assertEqual((status, err), (2, f"usage: {CLONE}/install [--prefix DIR]\n"))
+
+    def test_c(self):
+        """A C program finds header and library there."""
+        source = self.work / "program.c"
+        source.write_text('#include <stumpgarret.h>\nint main(void) { return !stumpgarret_read; }\n')
+        compiler = "x86_64-linux-gnu-gcc" if EMULATED else "gcc"
+        program = self.work / "program"
+        places = [f"-I{self.prefix}/include", f"-L{self.prefix}/lib"]
+        subprocess.run([compiler, "-static", *places, "-o", program, source, "-lstumpgarret"], check=True)
+        self.assertEqual(subprocess.run([*EMULATOR, program]).returncode, 0)
+
+    def test_record_of_the_wheel(self):
+        with zipfile.ZipFile(self.wheel) as archive:
+            self.assertIsNone(archive.testzip())
+            info = f"stumpgarret-{stumpgarret.__version__}.dist-info"
+            record = dict(line.split(",", 1) for line in archive.read(f"{info}/RECORD").decode().splitlines())
+            self.assertEqual(sorted(record), sorted(archive.namelist()))
+            self.assertEqual(record.pop(f"{info}/RECORD"), ",")
+            for name, said in record.items():
+                content = archive.read(name)
+                digest = base64.urlsafe_b64encode(hashlib.sha256(content).digest()).decode().rstrip("=")
+                self.assertEqual(said, f"sha256={digest},{len(content)}")
+            self.assertIn(f"Version: {stumpgarret.__version__}\n", archive.read(f"{info}/METADATA").decode())
+            self.assertIn("Tag: py3-none-linux_x86_64\n", archive.read(f"{info}/WHEEL").decode())
+
+    def test_wheel(self):
+        """Installed by pip, if there is one, else unpacked, it is a module that has its library."""
+        folder = self.work / "packages"
+        if subprocess.run([sys.executable, "-m", "pip", "--version"], capture_output=True).returncode == 0:
+            options = ["--root-user-action=ignore", "--no-index", "--no-deps", "--only-binary=:all:", "--platform", "linux_x86_64", "--target", folder]
+            subprocess.run([sys.executable, "-m", "pip", "install", "-q", *options, self.wheel], check=True)
+            self.assertIn("from stumpgarret import process", (folder / "bin/stumpgarret").read_text())
+        else:
+            zipfile.ZipFile(self.wheel).extractall(folder)
+        program = "import stumpgarret; print(stumpgarret.__file__, [field.spec for field in stumpgarret.fields(\"f'{x:3}'\")])"
+        call = run(*self.python, "-B", "-c", program, cwd="/", PATH=self.few, PYTHONPATH=folder)
+        self.assertEqual(call, (0, f"{folder}/stumpgarret.py ['3']\n", ""))
+
+    @unittest.skipIf(EMULATED, "this machine's own Python cannot load the library")
+    def test_import(self):
+        """A Python that has modules under the prefix finds it."""
+        there = self.work / "environment"
+        subprocess.run([sys.executable, "-m", "venv", "--without-pip", there], check=True)
+        path = f"{there}/bin:{SYSTEM}"
+        (self.work / "away").rename(self.built)
+        try:
+            status, _, _ = run("./install", "--prefix", there, cwd=self.built, PATH=path)
+        finally:
+            self.built.rename(self.work / "away")
+        program = "import stumpgarret; print(stumpgarret.__file__)"
+        call = run("python3", "-B", "-c", program, cwd="/", PATH=path)
+        self.assertEqual((status, call), (0, (0, f"{there}/lib/stumpgarret/stumpgarret.py\n", "")))
+
+
+if __name__ == "__main__":
+    unittest.main()
