@@ -38,6 +38,7 @@ examples/bench.py:5:37\t2 + len(status)\t\t
 RT = """#!/bin/sh
 test "$*" = "staticlib stumpgarret" || exit 2
 echo called >> rt-calls
+echo "rt: definition proved (2 s)" >&2
 mkdir -p target/staticlib
 size=$(stat -c %s "$STUMPGARRET_STATIC")
 head -c $((size / 2)) "$STUMPGARRET_STATIC" > target/staticlib/libstumpgarret.a
@@ -141,10 +142,27 @@ class Fields(Copy):
         """Of calls at once one builds; the others wait for it, and then there is a whole library."""
         clone, variables = self.writable(), self.with_rt()
         calls = [start("bindings/python/ready", cwd=clone, **variables) for _ in range(CALLS_AT_ONCE)]
-        self.assertEqual([call[0] for call in map(ended, calls)], CALLS_AT_ONCE * [0])
+        found = [*map(ended, calls)]
+        self.assertEqual([status for status, _, _ in found], CALLS_AT_ONCE * [0])
+        self.assertIn((0, "", "another call is building the library: waiting for it\n"), found)
         self.assertEqual((clone / "rt-calls").read_text(), "called\n")
         self.assertLessEqual({path.name for path in (clone / "target/python").glob("*.so*")}, {"libstumpgarret.so"})
         self.assertEqual(run("./fields", "examples/bench.py", cwd=clone, PATH=self.few), (0, BENCH_FIELDS, ""))
+
+    def test_told(self):
+        """Which of how many crates, and how long it may take."""
+        needs = dict(line.split(":") for line in (CLONE / "crates.txt").read_text().splitlines())
+        crates, todo = set(), ["stumpgarret"]
+        while todo:
+            name = todo.pop()
+            if name in needs and name not in crates:
+                crates.add(name)
+                todo += needs[name].split()
+        n = len(crates)
+        told = [f"proving and building the library, once: {n} crates, which may take 5 to 10 minutes in all"]
+        told += [f"1 of {n} crates proved: definition", f"{n} of {n} crates proved, the library is built"]
+        status, out, err = run("bindings/python/ready", cwd=self.writable(), **self.with_rt())
+        self.assertEqual((status, out, err.splitlines()), (0, "", told))
 
     def test_built_again(self):
         """After a change, and only then."""
