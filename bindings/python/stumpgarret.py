@@ -1,7 +1,7 @@
 #!/usr/bin/env python3
 """Lists every formatted field in the string literals of Python 3.11 scripts, by the proved library stumpgarret.
 
-    python3 stumpgarret.py [--why] [--json] [--check] SCRIPT...
+    python3 stumpgarret.py [--why] [--json] [--html FILE] [--check] SCRIPT...
 
 `python3 stumpgarret.py --help` says what is printed, and what the exit status means. Any Python from 3.7 on will do.
 
@@ -835,11 +835,13 @@ def main(arguments: list[str] | None = None) -> int:
     for stream in (sys.stdout, sys.stderr):
         if isinstance(stream, io.TextIOWrapper):
             stream.reconfigure(errors="backslashreplace")
+    on_page = [] if given.html else None
     try:
-        return max(_print_script(path, given) for path in given.scripts)
+        status = max(_print_script(path, given, on_page) for path in given.scripts)
     except Unavailable as error:
         print(f"stumpgarret: {error}", file=sys.stderr)
         return UNREAD
+    return max(status, _write_page(given.html, on_page)) if given.html else status
 
 
 def _arguments(arguments: list[str] | None) -> argparse.Namespace:
@@ -851,35 +853,72 @@ def _arguments(arguments: list[str] | None) -> argparse.Namespace:
     )
     parser.add_argument("--why", action="store_true", help="add the reason of each conversion")
     parser.add_argument("--json", action="store_true", help="a JSON object for each field, and for each refusal")
+    parser.add_argument("--html", metavar="FILE", help="in place of the list write a page, to a file that ends in .html")
     parser.add_argument("--check", action="store_true", help="compare with Python's own ast (Python 3.11 only)")
     parser.add_argument("--version", action="version", version=f"%(prog)s {__version__}")
     parser.add_argument("scripts", nargs="+", metavar="SCRIPT", help="a path, or - for standard input")
     given = parser.parse_args(arguments)
+    if given.html is not None and not given.html.endswith(".html"):
+        parser.error(f"--html needs a file that ends in .html before the scripts, and this is {given.html}")
+    if given.html and (given.json or given.why):
+        parser.error("--html goes with neither --json nor --why: the page says why, and there is no list")
     if given.check and sys.version_info[:2] != PYTHON_OF_THE_CHECK:
         parser.error("--check needs Python 3.11, and this is {}.{}".format(*sys.version_info))
     return given
 
 
-def _print_script(path: str, given: argparse.Namespace) -> int:
-    """Prints what is known of a script; gives the exit status for it."""
+def _print_script(path: str, given: argparse.Namespace, on_page: list[dict[str, object]] | None) -> int:
+    """Prints what is known of a script, or puts it on the page; gives the exit status for it."""
     name = "<stdin>" if path == STANDARD_INPUT else path
     try:
         source = _content(path)
         found = list_script(source)
     except (OSError, Undecodable) as error:
-        _complain(name, f" {getattr(error, 'strerror', None) or error}")
+        failure = getattr(error, "strerror", None) or str(error)
+        _complain(name, f" {failure}")
+        if on_page is not None:
+            on_page.append({"name": name, "failure": failure})
         return UNREAD
-    for entry in found.entries:
+    differing = differences(source, found) if given.check else None
+    told = [f"{one.line}:{one.column}: {one.reason}" for one in found.refused] + (differing or [])
+    status = COMPLETE if found.complete and not told else INCOMPLETE
+    for entry in found.entries if on_page is None else ():
         if given.json:
             print(json.dumps({"file": name, **_json(entry)}))
         elif isinstance(entry, ScriptField):
             reason = (REASONS[entry.reason],) if given.why else ()
             print(*map(_one_line, (f"{name}:{entry.line}:{entry.column}", *_columns(entry), *reason)), sep="\t")
-    told = [f"{one.line}:{one.column}: {one.reason}" for one in found.refused]
-    told += differences(source, found) if given.check else []
     for said in told:
         _complain(name, said)
-    return COMPLETE if found.complete and not told else INCOMPLETE
+    if on_page is not None:
+        shown = {"name": name, "content": source, "text": text_of(source), "differences": differing}
+        rows_of_table = [_page_row(entry) for entry in found.entries]
+        on_page.append({**shown, "entries": found.entries, "rows": rows_of_table, "complete": status == COMPLETE})
+    return status
+
+
+def _page_row(entry: ScriptField | Refused) -> tuple[str, ...] | str:
+    """What the page's table shows: of a refusal its words; of a field why, too, if it is by a `=`."""
+    if isinstance(entry, Refused):
+        return entry.reason
+    expression, conversion, spec = _columns(entry)
+    why = REASONS[entry.reason] if entry.reason in (Reason.REPR, Reason.SPEC) else ""
+    return expression, conversion, why, spec
+
+
+def _write_page(path: str, scripts: list[dict[str, object]]) -> int:
+    """Writes the page of scripts, beside and then into its place; gives the exit status for it."""
+    import stumpgarret_page
+
+    content = stumpgarret_page.page([stumpgarret_page.Script(**script) for script in scripts], __version__)
+    try:
+        with open(path + ".new", "w", encoding="utf-8", newline="\n") as file:
+            file.write(content)
+        os.replace(path + ".new", path)
+    except OSError as error:
+        _complain(path, f" {error.strerror}")
+        return UNREAD
+    return COMPLETE
 
 
 def _content(path: str) -> bytes:

@@ -116,7 +116,8 @@ class WrongTypes(unittest.TestCase):
         for wrong in (None, "0", 1.0):
             said = f"to be a whole number, not {type(wrong).__name__}"
             self.refuses(f"the offset is {said}", literals, "''", wrong)
-            self.refuses(f"literal 1: start is {said}", read, "''", [Literal(0, 0, 1, 0, 0, 2), Literal(0, 0, 1, 0, wrong, 2)])
+            listed = [Literal(0, 0, 1, 0, 0, 2), Literal(0, 0, 1, 0, wrong, 2)]
+            self.refuses(f"literal 1: start is {said}", read, "''", listed)
 
     def test_others(self):
         self.refuses("literal 0: a Literal is wanted, not tuple", read, "''", [(0, 0, 1, 0, 0, 2)])

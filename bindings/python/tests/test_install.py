@@ -136,7 +136,8 @@ class Fields(Copy):
     def test_by_a_link(self):
         link = self.work / "link"
         link.symlink_to(self.built / "fields")
-        self.assertEqual(run(link, "--version", cwd="/", PATH=self.few)[:2], (0, f"stumpgarret {stumpgarret.__version__}\n"))
+        said = f"stumpgarret {stumpgarret.__version__}\n"
+        self.assertEqual(run(link, "--version", cwd="/", PATH=self.few), (0, said, ""))
 
     def test_built_once(self):
         """Of calls at once one builds; the others wait for it, and then there is a whole library."""
@@ -167,7 +168,7 @@ class Fields(Copy):
     def test_built_again(self):
         """After a change, and only then."""
         clone, variables = self.writable(), self.with_rt()
-        for calls, change in enumerate([None, None, "crates.txt", None, "crates/strings/src/lib.rt", "bindings/python/build"]):
+        for change in (None, None, "crates.txt", None, "crates/strings/src/lib.rt", "bindings/python/build"):
             if change:
                 (clone / change).touch()
             self.assertEqual(run("bindings/python/ready", cwd=clone, **variables)[0], 0)
@@ -223,11 +224,12 @@ class Install(Copy):
         cls.wheel = cls.prefix / f"share/stumpgarret/stumpgarret-{stumpgarret.__version__}-py3-none-linux_x86_64.whl"
         # What runs the module: a Python for x86-64.
         root = cls.prefix / "lib/stumpgarret/root"
-        cls.python = [*EMULATOR, "-L", root, root / "usr/bin/python3.11"] if EMULATED else [shutil.which("python3", path=SYSTEM)]
+        emulated = [*EMULATOR, "-L", root, root / "usr/bin/python3.11"]
+        cls.python = emulated if EMULATED else [shutil.which("python3", path=SYSTEM)]
 
     def test_files(self):
         self.assertEqual((self.status, self.err, self.unchanged), (0, "", True))
-        modules = ["stumpgarret.py", "libstumpgarret.so"]
+        modules = ["stumpgarret.py", "stumpgarret_page.py", "libstumpgarret.so"]
         files = ["bin/stumpgarret", *(f"lib/stumpgarret/{name}" for name in modules), "lib/libstumpgarret.a"]
         files += ["include/stumpgarret.h", "share/doc/stumpgarret/NOTICE", self.wheel.relative_to(self.prefix)]
         said = self.out.splitlines()
@@ -246,6 +248,15 @@ class Install(Copy):
         for command in (self.prefix / "bin/stumpgarret", link):
             call = run(command, "examples/bench.py", user=OTHER_USER, cwd=examples, PATH=self.few)
             self.assertEqual(call, (0, BENCH_FIELDS, ""))
+
+    def test_page(self):
+        page = self.work / "pages/page.html"
+        page.parent.mkdir()
+        page.parent.chmod(0o777)
+        words = "--html", page, "examples/bench.py"
+        call = run(self.prefix / "bin/stumpgarret", *words, user=OTHER_USER, cwd=self.work / "away", PATH=self.few)
+        self.assertEqual(call, (0, "", ""))
+        self.assertIn("Complete: 6 fields, and these are all", page.read_text())
 
     def test_again(self):
         """Over what is installed already."""
@@ -289,12 +300,13 @@ class Install(Copy):
         """Installed by pip, if there is one, else unpacked, it is a module that has its library."""
         folder = self.work / "packages"
         if subprocess.run([sys.executable, "-m", "pip", "--version"], capture_output=True).returncode == 0:
-            options = ["--root-user-action=ignore", "--no-index", "--no-deps", "--only-binary=:all:", "--platform", "linux_x86_64", "--target", folder]
-            subprocess.run([sys.executable, "-m", "pip", "install", "-q", *options, self.wheel], check=True)
+            options = ["-q", "--no-index", "--no-deps", "--only-binary=:all:", "--platform", "linux_x86_64", "--target", folder]
+            variables = {**os.environ, "PIP_ROOT_USER_ACTION": "ignore"}
+            subprocess.run([sys.executable, "-m", "pip", "install", *options, self.wheel], check=True, env=variables)
             self.assertIn("from stumpgarret import process", (folder / "bin/stumpgarret").read_text())
         else:
             zipfile.ZipFile(self.wheel).extractall(folder)
-        program = "import stumpgarret; print(stumpgarret.__file__, [field.spec for field in stumpgarret.fields(\"f'{x:3}'\")])"
+        program = "import stumpgarret as s; print(s.__file__, [field.spec for field in s.fields(\"f'{x:3}'\")])"
         call = run(*self.python, "-B", "-c", program, cwd="/", PATH=self.few, PYTHONPATH=folder)
         self.assertEqual(call, (0, f"{folder}/stumpgarret.py ['3']\n", ""))
 
