@@ -145,14 +145,14 @@ module _ (s : List ℕ) (xs : List ListRow) where
   pub windows-start : Windows s xs 0 0
   windows-start = record { same = zero-add _; some = λ h. absurd (omega arith) }
 
-  in-two : (seen : ℕ) → total s (drop seen xs) ≡ total s (take 1024 (drop seen xs)) + total s (drop (seen + 1024) xs)
+  in-two : (seen : ℕ) → total s (drop seen xs) ≡ total s (take 128 (drop seen xs)) + total s (drop (seen + 128) xs)
   in-two seen =
-      ap (total s) (sym (take-append-drop 1024 (drop seen xs))) ∙ total-append s (take 1024 (drop seen xs)) (drop 1024 (drop seen xs)) ∙ ap (λ y. total s (take 1024 (drop seen xs)) + total s y) (drop-drop 1024 seen xs)
+      ap (total s) (sym (take-append-drop 128 (drop seen xs))) ∙ total-append s (take 128 (drop seen xs)) (drop 128 (drop seen xs)) ∙ ap (λ y. total s (take 128 (drop seen xs)) + total s y) (drop-drop 128 seen xs)
 
   before : (seen : ℕ) → total s xs ≡ total s (take seen xs) + total s (drop seen xs)
   before seen = ap (total s) (sym (take-append-drop seen xs)) ∙ total-append s (take seen xs) (drop seen xs)
 
-  pub window-most : (seen : ℕ) → total s (take 1024 (drop seen xs)) ≤ total s xs
+  pub window-most : (seen : ℕ) → total s (take 128 (drop seen xs)) ≤ total s xs
   window-most seen = omega (arith, in-two seen, before seen)
 
   none-left : (ys : List ListRow) (n : ℕ) → length ys ≤ n → total s (drop n ys) ≡ 0
@@ -169,10 +169,10 @@ module _ (s : List ℕ) (xs : List ListRow) where
     pub windows-most : rows + w .rows ≤ total s xs
     windows-most = omega (arith, p .same, q .counted, in-two seen)
 
-    pub windows-done : w .all ≤ seen + 1024 → rows + w .rows ≡ total s xs
-    windows-done h = omega (arith, p .same, q .counted, in-two seen, none-left xs (seen + 1024) (omega (arith, q .all)))
+    pub windows-done : w .all ≤ seen + 128 → rows + w .rows ≡ total s xs
+    windows-done h = omega (arith, p .same, q .counted, in-two seen, none-left xs (seen + 128) (omega (arith, q .all)))
 
-    pub windows-next : seen + 1024 < w .all → Windows s xs (rows + w .rows) (seen + 1024)
+    pub windows-next : seen + 128 < w .all → Windows s xs (rows + w .rows) (seen + 128)
     windows-next h = record { same = omega (arith, p .same, q .counted, in-two seen); some = λ k. omega (arith, q .all) }
 
 -- THE ROWS IN A WINDOW
@@ -215,10 +215,10 @@ module _ (s : List ℕ) (l : d.Literal) (f : Found s l) (seen : ℕ) (some : 1 �
   rs = readRows s 0 l
 
   abbrev window : List ListRow
-  window = take 1024 (drop seen rs)
+  window = take 128 (drop seen rs)
 
-  three : take seen rs ++ (window ++ drop 1024 (drop seen rs)) ≡ rs
-  three = ap (λ ys. take seen rs ++ ys) (take-append-drop 1024 (drop seen rs)) ∙ take-append-drop seen rs
+  three : take seen rs ++ (window ++ drop 128 (drop seen rs)) ≡ rs
+  three = ap (λ ys. take seen rs ++ ys) (take-append-drop 128 (drop seen rs)) ∙ take-append-drop seen rs
 
   pub window-refused : (t : Told) → rs ≡ refusalRow 0 t ∷ [] → Seen s rs seen (record { all = 1; rows = 1 })
   window-refused t e = go seen refl
@@ -234,38 +234,38 @@ module _ (s : List ℕ) (l : d.Literal) (f : Found s l) (seen : ℕ) (some : 1 �
       go zero q = omega (arith, q)
       go (suc k) q = omega (arith, some (omega (arith, q)))
 
-  module _ (block block′ : List ℕ) (n : ℕ) (p : Reads rs seen block block′ n) (len : length block ≡ 10240) where
-    size : length window ≡ least (n - seen) 1024
-    size = go (leb (n - seen) 1024) refl
+  module _ (block block′ : List ℕ) (n : ℕ) (p : Reads rs seen block block′ n) (len : length block ≡ 1280) where
+    size : length window ≡ least (n - seen) 128
+    size = go (leb (n - seen) 128) refl
       where
-        go : (t : Bool) → leb (n - seen) 1024 ≡ t → length window ≡ (if t then n - seen else 1024)
-        go true e = omega (arith, leb-true (n - seen) 1024 e, length-take 1024 (drop seen rs), length-drop seen rs, p .counted)
-        go false e = omega (arith, leb-false (n - seen) 1024 e, length-take 1024 (drop seen rs), length-drop seen rs, p .counted)
+        go : (t : Bool) → leb (n - seen) 128 ≡ t → length window ≡ (if t then n - seen else 128)
+        go true e = omega (arith, leb-true (n - seen) 128 e, length-take 128 (drop seen rs), length-drop seen rs, p .counted)
+        go false e = omega (arith, leb-false (n - seen) 128 e, length-take 128 (drop seen rs), length-drop seen rs, p .counted)
 
     holds : block′ ≡ tens window ++ drop (length (tens window)) block
     holds =
-        let e : take (length block) (drop (seen * 10) (tens rs)) ≡ tens window = ap₂ take len (tens-drop seen rs) ∙ tens-take 1024 (drop seen rs) in
+        let e : take (length block) (drop (seen * 10) (tens rs)) ≡ tens window = ap₂ take len (tens-drop seen rs) ∙ tens-take 128 (drop seen rs) in
         p .wrote ∙ ap (λ ns. inFront ns block) e
 
-    stands : rowsIn block′ 0 (least (n - seen) 1024) ≡ window
+    stands : rowsIn block′ 0 (least (n - seen) 128) ≡ window
     stands = rw (holds, ← size) (rows-back [] 0 window (drop (length (tens window)) block) refl)
 
-    pub window-block : Block s block′ (least (n - seen) 1024)
+    pub window-block : Block s block′ (least (n - seen) 128)
     window-block =
-        let m = length-take 1024 (drop seen rs) in
-        let parts = fit-parts s (suc (length s)) (take seen rs) (window ++ drop 1024 (drop seen rs)) (rw (sym three) at (literal-fits s l f)) in
+        let m = length-take 128 (drop seen rs) in
+        let parts = fit-parts s (suc (length s)) (take seen rs) (window ++ drop 128 (drop seen rs)) (rw (sym three) at (literal-fits s l f)) in
         record {
           room = rw (← size) (omega (arith, ap length holds, length-append (tens window) (drop (length (tens window)) block), length-drop (length (tens window)) block, tens-length window));
-          fields = rw stands (omega (arith, p .fields, ap refusalsIn three, refusals-append (take seen rs) (window ++ drop 1024 (drop seen rs)), refusals-append window (drop 1024 (drop seen rs))));
-          fit = rw stands (fit-parts s (suc (length s)) window (drop 1024 (drop seen rs)) (parts .1) .0);
+          fields = rw stands (omega (arith, p .fields, ap refusalsIn three, refusals-append (take seen rs) (window ++ drop 128 (drop seen rs)), refusals-append window (drop 128 (drop seen rs))));
+          fit = rw stands (fit-parts s (suc (length s)) window (drop 128 (drop seen rs)) (parts .1) .0);
           few = rw stands (omega (arith, window-most s rs seen, literal-most s l f .0));
           not-long = f .not-long;
         }
 
-    pub window-less : total s (rowsIn block′ 0 (least (n - seen) 1024)) ≤ total s rs
+    pub window-less : total s (rowsIn block′ 0 (least (n - seen) 128)) ≤ total s rs
     window-less = rw stands (window-most s rs seen)
 
-    pub window-seen : (rows : ℕ) → rows ≡ total s (rowsIn block′ 0 (least (n - seen) 1024)) → Seen s rs seen (record { all = n; rows = rows })
+    pub window-seen : (rows : ℕ) → rows ≡ total s (rowsIn block′ 0 (least (n - seen) 128)) → Seen s rs seen (record { all = n; rows = rows })
     window-seen rows e = record { all = p .counted; counted = e ∙ ap (total s) stands }
 
 -- A BLOCK, row by row

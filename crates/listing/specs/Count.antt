@@ -23,10 +23,10 @@ pub record Found (s : List ℕ) (l : d.Literal) : Type 0 where
   pub in-part : InPart s from end l
   pub not-long : length s ≤ 1048576
 
--- 1,024 rows of a literal, or as many as there are, from a number on; and how many it has in all
+-- 128 rows of a literal, or as many as there are, from a number on; and how many it has in all
 pub record Seen (s : List ℕ) (xs : List ListRow) (seen : ℕ) (r : Window) : Type 0 where
   pub all : r .all ≡ length xs
-  pub counted : r .rows ≡ total s (take 1024 (drop seen xs))
+  pub counted : r .rows ≡ total s (take 128 (drop seen xs))
 
 -- so many rows of fields stand in a block, and their sources in the script
 pub record Block (s block : List ℕ) (n : ℕ) : Type 0 where

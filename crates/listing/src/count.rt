@@ -56,16 +56,16 @@ fn count_block(s: &[u8], block: &[u32], n: usize) -> usize
     rows
 }
 
-// Up to 1,024 rows of an f-string from a number on, with those of their sources.
+// Up to 128 rows of an f-string from a number on, with those of their sources.
 fn count_window(s: &[u8], l: Literal, seen: usize) -> Window
     requires { ⌜ Found (now s) (literalOf l) × (isFString (l .kind) ≡ true) × (seen < 4294967296) × (1 ≤ seen → seen < length (readRows (now s) 0 (literalOf l))) ⌝ }
     ensures { λ r. ⌜ Seen (now (s .entry)) (readRows (now (s .entry)) 0 (literalOf l)) seen r ⌝ }
 {
-    let mut block = [0u32; 10240];
+    let mut block = [0u32; 1280];
     match read_alone(s, l, 0, seen as u32, &mut block) {
         Alone::Refused(_) => Window { all: 1, rows: 1 },
         Alone::Fields(n) => {
-            let some = lesser(n - seen, 1024);
+            let some = lesser(n - seen, 128);
             let rows = count_block(s, &block, some);
             Window { all: n, rows }
         }
@@ -83,7 +83,7 @@ fn count_literal(s: &[u8], l: Literal) -> usize
         loop {
             let w = count_window(s, l, seen);
             rows += w.rows;
-            seen += 1024;
+            seen += 128;
             if w.all <= seen {
                 return rows;
             }

@@ -180,6 +180,6 @@ pub +count-block+count-literal+count-part+count-window-spec : {M : Type 1} → s
     (λ c. let e = rw (c .before .n .given .1) at (c .before .before .before .before .read-alone .ensures) in omega (arith, window-among _ _ ((c .before .before .before .before .before .before .before .pre .1 .0)) _ ((c .before .before .before .before .before .before .before .pre .1 .3)) _ (e .counted)))  -- sub-lesser
     (λ c κs. search needs)  -- lesser-requires
     (λ c. search needs)  -- slice-aggregate-count-block
-    (λ c κs. let e = rw (c .before .before .before .n .given .1) at (c .before .before .before .before .before .before .read-alone .ensures) in rw (c .before .lesser .ensures) (omega (arith, (c .before .before .before .before .before .before .before .before .before .pre .0), window-less _ _ ((c .before .before .before .before .before .before .before .before .before .pre .1 .0)) _ ((c .before .before .before .before .before .before .before .before .before .pre .1 .3)) _ _ _ e (length-replicate {A = ℕ} 10240 0)), window-block _ _ ((c .before .before .before .before .before .before .before .before .before .pre .1 .0)) _ ((c .before .before .before .before .before .before .before .before .before .pre .1 .3)) _ _ _ e (length-replicate {A = ℕ} 10240 0)))  -- count-block-requires
+    (λ c κs. let e = rw (c .before .before .before .n .given .1) at (c .before .before .before .before .before .before .read-alone .ensures) in rw (c .before .lesser .ensures) (omega (arith, (c .before .before .before .before .before .before .before .before .before .pre .0), window-less _ _ ((c .before .before .before .before .before .before .before .before .before .pre .1 .0)) _ ((c .before .before .before .before .before .before .before .before .before .pre .1 .3)) _ _ _ e (length-replicate {A = ℕ} 1280 0)), window-block _ _ ((c .before .before .before .before .before .before .before .before .before .pre .1 .0)) _ ((c .before .before .before .before .before .before .before .before .before .pre .1 .3)) _ _ _ e (length-replicate {A = ℕ} 1280 0)))  -- count-block-requires
     (λ c. window-refused _ _ ((c .before .before .before .before .before .before .pre .1 .0)) _ ((c .before .before .before .before .before .before .pre .1 .3)) _ (rw (c .enum-told .given .1) at (c .before .before .before .read-alone .ensures)))  -- returns
-    (λ c. let e = rw (c .before .before .before .before .n .given .1) at (c .before .before .before .before .before .before .before .read-alone .ensures) in window-seen _ _ ((c .before .before .before .before .before .before .before .before .before .before .pre .1 .0)) _ ((c .before .before .before .before .before .before .before .before .before .before .pre .1 .3)) _ _ _ e (length-replicate {A = ℕ} 10240 0) _ (rw (c .before .before .lesser .ensures) at (c .count-block .ensures))))  -- returns-2
+    (λ c. let e = rw (c .before .before .before .before .n .given .1) at (c .before .before .before .before .before .before .before .read-alone .ensures) in window-seen _ _ ((c .before .before .before .before .before .before .before .before .before .before .pre .1 .0)) _ ((c .before .before .before .before .before .before .before .before .before .before .pre .1 .3)) _ _ _ e (length-replicate {A = ℕ} 1280 0) _ (rw (c .before .before .lesser .ensures) at (c .count-block .ensures))))  -- returns-2
