@@ -42,7 +42,7 @@ th { background: #f0f0f0 }
 .table th:nth-child(2) { width: 46% }
 .table th:nth-child(n + 3) { width: 22% }
 td code { white-space: pre-wrap; background: #f3f3f3 }
-td:first-child { white-space: nowrap; overflow-wrap: normal }
+.table td:first-child { white-space: nowrap; overflow-wrap: normal }
 tr.no td { font-weight: 600; color: #a40e26; background: #fdecee }
 @media (max-width: 60rem) {
     .both { grid-template-columns: minmax(0, 1fr) }

@@ -28,13 +28,13 @@ class Progress(unittest.TestCase):
     def test_terminal(self):
         """There a line after each time without one, too."""
         ours, terminal = pty.openpty()
-        with subprocess.Popen(["sh", "-c", f"echo '{LINES[1]}'; sleep 2.5"], stdout=subprocess.PIPE) as lines:
+        with subprocess.Popen(["sh", "-c", f"echo '{LINES[1]}'; sleep 4"], stdout=subprocess.PIPE) as lines:
             subprocess.run(PROGRESS, stdin=lines.stdout, stderr=terminal, check=True)
         os.close(terminal)
         told = os.read(ours, 10_000).decode().splitlines()
         os.close(ours)
         self.assertEqual(told[0], TOLD[0])
-        self.assertGreaterEqual(len(told), 3)
+        self.assertGreaterEqual(len(told), 2)
         for line in told[1:]:
             self.assertRegex(line, r"^\.\.\. crate 2 of 9 is being proved, 0 min \d s in all so far$")
 
@@ -66,7 +66,7 @@ class Test(unittest.TestCase):
 
     def test_as_they_come(self):
         self.write("bindings/python/test", "#!/bin/sh\necho bindings are tested\n")
-        status, lines = self.run_with("echo one; sleep 2; echo two >&2; echo '7 passed, 0 failed'")
+        status, lines = self.run_with("echo one; sleep 4; echo two >&2; echo '7 passed, 0 failed'")
         told = ["one", "two", "bindings are tested", "7 passed, 0 failed"]
         self.assertEqual((status, [line for line, _ in lines]), (0, told))
         self.assertGreater(lines[1][1], 1)

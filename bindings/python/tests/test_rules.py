@@ -354,7 +354,8 @@ class Definitions(unittest.TestCase):
                 self.assertRegex(definition(file), there, section.name)
 
     def test_each_file_is_named(self):
-        files = {path.name for path in SPECS.glob("*.antt")} - {"Lib.antt"}
+        """But for those of a lent file of names, which no call takes yet."""
+        files = {path.name for path in SPECS.glob("*.antt")} - {"Lib.antt", "Names.antt", "IsIndex.antt"}
         self.assertEqual({file for section in RULES for file, _ in section.defined}, files)
 
     def test_no_file_is_named_otherwise(self):

@@ -69,7 +69,7 @@ fn extend(family: &Family, script: &mut String, left: usize, visit: &mut dyn FnM
     }
 }
 
-/// What is repeated, and what stands at the end.
+/// What is repeated, with spaces up to 64 bytes, and what stands at the end.
 const LONG: &[(&str, &str)] = &[
     ("f'{x}' ", ""),
     ("f'{#}' ", "'"),
@@ -82,6 +82,7 @@ const LONG: &[(&str, &str)] = &[
 /// Scripts as long as they may be, and a byte longer.
 pub fn visit_long(visit: &mut dyn FnMut(&Case)) {
     for (again, last) in LONG {
+        let again = format!("{again:<64}");
         let before = MAX_SCRIPT_BYTES - last.len();
         let mut script = again.repeat(before / again.len()).into_bytes();
         script.resize(before, b' ');
