@@ -105,12 +105,16 @@ pub data Reached (s : List ℕ) : ℕ → Type 0 where
 pub counted-none : (s : List ℕ) → counted s 0 ≡ nothing
 counted-none s = count-stops s 0 0 nothing (count-begins s 0) (omega arith)
 
+-- a place's count goes on at the next one
+count-next : (s : List ℕ) (i taken : ℕ) → ((t : ℕ) → i ≤ t → Counting s t i (counted s i)) → i < length s → next s i ≤ taken → Counting s taken (next s i) (counted s (next s i))
+count-next s i taken f l h =
+    let p = next-past s i l in
+    rw (count-stops s (next s i) (next s i) _ (count-goes s (next s i) i _ (f (next s i) (omega arith)) p l) (omega arith))
+    (count-goes s taken i _ (f taken (omega arith)) (omega arith) l)
+
 reached-counts : (s : List ℕ) {i : ℕ} → Reached s i → (taken : ℕ) → i ≤ taken → Counting s taken i (counted s i)
 reached-counts s start taken h = rw (counted-none s) (count-begins s taken)
-reached-counts s (step {i} r l) taken h =
-    let p = next-past s i l in
-    rw (count-stops s (next s i) (next s i) _ (count-goes s (next s i) i _ (reached-counts s r (next s i) (omega arith)) p l) (omega arith))
-    (count-goes s taken i _ (reached-counts s r taken (omega arith)) (omega arith) l)
+reached-counts s (step {i} r l) taken h = count-next s i taken (λ t g. reached-counts s r t g) l h
 
 -- at each place in the character and just after it
 pub counted-step : (s : List ℕ) (i j : ℕ) → Reached s i → i < length s → i < j → j ≤ next s i → counted s j ≡ more (code s i) (counted s i)

@@ -4,6 +4,7 @@ pub mod FieldLaws
 pub mod FieldLoop
 pub mod FstringLaws
 pub mod RowLaws
+pub mod CycleLaws
 pub mod ListLaws
 pub mod RowCalls
 pub mod TopLaws

@@ -5,13 +5,12 @@ use mathlib.Core.Path.{_≡_, refl, sym, ap, _∙_}
 use Prim.Native.Nat.{_+_, _-_}
 use native.Mathlib.Numerals.{add-one}
 use borrow.Author.Tests.{eq-eqb, ne-eqb}
-use Rattle.definition.proofs.CharLaws.{next-past, next-in}
 use Rattle.definition.proofs.Fuel.{first-in}
 use lib.ListN.{length}
-use Rattle.definition.specs.Body.{signs}
 use Rattle.strings.specs.declared.fstring.Read.the-variants.{Refused}
-use Rattle.strings.proofs.FstringLaws.{signsOf, gave, refuses, to-refuse, fits, small-head, one-part, spec-room, closed-field, closed-reads, unformatted-field, spec-unended, spec-ended, specified-field, deep-result, run-ended, room-text, over-reads, text-over, field-refused, field-further, kept, first-emits, first-room, plain-reads, spec-plain, braced-reads, spec-braced, spec-refused, spec-fits}
-use Rattle.strings.proofs.RowLaws.{Rowing, begun, text-few, goes-on, both-signed, filled-signed, text-signed, closed-signed, field-signed, read-signed, to-sign, few-on, few-field, placed, head-in}
+use Rattle.strings.proofs.FstringLaws.{refuses, to-refuse, fits, small-head, deep-result, run-ended, over-reads, text-over, kept, first-emits, first-room, plain-reads, spec-plain, spec-refused}
+use Rattle.strings.proofs.RowLaws.{Rowing, begun, filled-signed, text-signed, to-sign, few-on, placed, head-in}
+use Rattle.strings.proofs.CycleLaws.{closed-returns, spec-asks, spec-placed, spec-refuses, end-refuses, spec-returns, field-asks, field-refuses, further, goes-further, behind-fits, braced-returns}
 use Prim.Native.Nat.{ℕ, suc, _<_, _≤_}
 use borrow.Fn.Kinds.{In}
 use borrow.Fn.PlainCycle.{Measures, is, falls, and}
@@ -108,27 +107,27 @@ parse-fstring-μ-loop s nested fr words₀ text₀ rows₀ fields cursor₀ sink
 
 parse-formatted-value-returns : (t : ℕ) → parse-formatted-value-lts.Need-returns (parse-formatted-value-calls t) (parse-formatted-value-at t) parse-formatted-value.Post
 parse-formatted-value-returns t c =
-    let a = (c .before .before .before .before .before .before .before .before .before .before .before .before .before .before .before .before .before .before .before .before .before .before .before .before .before .before .args) in let E = rw (c .before .before .before .before .before .before .before .before .before .before .before .before .before .before .before .before .h .given .1) at (c .before .before .before .before .before .before .before .before .before .before .before .before .before .before .before .before .before .before .before .before .read-head .ensures) in let C = rw (c .before .before .before .before .if1 .taken) at E in let m = (c .before .before .before .before .before .before .before .before .before .emit-field .ensures) (C .head .expression) (a .text .now) (signsOf (c .before .before .before .before .before .before .before .before .before .before .before .before .before .before .before .before .h .given .0 .0) 0 ((c .before .before .before .before .before .before .before .before .before .before .before .before .before .before .before .before .h .given .0 .0) .at .at)) (C .head .grown) (C .head .wrote) in (closed-field (a .s .now) (a .nested) (a .at .at) _ (a .fr) _ _ (c .before .before .before .before .before .before .before .before .before .before .before .before .before .before .before .before .h .given .0 .0) C _ _ _ (a .k) _ _ (rw (c .before .before .before .before .if1 .taken) at m), to-sign _ _ _ _ (a .fr) _ _ (a .fields) (closed-reads (a .s .now) (a .nested) (a .at .at) _ (a .fr) _ _ (c .before .before .before .before .before .before .before .before .before .before .before .before .before .before .before .before .h .given .0 .0) C) (closed-signed (a .fr) (a .nested) (C .head .expression) (c .before .before .before .before .before .before .before .before .before .before .before .before .before .before .before .before .h .given .0 .0) 0 (a .at .at) 0 ((c .before .before .before .before .before .before .before .before .before .before .before .before .before .before .before .before .h .given .0 .0) .at .at) _ _ _ _ (a .fields) (omega (arith, C .head .grown)) (rw (c .before .before .before .before .if1 .taken) at (c .before .before .put-signs .ensures)) refl))
+    let a = c .before .before .before .before .before .before .before .before .before .before .before .before .before .before .before .before .before .before .before .before .before .before .before .before .before .before .args in let E = rw (c .before .before .before .before .before .before .before .before .before .before .before .before .before .before .before .before .h .given .1) at (c .before .before .before .before .before .before .before .before .before .before .before .before .before .before .before .before .before .before .before .before .read-head .ensures) in closed-returns (a .s .now) (a .nested) (a .at .at) (a .fr) (a .k) (c .before .before .before .before .before .before .before .before .before .before .before .before .before .before .before .before .h .given .0 .0) _ _ _ _ _ _ _ E (c .before .before .before .before .before .before .before .before .before .emit-field .ensures) (c .before .before .before .before .if1 .taken) _ _ (a .fields) (c .before .before .put-signs .ensures)
 
 parse-formatted-value-parse-spec-requires : (t : ℕ) → parse-formatted-value-lts.Need-parse-spec-requires (parse-formatted-value-calls t) (parse-formatted-value-at t) parse-formatted-value.Post
 parse-formatted-value-parse-spec-requires t c κs =
-    let a = (c .before .before .before .before .before .before .before .before .before .before .before .before .before .before .before .before .before .before .before .before .before .before .before .before .before .args) in let R = (c .before .before .before .before .before .before .before .before .before .before .before .before .before .before .before .before .before .before .before .before .before .before .before .before .before .pre .1 .0) in let E = rw (c .before .before .before .before .before .before .before .before .before .before .before .before .before .before .before .h .given .1) at (c .before .before .before .before .before .before .before .before .before .before .before .before .before .before .before .before .before .before .before .read-head .ensures) in let p = one-part _ _ _ _ _ _ _ E (c .before .before .before .if1 .left) in let C = rw p at E in let m = (c .before .before .before .before .before .before .before .before .emit-field .ensures) (C .head .expression) (a .text .now) in let q = spec-room _ _ _ _ _ _ _ _ _ _ _ _ _ (C .head) R (signs 0 0 0 0) (rw p at (m (signs 0 0 0 0) (C .head .grown) (C .head .wrote))) in let e = (c .before .before .before .before .before .before .before .before .before .before .before .before .before .before .before .before .before .before .before .before .before .before .before .before .before .pre .0) in (omega (arith, e, q .further, q .room .low), (q .room, (((c .before .before .before .before .before .before .before .before .before .before .before .before .before .before .before .before .before .before .before .before .before .before .before .before .before .pre .1 .1 .0), q .free, q .strict), few-field (a .fr) (a .nested) (C .head .expression) (c .before .before .before .before .before .before .before .before .before .before .before .before .before .before .before .h .given .0 .0) 1 (a .at .at) _ _ _ _ (a .k) _ (a .fields) (λ g. rw p at (m g (C .head .grown) (C .head .wrote))) (c .before .before .before .before .before .before .before .before .before .before .before .before .before .before .before .before .before .before .before .before .before .before .before .before .before .pre .1 .1 .1))))
+    let a = c .before .before .before .before .before .before .before .before .before .before .before .before .before .before .before .before .before .before .before .before .before .before .before .before .before .args in let p = c .before .before .before .before .before .before .before .before .before .before .before .before .before .before .before .before .before .before .before .before .before .before .before .before .before .pre in let E = rw (c .before .before .before .before .before .before .before .before .before .before .before .before .before .before .before .h .given .1) at (c .before .before .before .before .before .before .before .before .before .before .before .before .before .before .before .before .before .before .before .read-head .ensures) in let q = spec-asks (a .s .now) (a .nested) (a .at .at) (a .fr) (a .k) (c .before .before .before .before .before .before .before .before .before .before .before .before .before .before .before .h .given .0 .0) _ _ _ _ _ _ _ E (c .before .before .before .before .before .before .before .before .emit-field .ensures) (c .before .before .before .if1 .left) (p .1 .0) (a .fields) (p .1 .1 .1) in (omega (arith, p .0, q .0 .further, q .0 .room .low), (q .0 .room, ((p .1 .1 .0, q .0 .free, q .0 .strict), q .1)))
 
 parse-formatted-value-put-signs-requires-2 : (t : ℕ) → parse-formatted-value-lts.Need-put-signs-requires-2 (parse-formatted-value-calls t) (parse-formatted-value-at t) parse-formatted-value.Post
 parse-formatted-value-put-signs-requires-2 t c κs =
-    let a = (c .before .before .before .before .before .before .before .before .before .before .before .before .before .before .before .before .before .before .before .before .before .before .before .before .before .before .before .before .before .before .before .before .before .before .before .before .before .before .before .before .args) in let E = rw (c .before .before .before .before .before .before .before .before .before .before .before .before .before .before .before .before .before .before .before .before .before .before .before .before .before .before .before .before .before .before .h .given .1) at (c .before .before .before .before .before .before .before .before .before .before .before .before .before .before .before .before .before .before .before .before .before .before .before .before .before .before .before .before .before .before .before .before .before .before .read-head .ensures) in let p = one-part _ _ _ _ _ _ _ E (c .before .before .before .before .before .before .before .before .before .before .before .before .before .before .before .before .before .before .if1 .left) in let C = rw p at E in let Q = rw (c .before .before .before .before .before .before .next .given .1) at (c .before .before .before .before .before .before .before .before .before .before .before .before .before .before .parse-spec .ensures) in let G = gave _ _ _ _ _ _ _ _ _ _ _ _ (Q .0) in let z = spec-ended (a .s .now) (a .nested) (a .at .at) _ (a .fr) _ _ (c .before .before .before .before .before .before .before .before .before .before .before .before .before .before .before .before .before .before .before .before .before .before .before .before .before .before .before .before .before .before .h .given .0 .0) (C .head) (G .pieces) _ (G .reads) _ (sym (c .before .before .close .given .1) ∙ (c .before .before .before .before .end-field .ensures)) in placed _ _ _ _ _ _ _ _ _ _ _ (C .head) (c .before .before .before .before .before .before .before .before .before .before .before .before .before .before .before .before .before .before .before .before .before .before .before .before .before .before .before .before .before .before .before .before .before .before .before .before .before .before .before .before .pre .1 .0) (head-in _ _ _ _ _ _ _ (C .head)) (z .1)
+    let a = c .before .before .before .before .before .before .before .before .before .before .before .before .before .before .before .before .before .before .before .before .before .before .before .before .before .before .before .before .before .before .before .before .before .before .before .before .before .before .before .before .args in let E = rw (c .before .before .before .before .before .before .before .before .before .before .before .before .before .before .before .before .before .before .before .before .before .before .before .before .before .before .before .before .before .before .h .given .1) at (c .before .before .before .before .before .before .before .before .before .before .before .before .before .before .before .before .before .before .before .before .before .before .before .before .before .before .before .before .before .before .before .before .before .before .read-head .ensures) in let Q = rw (c .before .before .before .before .before .before .next .given .1) at (c .before .before .before .before .before .before .before .before .before .before .before .before .before .before .parse-spec .ensures) in spec-placed (a .s .now) (a .nested) (a .at .at) (a .fr) (a .k) (c .before .before .before .before .before .before .before .before .before .before .before .before .before .before .before .before .before .before .before .before .before .before .before .before .before .before .before .before .before .before .h .given .0 .0) _ _ _ _ _ _ _ E (c .before .before .before .before .before .before .before .before .before .before .before .before .before .before .before .before .before .before .before .before .before .before .before .emit-field .ensures) (c .before .before .before .before .before .before .before .before .before .before .before .before .before .before .before .before .before .before .if1 .left) _ _ _ _ _ (Q .0) _ (sym (c .before .before .close .given .1) ∙ (c .before .before .before .before .end-field .ensures)) (c .before .before .before .before .before .before .before .before .before .before .before .before .before .before .before .before .before .before .before .before .before .before .before .before .before .before .before .before .before .before .before .before .before .before .before .before .before .before .before .before .pre .1 .0)
 
 parse-formatted-value-returns-3 : (t : ℕ) → parse-formatted-value-lts.Need-returns-3 (parse-formatted-value-calls t) (parse-formatted-value-at t) parse-formatted-value.Post
 parse-formatted-value-returns-3 t c =
-    let E = rw (c .before .before .before .before .before .before .before .before .before .before .before .before .before .before .before .before .before .before .before .before .before .before .before .before .before .h .given .1) at (c .before .before .before .before .before .before .before .before .before .before .before .before .before .before .before .before .before .before .before .before .before .before .before .before .before .before .before .before .before .read-head .ensures) in let p = one-part _ _ _ _ _ _ _ E (c .before .before .before .before .before .before .before .before .before .before .before .before .before .if1 .left) in let C = rw p at E in let Q = rw (c .before .r2 .given .1) at (c .before .before .before .before .before .before .before .before .before .parse-spec .ensures) in let z = refuses _ _ _ _ _ _ _ _ _ _ (Q .0) in (to-refuse (λ l. l) _ _ _ _ _ _ _ _ _ (unformatted-field _ _ _ _ _ _ _ _ (C .head) _ z), tt)
+    let a = c .before .before .before .before .before .before .before .before .before .before .before .before .before .before .before .before .before .before .before .before .before .before .before .before .before .before .before .before .before .before .before .before .before .before .before .args in let E = rw (c .before .before .before .before .before .before .before .before .before .before .before .before .before .before .before .before .before .before .before .before .before .before .before .before .before .h .given .1) at (c .before .before .before .before .before .before .before .before .before .before .before .before .before .before .before .before .before .before .before .before .before .before .before .before .before .before .before .before .before .read-head .ensures) in let Q = rw (c .before .r2 .given .1) at (c .before .before .before .before .before .before .before .before .before .parse-spec .ensures) in (spec-refuses (a .s .now) (a .nested) (a .at .at) (a .fr) (a .k) (c .before .before .before .before .before .before .before .before .before .before .before .before .before .before .before .before .before .before .before .before .before .before .before .before .before .h .given .0 .0) _ _ _ _ _ _ _ E (c .before .before .before .before .before .before .before .before .before .before .before .before .before .before .before .before .before .before .emit-field .ensures) (c .before .before .before .before .before .before .before .before .before .before .before .before .before .if1 .left) _ _ _ _ _ (Q .0), tt)
 
 parse-formatted-value-returns-4 : (t : ℕ) → parse-formatted-value-lts.Need-returns-4 (parse-formatted-value-calls t) (parse-formatted-value-at t) parse-formatted-value.Post
 parse-formatted-value-returns-4 t c =
-    let a = (c .before .before .before .before .before .before .before .before .before .before .before .before .before .before .before .before .before .before .before .before .before .before .before .before .before .before .before .before .before .before .before .before .before .before .before .before .before .before .before .args) in let E = rw (c .before .before .before .before .before .before .before .before .before .before .before .before .before .before .before .before .before .before .before .before .before .before .before .before .before .before .before .before .before .h .given .1) at (c .before .before .before .before .before .before .before .before .before .before .before .before .before .before .before .before .before .before .before .before .before .before .before .before .before .before .before .before .before .before .before .before .before .read-head .ensures) in let p = one-part _ _ _ _ _ _ _ E (c .before .before .before .before .before .before .before .before .before .before .before .before .before .before .before .before .before .if1 .left) in let C = rw p at E in let Q = rw (c .before .before .before .before .before .next .given .1) at (c .before .before .before .before .before .before .before .before .before .before .before .before .before .parse-spec .ensures) in let G = gave _ _ _ _ _ _ _ _ _ _ _ _ (Q .0) in (to-refuse (λ l. l) _ _ _ _ _ _ _ _ _ (spec-unended (a .s .now) (a .nested) (a .at .at) _ (a .fr) _ _ (c .before .before .before .before .before .before .before .before .before .before .before .before .before .before .before .before .before .before .before .before .before .before .before .before .before .before .before .before .before .h .given .0 .0) (C .head) (G .pieces) _ (G .reads) _ (sym (c .before .r3 .given .1) ∙ (c .before .before .before .end-field .ensures))), tt)
+    let a = c .before .before .before .before .before .before .before .before .before .before .before .before .before .before .before .before .before .before .before .before .before .before .before .before .before .before .before .before .before .before .before .before .before .before .before .before .before .before .before .args in let E = rw (c .before .before .before .before .before .before .before .before .before .before .before .before .before .before .before .before .before .before .before .before .before .before .before .before .before .before .before .before .before .h .given .1) at (c .before .before .before .before .before .before .before .before .before .before .before .before .before .before .before .before .before .before .before .before .before .before .before .before .before .before .before .before .before .before .before .before .before .read-head .ensures) in let Q = rw (c .before .before .before .before .before .next .given .1) at (c .before .before .before .before .before .before .before .before .before .before .before .before .before .parse-spec .ensures) in (end-refuses (a .s .now) (a .nested) (a .at .at) (a .fr) (a .k) (c .before .before .before .before .before .before .before .before .before .before .before .before .before .before .before .before .before .before .before .before .before .before .before .before .before .before .before .before .before .h .given .0 .0) _ _ _ _ _ _ _ E (c .before .before .before .before .before .before .before .before .before .before .before .before .before .before .before .before .before .before .before .before .before .before .emit-field .ensures) (c .before .before .before .before .before .before .before .before .before .before .before .before .before .before .before .before .before .if1 .left) _ _ _ _ _ (Q .0) _ _ _ (sym (c .before .r3 .given .1) ∙ (c .before .before .before .end-field .ensures)), tt)
 
 parse-formatted-value-returns-5 : (t : ℕ) → parse-formatted-value-lts.Need-returns-5 (parse-formatted-value-calls t) (parse-formatted-value-at t) parse-formatted-value.Post
 parse-formatted-value-returns-5 t c =
-    let a = (c .before .before .before .before .before .before .before .before .before .before .before .before .before .before .before .before .before .before .before .before .before .before .before .before .before .before .before .before .before .before .before .before .before .before .before .before .before .before .before .before .before .before .before .args) in let E = rw (c .before .before .before .before .before .before .before .before .before .before .before .before .before .before .before .before .before .before .before .before .before .before .before .before .before .before .before .before .before .before .before .before .before .h .given .1) at (c .before .before .before .before .before .before .before .before .before .before .before .before .before .before .before .before .before .before .before .before .before .before .before .before .before .before .before .before .before .before .before .before .before .before .before .before .before .read-head .ensures) in let p = one-part _ _ _ _ _ _ _ E (c .before .before .before .before .before .before .before .before .before .before .before .before .before .before .before .before .before .before .before .before .before .if1 .left) in let C = rw p at E in let m = (c .before .before .before .before .before .before .before .before .before .before .before .before .before .before .before .before .before .before .before .before .before .before .before .before .before .before .emit-field .ensures) (C .head .expression) (a .text .now) in let Q = rw (c .before .before .before .before .before .before .before .before .before .next .given .1) at (c .before .before .before .before .before .before .before .before .before .before .before .before .before .before .before .before .before .parse-spec .ensures) in let G = gave _ _ _ _ _ _ _ _ _ _ _ _ (Q .0) in let w = sym (c .before .before .before .before .before .close .given .1) ∙ (c .before .before .before .before .before .before .before .end-field .ensures) in (specified-field (a .s .now) (a .nested) (a .at .at) _ (a .fr) _ _ (c .before .before .before .before .before .before .before .before .before .before .before .before .before .before .before .before .before .before .before .before .before .before .before .before .before .before .before .before .before .before .before .before .before .h .given .0 .0) (C .head) (G .pieces) _ (G .reads) (c .before .before .before .before .before .close .given .0 .0) w _ _ _ _ _ (a .k) _ _ _ (λ g. rw p at (m g (C .head .grown) (C .head .wrote))) (G .emits), to-sign _ _ _ _ (a .fr) _ _ (a .fields) (spec-ended (a .s .now) (a .nested) (a .at .at) _ (a .fr) _ _ (c .before .before .before .before .before .before .before .before .before .before .before .before .before .before .before .before .before .before .before .before .before .before .before .before .before .before .before .before .before .before .before .before .before .h .given .0 .0) (C .head) (G .pieces) _ (G .reads) (c .before .before .before .before .before .close .given .0 .0) w .0) (field-signed (a .fr) (a .nested) (C .head .expression) (c .before .before .before .before .before .before .before .before .before .before .before .before .before .before .before .before .before .before .before .before .before .before .before .before .before .before .before .before .before .before .before .before .before .h .given .0 .0) 1 (a .at .at) ((c .before .before .before .before .before .before .before .before .before .before .before .before .before .before .before .before .before .before .before .before .before .before .before .before .before .before .before .before .before .before .before .before .before .h .given .0 .0) .at .at) _ _ _ _ _ (a .fields) (omega (arith, C .head .grown)) (rw p at (c .before .before .put-signs2 .ensures)) (G .pieces) _ _ (read-signed _ _ _ _ _ _ _ _ (G .reads) (Q .1))))
+    let a = c .before .before .before .before .before .before .before .before .before .before .before .before .before .before .before .before .before .before .before .before .before .before .before .before .before .before .before .before .before .before .before .before .before .before .before .before .before .before .before .before .before .before .before .args in let E = rw (c .before .before .before .before .before .before .before .before .before .before .before .before .before .before .before .before .before .before .before .before .before .before .before .before .before .before .before .before .before .before .before .before .before .h .given .1) at (c .before .before .before .before .before .before .before .before .before .before .before .before .before .before .before .before .before .before .before .before .before .before .before .before .before .before .before .before .before .before .before .before .before .before .before .before .before .read-head .ensures) in let Q = rw (c .before .before .before .before .before .before .before .before .before .next .given .1) at (c .before .before .before .before .before .before .before .before .before .before .before .before .before .before .before .before .before .parse-spec .ensures) in spec-returns (a .s .now) (a .nested) (a .at .at) (a .fr) (a .k) (c .before .before .before .before .before .before .before .before .before .before .before .before .before .before .before .before .before .before .before .before .before .before .before .before .before .before .before .before .before .before .before .before .before .h .given .0 .0) _ _ _ _ _ _ _ E (c .before .before .before .before .before .before .before .before .before .before .before .before .before .before .before .before .before .before .before .before .before .before .before .before .before .before .emit-field .ensures) (c .before .before .before .before .before .before .before .before .before .before .before .before .before .before .before .before .before .before .before .before .before .if1 .left) _ _ _ _ _ (Q .0) (c .before .before .before .before .before .close .given .0 .0) (sym (c .before .before .before .before .before .close .given .1) ∙ (c .before .before .before .before .before .before .before .end-field .ensures)) _ _ _ (a .fields) (c .before .before .put-signs2 .ensures) (Q .1)
 
 parse-spec-end-text-requires : (t : ℕ) → parse-spec-lts.Need-end-text-requires (parse-spec-calls t) (parse-spec-at t) parse-spec.Post
 parse-spec-end-text-requires t c κs =
@@ -148,7 +147,7 @@ parse-spec-parse-fstring-requires t c κs =
 
 parse-spec-fill-spec-requires-2 : (t : ℕ) → parse-spec-lts.Need-fill-spec-requires-2 (parse-spec-calls t) (parse-spec-at t) parse-spec.Post
 parse-spec-fill-spec-requires-2 t c κs =
-    let a = (c .before .before .before .before .before .before .before .before .before .before .before .before .before .before .before .before .before .before .before .before .before .before .before .before .before .before .before .before .before .before .args) in let R = (c .before .before .before .before .before .before .before .before .before .before .before .before .before .before .before .before .before .before .before .before .before .before .before .before .before .before .before .before .before .before .pre .1 .0) in let Z = (c .before .before .before .before .before .before .before .before .before .before .before .before .before .before .before .before .before .before .before .before .before .before .before .before .before .before .before .before .before .before .pre .1 .1 .0) in let K = kept (a .k) (c .before .before .before .before .before .before .before .before .before .before .before .before .before .before .before .before .before .before .before .reserve .result) (c .before .before .before .before .before .before .before .before .before .before .before .before .before .before .before .before .before .before .before .reserve .ensures .0) (c .before .before .before .before .before .before .before .before .before .before .before .before .before .before .before .before .before .before .before .reserve .ensures .1) in let F = (c .before .before .before .before .before .before .before .before .before .before .before .before .before .before .before .before .before .before .before .before .before .before .before .before .read-first .ensures) in let g = rw (add-one (a .nested)) at (c .before .before .before .before .before .before .before .before .before .before .before .before .before .before .before .before .before .before .end-text .ensures) in let Q = rw (add-one (a .nested), (c .before .before .next .given .1)) at (c .before .before .before .before .before .before .before .before .before .before .parse-fstring .ensures) in let H = gave _ _ _ _ _ _ _ _ _ _ _ _ (Q .0) in (fits _ _ _ _ R, spec-fits (a .s .now) (a .nested) (a .at .at) (a .fr) _ _ _ _ (a .k) _ _ _ _ R (Z .2) K (F .0) (F .1) (F .2) g (Z .1) (c .before .before .before .before .before .before .before .before .before .before .before .before .before .before .before .before .before .before .before .reserve .ensures .0) (c .before .before .before .before .before .before .before .before .before .before .before .before .before .before .before .before .before .before .before .reserve .ensures .1) _ _ _ _ H)
+    let a = (c .before .before .before .before .before .before .before .before .before .before .before .before .before .before .before .before .before .before .before .before .before .before .before .before .before .before .before .before .before .before .args) in let R = (c .before .before .before .before .before .before .before .before .before .before .before .before .before .before .before .before .before .before .before .before .before .before .before .before .before .before .before .before .before .before .pre .1 .0) in let Z = (c .before .before .before .before .before .before .before .before .before .before .before .before .before .before .before .before .before .before .before .before .before .before .before .before .before .before .before .before .before .before .pre .1 .1 .0) in let K = kept (a .k) (c .before .before .before .before .before .before .before .before .before .before .before .before .before .before .before .before .before .before .before .reserve .result) (c .before .before .before .before .before .before .before .before .before .before .before .before .before .before .before .before .before .before .before .reserve .ensures .0) (c .before .before .before .before .before .before .before .before .before .before .before .before .before .before .before .before .before .before .before .reserve .ensures .1) in let F = (c .before .before .before .before .before .before .before .before .before .before .before .before .before .before .before .before .before .before .before .before .before .before .before .before .read-first .ensures) in let g = rw (add-one (a .nested)) at (c .before .before .before .before .before .before .before .before .before .before .before .before .before .before .before .before .before .before .end-text .ensures) in let Q = rw (add-one (a .nested), (c .before .before .next .given .1)) at (c .before .before .before .before .before .before .before .before .before .before .parse-fstring .ensures) in (fits _ _ _ _ R, behind-fits (a .s .now) (a .nested) (a .at .at) (a .fr) _ _ _ _ (a .k) _ _ _ _ R (Z .2) K (F .0) (F .1) (F .2) g (Z .1) (c .before .before .before .before .before .before .before .before .before .before .before .before .before .before .before .before .before .before .before .reserve .ensures .0) (c .before .before .before .before .before .before .before .before .before .before .before .before .before .before .before .before .before .before .before .reserve .ensures .1) _ _ _ _ _ (Q .0))
 
 parse-spec-returns-2 : (t : ℕ) → parse-spec-lts.Need-returns-2 (parse-spec-calls t) (parse-spec-at t) parse-spec.Post
 parse-spec-returns-2 t c =
@@ -156,7 +155,7 @@ parse-spec-returns-2 t c =
 
 parse-spec-returns-3 : (t : ℕ) → parse-spec-lts.Need-returns-3 (parse-spec-calls t) (parse-spec-at t) parse-spec.Post
 parse-spec-returns-3 t c =
-    let a = (c .before .before .before .before .before .before .before .before .before .before .before .before .before .before .before .before .before .before .before .before .before .before .before .before .before .before .before .before .before .before .before .before .before .args) in let R = (c .before .before .before .before .before .before .before .before .before .before .before .before .before .before .before .before .before .before .before .before .before .before .before .before .before .before .before .before .before .before .before .before .before .pre .1 .0) in let Z = (c .before .before .before .before .before .before .before .before .before .before .before .before .before .before .before .before .before .before .before .before .before .before .before .before .before .before .before .before .before .before .before .before .before .pre .1 .1 .0) in let K = kept (a .k) (c .before .before .before .before .before .before .before .before .before .before .before .before .before .before .before .before .before .before .before .before .before .before .reserve .result) (c .before .before .before .before .before .before .before .before .before .before .before .before .before .before .before .before .before .before .before .before .before .before .reserve .ensures .0) (c .before .before .before .before .before .before .before .before .before .before .before .before .before .before .before .before .before .before .before .before .before .before .reserve .ensures .1) in let F = (c .before .before .before .before .before .before .before .before .before .before .before .before .before .before .before .before .before .before .before .before .before .before .before .before .before .before .before .read-first .ensures) in let g = rw (add-one (a .nested)) at (c .before .before .before .before .before .before .before .before .before .before .before .before .before .before .before .before .before .before .before .before .before .end-text .ensures) in let Q = rw (add-one (a .nested), (c .before .before .before .before .before .next .given .1)) at (c .before .before .before .before .before .before .before .before .before .before .before .before .before .parse-fstring .ensures) in let H = gave _ _ _ _ _ _ _ _ _ _ _ _ (Q .0) in let b = eq-eqb _ _ (sym (c .before .before .before .before .before .before .before .before .before .before .before .before .before .before .before .before .before .before .peek .ensures) ∙ (c .before .before .before .before .before .before .before .before .before .before .before .before .before .before .before .before .before .if1 .left)) in (spec-braced (a .s .now) (a .nested) (a .at .at) (a .fr) _ _ _ _ (a .k) _ _ _ _ R (Z .2) K (F .0) (F .1) (F .2) g (Z .1) (c .before .before .before .before .before .before .before .before .before .before .before .before .before .before .before .before .before .before .before .before .before .before .reserve .ensures .0) (c .before .before .before .before .before .before .before .before .before .before .before .before .before .before .before .before .before .before .before .before .before .before .reserve .ensures .1) b _ _ _ _ _ _ _ H (c .before .before .fill-spec2 .ensures .0) (c .before .before .fill-spec2 .ensures .1), to-sign _ _ _ _ (a .fr) _ _ (a .fields) (braced-reads (a .s .now) (a .nested) (a .at .at) (a .fr) _ _ _ _ (a .k) _ _ _ _ R (Z .2) K (F .0) (F .1) (F .2) g (Z .1) (c .before .before .before .before .before .before .before .before .before .before .before .before .before .before .before .before .before .before .before .before .before .before .reserve .ensures .0) (c .before .before .before .before .before .before .before .before .before .before .before .before .before .before .before .before .before .before .before .before .before .before .reserve .ensures .1) b (H .pieces) _ (H .reads)) (both-signed (a .fr) _ (H .pieces) _ _ _ _ _ _ (filled-signed (a .fr) (suc (a .nested)) _ _ (a .fields)) (read-signed _ _ _ _ _ _ _ _ (H .reads) (Q .1))))
+    let a = (c .before .before .before .before .before .before .before .before .before .before .before .before .before .before .before .before .before .before .before .before .before .before .before .before .before .before .before .before .before .before .before .before .before .args) in let R = (c .before .before .before .before .before .before .before .before .before .before .before .before .before .before .before .before .before .before .before .before .before .before .before .before .before .before .before .before .before .before .before .before .before .pre .1 .0) in let Z = (c .before .before .before .before .before .before .before .before .before .before .before .before .before .before .before .before .before .before .before .before .before .before .before .before .before .before .before .before .before .before .before .before .before .pre .1 .1 .0) in let K = kept (a .k) (c .before .before .before .before .before .before .before .before .before .before .before .before .before .before .before .before .before .before .before .before .before .before .reserve .result) (c .before .before .before .before .before .before .before .before .before .before .before .before .before .before .before .before .before .before .before .before .before .before .reserve .ensures .0) (c .before .before .before .before .before .before .before .before .before .before .before .before .before .before .before .before .before .before .before .before .before .before .reserve .ensures .1) in let F = (c .before .before .before .before .before .before .before .before .before .before .before .before .before .before .before .before .before .before .before .before .before .before .before .before .before .before .before .read-first .ensures) in let g = rw (add-one (a .nested)) at (c .before .before .before .before .before .before .before .before .before .before .before .before .before .before .before .before .before .before .before .before .before .end-text .ensures) in let Q = rw (add-one (a .nested), (c .before .before .before .before .before .next .given .1)) at (c .before .before .before .before .before .before .before .before .before .before .before .before .before .parse-fstring .ensures) in braced-returns (a .s .now) (a .nested) (a .at .at) (a .fr) _ _ _ _ (a .k) _ _ _ _ R (Z .2) K (F .0) (F .1) (F .2) g (Z .1) (c .before .before .before .before .before .before .before .before .before .before .before .before .before .before .before .before .before .before .before .before .before .before .reserve .ensures .0) (c .before .before .before .before .before .before .before .before .before .before .before .before .before .before .before .before .before .before .before .before .before .before .reserve .ensures .1) _ _ _ _ _ (Q .0) (eq-eqb _ _ (sym (c .before .before .before .before .before .before .before .before .before .before .before .before .before .before .before .before .before .before .peek .ensures) ∙ (c .before .before .before .before .before .before .before .before .before .before .before .before .before .before .before .before .before .if1 .left))) _ _ (c .before .before .fill-spec2 .ensures .0) (c .before .before .fill-spec2 .ensures .1) _ _ (a .fields) (Q .1)
 
 pub +parse-formatted-value+parse-fstring+parse-spec-spec : {M : Type 1} → statement M
 +parse-formatted-value+parse-fstring+parse-spec-spec =
@@ -218,15 +217,15 @@ pub +parse-formatted-value+parse-fstring+parse-spec-spec : {M : Type 1} → stat
     (λ c. let a = (c .before .before .before .before .before .before .before .before .before .before .before .before .before .before .before .before .before .args) in let I = (c .before .before .before .before .before .before .before .before .before .before .before .loop .inv .3 .0) in let U = rw (c .before .before .before .before .before .next .given .1) at (c .before .before .before .before .before .before .before .before .before .text-run .ensures) in (text-over _ _ _ _ _ _ _ _ _ _ _ I _ _ _ _ U _ _ (c .before .before .end-text .ensures) _ _ refl refl, to-sign _ _ _ _ (a .fr) _ _ _ (over-reads _ _ _ _ _ _ _ _ _ _ _ I _ _ _ _ U _ _ (c .before .before .end-text .ensures) _ refl refl) (text-signed (a .fr) (I .pieces) (a .nested) _ _ _ _ _ (c .before .before .before .before .before .before .before .before .before .before .before .loop .inv .3 .1))))  -- returns-3
     (λ c. search needs)  -- enum-known-next-2
     (λ c κs. let I = (c .before .before .before .before .before .before .before .before .loop .inv .3 .0) in let U = rw (c .before .before .next2 .given .1) at (c .before .before .before .before .before .before .text-run .ensures) in let R = I .room in let D = run-ended _ _ _ _ _ _ _ _ _ _ (U .stops) in (fits _ _ _ _ R, (D .more, omega (arith, D .bounded, R .load, R .small))))  -- end-text-requires-2
-    (λ c κs. let a = (c .before .before .before .before .before .before .before .before .before .before .before .before .before .before .before .before .before .before .before .before .args) in let I = (c .before .before .before .before .before .before .before .before .before .before .before .before .before .before .loop .inv .3 .0) in let U = rw (c .before .before .before .before .before .before .before .before .next2 .given .1) at (c .before .before .before .before .before .before .before .before .before .before .before .before .text-run .ensures) in let n = next-past (a .s .now) (U .brace) (U .there) in let v = U .stops .upto .ahead in let lo = next-in (a .s .now) (U .brace) (U .stops .upto .inside) in let w = U .after in (omega (arith, (c .before .before .before .before .before .before .before .before .before .before .before .before .before .before .before .before .before .before .before .before .pre .0), I .later, v, n, lo, w), (room-text _ _ _ _ _ _ _ _ _ _ _ I _ _ _ _ (U .stops) _ _ (c .before .before .before .before .before .end-text2 .ensures) _ (omega (arith, n, w)) (omega (arith, lo, w)), (omega (arith, (c .before .before .before .before .before .before .before .before .before .before .before .before .before .before .before .if1 .left)), text-few _ _ _ _ _ _ _ _ _ _ _ I _ _ _ _ (U .stops) _ _ (c .before .before .before .before .before .end-text2 .ensures) _ (c .before .before .before .before .before .before .before .before .before .before .before .before .before .before .loop .inv .3 .2)))))  -- parse-formatted-value-requires
+    (λ c κs. let I = (c .before .before .before .before .before .before .before .before .before .before .before .before .before .before .loop .inv .3 .0) in let U = rw (c .before .before .before .before .before .before .before .before .next2 .given .1) at (c .before .before .before .before .before .before .before .before .before .before .before .before .text-run .ensures) in let q = field-asks _ _ _ _ _ _ _ _ _ _ _ I _ _ _ U _ _ (c .before .before .before .before .before .end-text2 .ensures) _ (c .before .before .before .before .before .before .before .before .before .before .before .before .before .before .loop .inv .3 .2) in (omega (arith, (c .before .before .before .before .before .before .before .before .before .before .before .before .before .before .before .before .before .before .before .before .pre .0), q .2, q .0 .low), (q .0, (omega (arith, (c .before .before .before .before .before .before .before .before .before .before .before .before .before .before .before .if1 .left)), q .1))))  -- parse-formatted-value-requires
     (λ c. search needs)  -- enum-known-r-2
     (λ c. let i0 = (c .before .before .before .before .before .before .before .before .before .before .before .before .before .before .before .before .before .before .before .before .before .before .before .before .loop .inv .0) in let i1 = (c .before .before .before .before .before .before .before .before .before .before .before .before .before .before .before .before .before .before .before .before .before .before .before .before .loop .inv .1) in let i2 = (c .before .before .before .before .before .before .before .before .before .before .before .before .before .before .before .before .before .before .before .before .before .before .before .before .loop .inv .2) in let l0 = (c .before .before .before .before .rows .given) in let l1 = (c .before .before .before .before .before .before .text2 .given) in let l2 = (c .before .before .before .before .before .before .before .before .words3 .given) in let l3 = (c .before .before .before .before .before .before .before .before .before .before .before .before .before .before .words2 .given) in let l4 = (c .before .before .before .before .before .before .before .before .before .before .before .before .before .before .before .before .before .before .before .before .before .text .given) in search needs)  -- same-length-7
     (λ c. let i0 = (c .before .before .before .before .before .before .before .before .before .before .before .before .before .before .before .before .before .before .before .before .before .before .before .before .loop .inv .0) in let i1 = (c .before .before .before .before .before .before .before .before .before .before .before .before .before .before .before .before .before .before .before .before .before .before .before .before .loop .inv .1) in let i2 = (c .before .before .before .before .before .before .before .before .before .before .before .before .before .before .before .before .before .before .before .before .before .before .before .before .loop .inv .2) in let l0 = (c .before .before .before .before .rows .given) in let l1 = (c .before .before .before .before .before .before .text2 .given) in let l2 = (c .before .before .before .before .before .before .before .before .words3 .given) in let l3 = (c .before .before .before .before .before .before .before .before .before .before .before .before .before .before .words2 .given) in let l4 = (c .before .before .before .before .before .before .before .before .before .before .before .before .before .before .before .before .before .before .before .before .before .text .given) in search needs)  -- same-length-8
     (λ c. let i0 = (c .before .before .before .before .before .before .before .before .before .before .before .before .before .before .before .before .before .before .before .before .before .before .before .before .loop .inv .0) in let i1 = (c .before .before .before .before .before .before .before .before .before .before .before .before .before .before .before .before .before .before .before .before .before .before .before .before .loop .inv .1) in let i2 = (c .before .before .before .before .before .before .before .before .before .before .before .before .before .before .before .before .before .before .before .before .before .before .before .before .loop .inv .2) in let l0 = (c .before .before .before .before .rows .given) in let l1 = (c .before .before .before .before .before .before .text2 .given) in let l2 = (c .before .before .before .before .before .before .before .before .words3 .given) in let l3 = (c .before .before .before .before .before .before .before .before .before .before .before .before .before .before .words2 .given) in let l4 = (c .before .before .before .before .before .before .before .before .before .before .before .before .before .before .before .before .before .before .before .before .before .text .given) in search needs)  -- same-length-9
-    (λ c. let I = (c .before .before .before .before .before .before .before .before .before .before .before .before .before .before .before .before .before .before .before .before .before .before .before .before .loop .inv .3 .0) in let U = rw (c .before .before .before .before .before .before .before .before .before .before .before .before .before .before .before .before .before .before .next2 .given .1) at (c .before .before .before .before .before .before .before .before .before .before .before .before .before .before .before .before .before .before .before .before .before .before .text-run .ensures) in let Q = rw (c .before .r2 .given .1) at (c .before .before .before .before .before .before .before .before .before .parse-formatted-value .ensures) in let z = refuses _ _ _ _ _ _ _ _ _ _ (Q .0) in (field-refused _ _ _ _ _ _ _ _ _ _ _ I _ _ _ _ (U .stops) _ _ (c .before .before .before .before .before .before .before .before .before .before .before .before .before .before .before .end-text2 .ensures) _ _ refl (U .there) (U .after) z _ _, tt))  -- returns-4
+    (λ c. let I = (c .before .before .before .before .before .before .before .before .before .before .before .before .before .before .before .before .before .before .before .before .before .before .before .before .loop .inv .3 .0) in let U = rw (c .before .before .before .before .before .before .before .before .before .before .before .before .before .before .before .before .before .before .next2 .given .1) at (c .before .before .before .before .before .before .before .before .before .before .before .before .before .before .before .before .before .before .before .before .before .before .text-run .ensures) in let Q = rw (c .before .r2 .given .1) at (c .before .before .before .before .before .before .before .before .before .parse-formatted-value .ensures) in (field-refuses _ _ _ _ _ _ _ _ _ _ _ I _ _ _ U _ _ (c .before .before .before .before .before .before .before .before .before .before .before .before .before .before .before .end-text2 .ensures) _ _ _ (Q .0) _ _, tt))  -- returns-4
     (λ c. search needs)  -- enum-known-after
-    (λ c. let I = (c .before .before .before .before .before .before .before .before .before .before .before .before .before .before .before .before .before .before .before .before .before .before .before .before .loop .inv .3 .0) in let U = rw (c .before .before .before .before .before .before .before .before .before .before .before .before .before .before .before .before .before .before .next2 .given .1) at (c .before .before .before .before .before .before .before .before .before .before .before .before .before .before .before .before .before .before .before .before .before .before .text-run .ensures) in let Q = rw (c .before .after .given .1) at (c .before .before .before .before .before .before .before .before .before .parse-formatted-value .ensures) in let G = gave _ _ _ _ _ _ _ _ _ _ _ _ (Q .0) in let w = field-further _ _ _ _ _ _ _ _ _ _ _ I _ _ _ _ (U .stops) _ _ (c .before .before .before .before .before .before .before .before .before .before .before .before .before .before .before .end-text2 .ensures) _ (U .there) (U .after) _ _ _ _ G in omega (arith, w .0, w .1))  -- loop-less
-    (λ c. let a = (c .before .before .before .before .before .before .before .before .before .before .before .before .before .before .before .before .before .before .before .before .before .before .before .before .before .before .before .before .before .before .args) in let v0 = (c .before .before .before .before .before .before .before .before .before .before .before .before .before .before .words2 .given) in let v1 = (c .before .before .before .before .before .before .before .before .words3 .given) in let v2 = (c .before .before .before .before .before .before .before .before .before .before .before .before .before .before .before .before .before .before .before .before .before .text .given) in let v3 = (c .before .before .before .before .before .before .text2 .given) in let v6 = (c .before .before .before .before .rows .given) in let v4 = (c .before .before .before .before .before .before .before .before .before .before .before .before .before .before .before .before .before .before .before .before .before .before .before .before .loop .inv .0) in let v5 = (c .before .before .before .before .before .before .before .before .before .before .before .before .before .before .before .before .before .before .before .before .before .before .before .before .loop .inv .1) in let v7 = (c .before .before .before .before .before .before .before .before .before .before .before .before .before .before .before .before .before .before .before .before .before .before .before .before .loop .inv .2) in let I = (c .before .before .before .before .before .before .before .before .before .before .before .before .before .before .before .before .before .before .before .before .before .before .before .before .loop .inv .3 .0) in let U = rw (c .before .before .before .before .before .before .before .before .before .before .before .before .before .before .before .before .before .before .next2 .given .1) at (c .before .before .before .before .before .before .before .before .before .before .before .before .before .before .before .before .before .before .before .before .before .before .text-run .ensures) in let Q = rw (c .before .after .given .1) at (c .before .before .before .before .before .before .before .before .before .parse-formatted-value .ensures) in let G = gave _ _ _ _ _ _ _ _ _ _ _ _ (Q .0) in let S = read-signed _ _ _ _ _ _ _ _ (G .reads) (Q .1) in (search needs, search needs, search needs, goes-on _ _ _ _ _ _ _ _ _ _ _ I _ _ _ _ (U .stops) _ _ (c .before .before .before .before .before .before .before .before .before .before .before .before .before .before .before .end-text2 .ensures) _ refl (U .there) (U .after) _ _ _ _ G _ _ _ (a .fields) _ _ (c .before .before .before .before .before .before .before .before .before .before .before .before .before .before .before .before .before .before .before .before .before .before .before .before .loop .inv .3 .1) (c .before .before .before .before .before .before .before .before .before .before .before .before .before .before .before .before .before .before .before .before .before .before .before .before .loop .inv .3 .2) S)))  -- loop-again
+    (λ c. let I = (c .before .before .before .before .before .before .before .before .before .before .before .before .before .before .before .before .before .before .before .before .before .before .before .before .loop .inv .3 .0) in let U = rw (c .before .before .before .before .before .before .before .before .before .before .before .before .before .before .before .before .before .before .next2 .given .1) at (c .before .before .before .before .before .before .before .before .before .before .before .before .before .before .before .before .before .before .before .before .before .before .text-run .ensures) in let Q = rw (c .before .after .given .1) at (c .before .before .before .before .before .before .before .before .before .parse-formatted-value .ensures) in let w = further _ _ _ _ _ _ _ _ _ _ _ I _ _ _ U _ _ (c .before .before .before .before .before .before .before .before .before .before .before .before .before .before .before .end-text2 .ensures) _ _ _ _ _ (Q .0) in omega (arith, w .0, w .1))  -- loop-less
+    (λ c. let a = (c .before .before .before .before .before .before .before .before .before .before .before .before .before .before .before .before .before .before .before .before .before .before .before .before .before .before .before .before .before .before .args) in let v0 = (c .before .before .before .before .before .before .before .before .before .before .before .before .before .before .words2 .given) in let v1 = (c .before .before .before .before .before .before .before .before .words3 .given) in let v2 = (c .before .before .before .before .before .before .before .before .before .before .before .before .before .before .before .before .before .before .before .before .before .text .given) in let v3 = (c .before .before .before .before .before .before .text2 .given) in let v6 = (c .before .before .before .before .rows .given) in let v4 = (c .before .before .before .before .before .before .before .before .before .before .before .before .before .before .before .before .before .before .before .before .before .before .before .before .loop .inv .0) in let v5 = (c .before .before .before .before .before .before .before .before .before .before .before .before .before .before .before .before .before .before .before .before .before .before .before .before .loop .inv .1) in let v7 = (c .before .before .before .before .before .before .before .before .before .before .before .before .before .before .before .before .before .before .before .before .before .before .before .before .loop .inv .2) in let I = (c .before .before .before .before .before .before .before .before .before .before .before .before .before .before .before .before .before .before .before .before .before .before .before .before .loop .inv .3 .0) in let U = rw (c .before .before .before .before .before .before .before .before .before .before .before .before .before .before .before .before .before .before .next2 .given .1) at (c .before .before .before .before .before .before .before .before .before .before .before .before .before .before .before .before .before .before .before .before .before .before .text-run .ensures) in let Q = rw (c .before .after .given .1) at (c .before .before .before .before .before .before .before .before .before .parse-formatted-value .ensures) in (search needs, search needs, search needs, goes-further _ _ _ _ _ _ _ _ _ _ _ I _ _ _ U _ _ (c .before .before .before .before .before .before .before .before .before .before .before .before .before .before .before .end-text2 .ensures) _ _ _ _ _ (Q .0) _ _ _ (a .fields) _ (c .before .before .before .before .before .before .before .before .before .before .before .before .before .before .before .before .before .before .before .before .before .before .before .before .loop .inv .3 .1) (c .before .before .before .before .before .before .before .before .before .before .before .before .before .before .before .before .before .before .before .before .before .before .before .before .loop .inv .3 .2) (Q .1))))  -- loop-again
     (λ t. parse-spec-lts.spec (parse-spec-calls t) (parse-spec-at t) parse-spec.Post
     (λ c κs. search needs)  -- read-first-requires
     (λ c κs. let R = (c .before .before .before .before .before .before .before .before .before .before .pre .1 .0) in fits _ _ _ _ R)  -- reserve-requires
