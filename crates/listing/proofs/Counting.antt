@@ -1,5 +1,5 @@
 -- Rows counted with those of their sources. Assumes nothing.
-use mathlib.Core.Path.{_≡_, refl, sym, subst, _∙_, ap, ap₂}
+use mathlib.Core.Path.{_≡_, refl, sym, _∙_, ap, ap₂}
 use mathlib.Core.Bool.{Bool, true, false}
 use mathlib.Core.List.{List, [], _∷_, _++_, append-assoc}
 use Prim.Native.Nat.{ℕ, zero, suc, _+_, _-_, _*_, _≤_, _<_}
@@ -15,10 +15,10 @@ use Rattle.definition.specs.Chars.{if_then_else_}
 use Rattle.definition.specs.Entry as d
 use Rattle.definition.specs.Reading.{inFront}
 use Rattle.definition.specs.Rows.{Row}
-use Rattle.definition.specs.IsCut.{Ending, reachesEnd, breaksOff}
+use Rattle.definition.specs.IsCut.{reachesEnd, breaksOff}
 use Rattle.definition.specs.Cut.{Cut, cut, firstCut, cutFrom, cutPart}
 use Rattle.definition.specs.Listing.{ListRow, ofField, ofRefusal, tenOf, tens, readRows, allRead, brokenRow, cutRows, sourceEnd, otherwise, otherwiseRow, sourceRows, rowsOf, refusalsIn, least}
-use Rattle.definition.proofs.PartLaws.{InPart, cut-is-part}
+use Rattle.definition.proofs.PartLaws.{cut-is-part}
 use Rattle.definition.proofs.SourceLaws.{Fits, AllFit, fit-more, literal-fit, source-fit}
 use Rattle.definition.proofs.ListingSteps.{ten, tens-length}
 use Rattle.definition.proofs.RowCount.{countRows, count-none, count-append, count-enough, count-whole}

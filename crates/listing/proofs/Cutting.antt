@@ -1,13 +1,13 @@
 -- The rows of a part, written literal by literal. Assumes nothing.
 use mathlib.Core.Path.{_≡_, refl, sym, subst, _∙_, ap}
 use mathlib.Core.List.{List, [], _∷_, _++_, append-assoc, append-nil}
-use Prim.Native.Nat.{ℕ, zero, suc, _+_, _-_, _*_, _≤_, _<_}
+use Prim.Native.Nat.{ℕ, _+_, _-_, _*_, _≤_, _<_}
 use native.Mathlib.Omega.{arith}
 use lib.ListN.{length, take, length-append, length-take}
 use Rattle.definition.specs.Entry as d
 use Rattle.definition.specs.IsCut.{Ending, reachesEnd, breaksOff, EachLiteral}
 use Rattle.definition.specs.Cut.{Cut, firstCut, cutFrom, cutPart}
-use Rattle.definition.specs.Listing.{ListRow, ofRefusal, tenOf, readRows, allRead, brokenRow, cutRows, reached, sourceRows}
+use Rattle.definition.specs.Listing.{ListRow, ofRefusal, tenOf, readRows, allRead, brokenRow, cutRows, reached}
 use Rattle.definition.proofs.CutSteps.{cutAfter, cut-after}
 use Rattle.definition.proofs.PartLaws.{part-cut-is, InPart, in-part}
 use Rattle.definition.proofs.RowCount.{countRows}

@@ -1,5 +1,5 @@
 -- The rows of sources, written row by row until none is left or there is no room. Assumes nothing.
-use mathlib.Core.Path.{_≡_, refl, sym, subst, _∙_, ap, ap₂}
+use mathlib.Core.Path.{_≡_, refl, sym, subst, _∙_, ap}
 use mathlib.Core.Bool.{Bool, true, false}
 use mathlib.Core.List.{List, [], _∷_, _++_, append-assoc, append-nil}
 use Prim.Native.Nat.{ℕ, zero, suc, _+_, _-_, _*_, _/_, _≤_, _<_}
@@ -7,14 +7,14 @@ use native.Mathlib.Numerals.{add-one}
 use native.Mathlib.Omega.{arith}
 use borrow.Author.Tests.{eq-eqb, ne-eqb}
 use lib.Dec.{ltb, eqb}
-use lib.ListN.{length, drop, getD, length-append, length-replicate}
+use lib.ListN.{length, drop, getD, length-append}
 use Rattle.definition.specs.Numbers.{readOtherwise}
 use Rattle.definition.specs.Chars.{if_then_else_}
 use Rattle.definition.specs.Cut.{Cut, cut, cutPart}
-use Rattle.definition.specs.Reading.{inFront, zeros}
-use Rattle.definition.specs.Listing.{ListRow, ofField, ofRefusal, tenOf, tens, cutRows, reached, sourceEnd, otherwise, otherwiseRow, sourceRows, rowsOf, refusalsIn, fieldsAfter, fieldsCall, fieldsInto, fieldsNumbers}
+use Rattle.definition.specs.Reading.{zeros}
+use Rattle.definition.specs.Listing.{ListRow, ofRefusal, tenOf, tens, cutRows, sourceEnd, otherwise, otherwiseRow, sourceRows, rowsOf, refusalsIn, fieldsAfter, fieldsCall, fieldsInto, fieldsNumbers}
 use Rattle.definition.proofs.PartLaws.{cut-is-part}
-use Rattle.definition.proofs.SourceLaws.{Sourced, Fits, AllFit}
+use Rattle.definition.proofs.SourceLaws.{Fits, AllFit}
 use Rattle.definition.proofs.ListingLaws.{rows-fit}
 use Rattle.definition.proofs.ListingSteps.{Listing, listing-start, listing-step, listing-end, fields-long, fields-short, fields-given, tens-length, tens-append}
 use Rattle.definition.proofs.FewRows.{rows-few}

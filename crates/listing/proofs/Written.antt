@@ -20,7 +20,7 @@ use Rattle.buffers.specs.Over.{over}
 use Rattle.buffers.proofs.Over.{over-nil, length-over, over-append, over-front, over-lent}
 use Rattle.listing.specs.declared.rows.Alone.{Alone}
 use Rattle.listing.specs.declared.rows.Alone.the-variants.{Fields, Refused}
-use Rattle.listing.specs.Put.{Puts, Reads, AloneIs, refusalRow, rowAt, rowsIn, refusal}
+use Rattle.listing.specs.Put.{Puts, Reads, AloneIs, rowAt, rowsIn, refusal}
 
 -- NOTHING, one row, and one run behind another
 pub puts-none : (rows : List ℕ) (count : ℕ) → Puts [] rows rows count count
