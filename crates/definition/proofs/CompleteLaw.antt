@@ -7,6 +7,7 @@ use native.Mathlib.Omega.{arith}
 use borrow.Author.Tests.{ltb-false}
 use lib.Dec.{ltb}
 use lib.ListN.{length, take, drop, length-append, length-drop, length-replicate}
+use Rattle.definition.specs.Escapes.{Naming}
 use Rattle.definition.specs.Entry.{Literal}
 use Rattle.definition.specs.Reading.{inFront}
 use Rattle.definition.specs.Words.{word}
@@ -27,23 +28,23 @@ none-in-both : (xs ys : List ListRow) → refusalsIn (xs ++ ys) ≡ 0 → (refus
 none-in-both xs ys n = let h = refusals-append xs ys in (omega arith, omega arith)
 
 -- A PART WHOSE CUT HAS NO REFUSAL is covered by its rows
-module _ (s : List ℕ) (w from end : ℕ) (a : from ≤ end) (h : end ≤ length s) (n : refusalsIn (cutRows s w (cutPart s from end)) ≡ 0) where
+module _ (look : Naming) (s : List ℕ) (w from end : ℕ) (a : from ≤ end) (h : end ≤ length s) (n : refusalsIn (cutRows look s w (cutPart s from end)) ≡ 0) where
   abbrev part : Cut
   part = cutPart s from end
 
   pub part-ends : part .ending ≡ reachesEnd
   unfolding cutRows
-  part-ends = not-broken w (part .ending) (none-in-both (allRead s w (part .literals)) (brokenRow w (part .ending)) n .1)
+  part-ends = not-broken w (part .ending) (none-in-both (allRead look s w (part .literals)) (brokenRow w (part .ending)) n .1)
 
-  part-rows : cutRows s w part ≡ allRead s w (part .literals)
+  part-rows : cutRows look s w part ≡ allRead look s w (part .literals)
   unfolding cutRows brokenRow
-  part-rows = rw part-ends (append-nil (allRead s w (part .literals)))
+  part-rows = rw part-ends (append-nil (allRead look s w (part .literals)))
 
-  pub covered : Covered s w from end (cutRows s w part)
+  pub covered : Covered look s w from end (cutRows look s w part)
   covered = record {
     literals = part .literals;
     isCut = subst (λ (e : Ending). IsCut (take end s) from (part .literals) e) part-ends (part-cut-is s from end a h);
-    fielded = rw part-rows (all-fielded s w (part .literals) (rw part-rows at n));
+    fielded = rw part-rows (all-fielded look s w (part .literals) (rw part-rows at n));
   }
 
 -- NO 75 of a field is told
@@ -58,13 +59,13 @@ lying s from end [] p = tt
 lying s from end (l ∷ ls) p = let a = p .0 .lies .ahead in let b = p .0 .lies .within in ((omega arith, p .0 .lies .body-within), lying s from end ls (p .1))
 
 -- EACH SOURCE is covered, and read likewise
-all-sources : (s : List ℕ) (n i : ℕ) (rs : List ListRow) → AllFit s n rs → refusalsIn rs ≡ 0 → refusalsIn (below s i rs) ≡ 0 → Sources s i rs (below s i rs)
+all-sources : (look : Naming) → (s : List ℕ) (n i : ℕ) (rs : List ListRow) → AllFit s n rs → refusalsIn rs ≡ 0 → refusalsIn (below look s i rs) ≡ 0 → Sources look s i rs (below look s i rs)
 unfolding below sourceRows refusalsIn covered
-all-sources s n i [] p z y = none
-all-sources s n i (ofRefusal w start place number a b o ∷ rs) p z y = absurd (refused-told w start place number a b o rs z)
-all-sources s n i (ofField w r ∷ rs) p z y =
-    let q = none-in-both (sourceRows s (suc i) (ofField w r)) (below s (suc i) rs) y in
-    rw (own (q .0)) (source (whole (q .0)) (alike (q .0)) (all-sources s n (suc i) rs (p .1) (rest z) (q .1)))
+all-sources look s n i [] p z y = none
+all-sources look s n i (ofRefusal w start place number a b o ∷ rs) p z y = absurd (refused-told w start place number a b o rs z)
+all-sources look s n i (ofField w r ∷ rs) p z y =
+    let q = none-in-both (sourceRows look s (suc i) (ofField w r)) (below look s (suc i) rs) y in
+    rw (own (q .0)) (source (whole (q .0)) (alike (q .0)) (all-sources look s n (suc i) rs (p .1) (rest z) (q .1)))
   where
     f : Sourced s n r
     f = p .0
@@ -75,40 +76,40 @@ all-sources s n i (ofField w r ∷ rs) p z y =
     c : Cut
     c = cutPart s (r .place) end
 
-    parts : refusalsIn (sourceRows s (suc i) (ofField w r)) ≡ 0 → (refusalsIn (otherwiseRow s (suc i) r c) ≡ 0) × (refusalsIn (cutRows s (suc i) c) ≡ 0)
-    parts = none-in-both (otherwiseRow s (suc i) r c) (cutRows s (suc i) c)
+    parts : refusalsIn (sourceRows look s (suc i) (ofField w r)) ≡ 0 → (refusalsIn (otherwiseRow s (suc i) r c) ≡ 0) × (refusalsIn (cutRows look s (suc i) c) ≡ 0)
+    parts = none-in-both (otherwiseRow s (suc i) r c) (cutRows look s (suc i) c)
 
     rest : refusalsIn (ofField w r ∷ rs) ≡ 0 → refusalsIn rs ≡ 0
     rest z = z
 
-    own : refusalsIn (sourceRows s (suc i) (ofField w r)) ≡ 0 → sourceRows s (suc i) (ofField w r) ≡ cutRows s (suc i) c
-    own m = ap (λ x. x ++ cutRows s (suc i) c) (not-told s (suc i) r c (parts m .0) .0)
+    own : refusalsIn (sourceRows look s (suc i) (ofField w r)) ≡ 0 → sourceRows look s (suc i) (ofField w r) ≡ cutRows look s (suc i) c
+    own m = ap (λ x. x ++ cutRows look s (suc i) c) (not-told s (suc i) r c (parts m .0) .0)
 
-    whole : refusalsIn (sourceRows s (suc i) (ofField w r)) ≡ 0 → Covered s (suc i) (r .place) end (cutRows s (suc i) c)
-    whole m = covered s (suc i) (r .place) end (f .ahead) (f .within) (parts m .1)
+    whole : refusalsIn (sourceRows look s (suc i) (ofField w r)) ≡ 0 → Covered look s (suc i) (r .place) end (cutRows look s (suc i) c)
+    whole m = covered look s (suc i) (r .place) end (f .ahead) (f .within) (parts m .1)
 
-    alike : (m : refusalsIn (sourceRows s (suc i) (ofField w r)) ≡ 0) → Likewise s r (whole m .literals)
+    alike : (m : refusalsIn (sourceRows look s (suc i) (ofField w r)) ≡ 0) → Likewise s r (whole m .literals)
     alike m =
-        none-told s r c (part-ends s (suc i) (r .place) end (f .ahead) (f .within) (parts m .1)) (f .within) (f .equals-in)
+        none-told s r c (part-ends look s (suc i) (r .place) end (f .ahead) (f .within) (parts m .1)) (f .within) (f .equals-in)
         (lying s (r .place) end (c .literals) (in-part s (r .place) end (f .within) (r .place) (omega arith) (c .literals) (c .ending) (part-cut-is s (r .place) end (f .ahead) (f .within))))
         (not-told s (suc i) r c (parts m .0) .1)
 
 -- the script was cut to its end
-pub script-ends : (s : List ℕ) → refusalsIn (rowsOf s) ≡ 0 → cut s .ending ≡ reachesEnd
-script-ends s n =
-    let q = none-in-both (cutRows s 0 (cut s)) (below s 0 (rowsOf s)) (subst (λ (x : List ListRow). refusalsIn x ≡ 0) (rows-again s) n) in
-    rw (cut-is-part s) (part-ends s 0 0 (length s) (omega arith) (omega arith) (rw (cut-is-part s) at (q .0)))
+pub script-ends : (look : Naming) → (s : List ℕ) → refusalsIn (rowsOf look s) ≡ 0 → cut s .ending ≡ reachesEnd
+script-ends look s n =
+    let q = none-in-both (cutRows look s 0 (cut s)) (below look s 0 (rowsOf look s)) (subst (λ (x : List ListRow). refusalsIn x ≡ 0) (rows-again look s) n) in
+    rw (cut-is-part s) (part-ends look s 0 0 (length s) (omega arith) (omega arith) (rw (cut-is-part s) at (q .0)))
 
 -- COMPLETE
-pub complete : (s : List ℕ) → refusalsIn (rowsOf s) ≡ 0 → Complete s (rowsOf s)
-complete s n =
-    let q = none-in-both (cutRows s 0 (cut s)) (below s 0 (rowsOf s)) (subst (λ (x : List ListRow). refusalsIn x ≡ 0) (rows-again s) n) in
+pub complete : (look : Naming) → (s : List ℕ) → refusalsIn (rowsOf look s) ≡ 0 → Complete look s (rowsOf look s)
+complete look s n =
+    let q = none-in-both (cutRows look s 0 (cut s)) (below look s 0 (rowsOf look s)) (subst (λ (x : List ListRow). refusalsIn x ≡ 0) (rows-again look s) n) in
     record {
-      own = cutRows s 0 (cut s);
-      later = below s 0 (rowsOf s);
-      script = rw (cut-is-part s) (covered s 0 0 (length s) (omega arith) (omega arith) (rw (cut-is-part s) at (q .0)));
-      sources = all-sources s (suc (length s)) 0 (rowsOf s) (rows-fit s) n (q .1);
-      exact = rows-again s;
+      own = cutRows look s 0 (cut s);
+      later = below look s 0 (rowsOf look s);
+      script = rw (cut-is-part s) (covered look s 0 0 (length s) (omega arith) (omega arith) (rw (cut-is-part s) at (q .0)));
+      sources = all-sources look s (suc (length s)) 0 (rowsOf look s) (rows-fit look s) n (q .1);
+      exact = rows-again look s;
     }
 
 -- what each field among rows has
@@ -123,28 +124,28 @@ each-placed s n [] p = tt
 each-placed s n (ofField w r ∷ rs) p = (p .0 .placed, each-placed s n rs (p .1))
 each-placed s n (ofRefusal w start place number a b o ∷ rs) p = each-placed s n rs (p .1)
 
-pub rows-placed : (s : List ℕ) → EachField (Placed s) (rowsOf s)
-rows-placed s = each-placed s (suc (length s)) (rowsOf s) (rows-fit s)
+pub rows-placed : (look : Naming) → (s : List ℕ) → EachField (Placed s) (rowsOf look s)
+rows-placed look s = each-placed s (suc (length s)) (rowsOf look s) (rows-fit look s)
 
 -- OVER WHAT A CALLER HOLDS: a list was given, and the count of refusals is 0
-pub record CompleteCall (script buffer numbers after : List ℕ) : Type 0 where
+pub record CompleteCall (look : Naming) (script buffer numbers after : List ℕ) : Type 0 where
   pub rows : List ListRow
-  pub all : Complete script rows
+  pub all : Complete look script rows
   pub counted : word numbers 1 ≡ length rows
   pub to-the-end : word numbers 4 ≡ length script
   pub held : after ≡ inFront (tens rows) buffer
 
-pub fields-complete : (script buffer : List ℕ) → word (fieldsNumbers (fieldsInto script buffer .listed)) 0 ≡ 0 → word (fieldsNumbers (fieldsInto script buffer .listed)) 2 ≡ 0
-    → CompleteCall script buffer (fieldsNumbers (fieldsInto script buffer .listed)) (fieldsInto script buffer .rows)
+pub fields-complete : (look : Naming) → (script buffer : List ℕ) → word (fieldsNumbers (fieldsInto look script buffer .listed)) 0 ≡ 0 → word (fieldsNumbers (fieldsInto look script buffer .listed)) 2 ≡ 0
+    → CompleteCall look script buffer (fieldsNumbers (fieldsInto look script buffer .listed)) (fieldsInto look script buffer .rows)
 unfolding fieldsInto fieldsCall fieldsOf fieldsNumbers fieldsAfter reached
-fields-complete s buffer e f = go (ltb 1048576 (length s)) refl (ltb (length buffer / 10) (length (rowsOf s))) refl
+fields-complete look s buffer e f = go (ltb 1048576 (length s)) refl (ltb (length buffer / 10) (length (rowsOf look s))) refl
   where
     Goal : Fields → Type 0
-    Goal x = CompleteCall s buffer (fieldsNumbers x) (fieldsAfter x buffer)
+    Goal x = CompleteCall look s buffer (fieldsNumbers x) (fieldsAfter x buffer)
 
-    go : (t : Bool) → ltb 1048576 (length s) ≡ t → (u : Bool) → ltb (length buffer / 10) (length (rowsOf s)) ≡ u → Goal (fieldsOf s (length buffer))
+    go : (t : Bool) → ltb 1048576 (length s) ≡ t → (u : Bool) → ltb (length buffer / 10) (length (rowsOf look s)) ≡ u → Goal (fieldsOf look s (length buffer))
     go true t u y = let z = rw (t, fieldsOf) at e in absurd (omega arith)
     go false t true y = let z = rw (t, y, fieldsOf) at e in absurd (omega arith)
     go false t false y =
         let n = rw (t, y, fieldsOf) at f in
-        rw (t, y, fieldsOf) (record { rows = rowsOf s; all = complete s n; counted = refl; to-the-end = ap (reached (length s)) (script-ends s n); held = refl })
+        rw (t, y, fieldsOf) (record { rows = rowsOf look s; all = complete look s n; counted = refl; to-the-end = ap (reached (length s)) (script-ends look s n); held = refl })

@@ -10,7 +10,7 @@ use lib.Dec.{ltb, eqb}
 use lib.ListN.{length, drop}
 use Rattle.definition.specs.Numbers.{isFString, emptyExpression}
 use Rattle.definition.specs.Chars.{if_then_else_, _is_, atEnd, part, code, next, before}
-use Rattle.definition.specs.Escapes.{Fault, fault, Read, got, refused}
+use Rattle.definition.specs.Escapes.{Naming, Fault, fault, Read, got, refused}
 use Rattle.definition.specs.Body.{Signs, Piece, literal, field, spec, Move, goes, stops, calls, ends, filled, Field, state, withEquals, withBang, withColon, withClose, fresh, add, documented, spaced, formatted, FieldCase, pair, converts, documents, formats, opener, closes, closer, quote, space, backslash, stray, outside, fieldCase, caseOf, conversionMove, openMove, matching, closeMove, quoteMove, fieldMove, textMove, conversionOf, fieldPieces, selfDocumenting, finished, specified, firstEnd, textN, fieldN, specN, stringN, enough, alone, readBody}
 use Rattle.definition.specs.Rows.{piecesOf}
 use Rattle.definition.specs.Listing.{sourceEnd}
@@ -167,63 +167,63 @@ specified-few s depth from j f ps h k l = go (atEnd s j) refl
         let m = l (next s j) in
         rw e (finished-few s depth from (next s j) f (some ps) (omega arith) (next-in s j k) (omega arith))
 
-record Fewest (n : ℕ) : Type 0 where
-  text : (kind : ℕ) (s : List ℕ) (depth i : ℕ) (text : List ℕ) (ps : List Piece) → i ≤ length s → Few (weight ps) s i (textN n kind s depth i text ps)
-  field : (kind : ℕ) (s : List ℕ) (depth from i : ℕ) (f : Field) → from ≤ i → i ≤ length s → Early i f → Few 1 s from (fieldN n kind s depth from i f)
-  spec : (kind : ℕ) (s : List ℕ) (depth i : ℕ) → i ≤ length s → Few 0 s i (specN n kind s depth i)
+record Fewest (look : Naming) (n : ℕ) : Type 0 where
+  text : (kind : ℕ) (s : List ℕ) (depth i : ℕ) (text : List ℕ) (ps : List Piece) → i ≤ length s → Few (weight ps) s i (textN look n kind s depth i text ps)
+  field : (kind : ℕ) (s : List ℕ) (depth from i : ℕ) (f : Field) → from ≤ i → i ≤ length s → Early i f → Few 1 s from (fieldN look n kind s depth from i f)
+  spec : (kind : ℕ) (s : List ℕ) (depth i : ℕ) → i ≤ length s → Few 0 s i (specN look n kind s depth i)
 
-module _ (n : ℕ) (R : Fewest n) (kind : ℕ) (s : List ℕ) (depth : ℕ) where
-  text-few : (i : ℕ) (text : List ℕ) (ps : List Piece) → i ≤ length s → Few (weight ps) s i (textN (suc n) kind s depth i text ps)
+module _ (look : Naming) (n : ℕ) (R : Fewest look n) (kind : ℕ) (s : List ℕ) (depth : ℕ) where
+  text-few : (i : ℕ) (text : List ℕ) (ps : List Piece) → i ≤ length s → Few (weight ps) s i (textN look (suc n) kind s depth i text ps)
   unfolding fresh
-  text-few i text ps l = go (textMove kind s depth i text) refl (text-ahead kind s depth i text l)
+  text-few i text ps l = go (textMove look kind s depth i text) refl (text-ahead look kind s depth i text l)
     where
       a : ℕ
       a = next s i
 
       Goal : Type 0
-      Goal = Few (weight ps) s i (textN (suc n) kind s depth i text ps)
+      Goal = Few (weight ps) s i (textN look (suc n) kind s depth i text ps)
 
-      after : (r : Read (List Piece)) → fieldN n kind s depth a a fresh ≡ r → Few 1 s a r → i < length s → textMove kind s depth i text ≡ calls → Goal
+      after : (r : Read (List Piece)) → fieldN look n kind s depth a a fresh ≡ r → Few 1 s a r → i < length s → textMove look kind s depth i text ≡ calls → Goal
       after (got qs j) f p h e =
           let qs′ = ps ++ filled depth text ++ qs in
           let past = next-past s i h in
-          rw (text-got n kind s depth i text ps qs j e f)
-          (fewer (weight ps) (weight qs′) s i j (textN n kind s depth j [] qs′) (omega arith)
+          rw (text-got look n kind s depth i text ps qs j e f)
+          (fewer (weight ps) (weight qs′) s i j (textN look n kind s depth j [] qs′) (omega arith)
           (omega (arith, weight-append (ps ++ filled depth text) qs, weight-append ps (filled depth text), filled-weight depth text))
           (R .text kind s depth j [] qs′ (p .1)))
-      after (refused x) f p h e = rw (text-refused n kind s depth i text ps x e f) tt
+      after (refused x) f p h e = rw (text-refused look n kind s depth i text ps x e f) tt
 
-      go : (x : Move (List ℕ)) → textMove kind s depth i text ≡ x → Ahead textSize (textSize text) (i < length s) (Unit {0}) s i x → Goal
-      go (goes j text′) e h = rw (text-goes n kind s depth i text ps j text′ e) (fewer (weight ps) (weight ps) s i j (textN n kind s depth j text′ ps) (omega arith) (omega arith) (R .text kind s depth j text′ ps (h .1)))
-      go (stops x) e h = rw (text-stops n kind s depth i text ps x e) tt
-      go calls e h = after (fieldN n kind s depth a a fresh) refl (R .field kind s depth a a fresh (omega arith) (next-in s i l) (omega arith, refl)) h e
-      go ends e h = rw (text-ends n kind s depth i text ps e) (omega arith, l, omega (arith, weight-append ps (filled depth text), filled-weight depth text))
+      go : (x : Move (List ℕ)) → textMove look kind s depth i text ≡ x → Ahead textSize (textSize text) (i < length s) (Unit {0}) s i x → Goal
+      go (goes j text′) e h = rw (text-goes look n kind s depth i text ps j text′ e) (fewer (weight ps) (weight ps) s i j (textN look n kind s depth j text′ ps) (omega arith) (omega arith) (R .text kind s depth j text′ ps (h .1)))
+      go (stops x) e h = rw (text-stops look n kind s depth i text ps x e) tt
+      go calls e h = after (fieldN look n kind s depth a a fresh) refl (R .field kind s depth a a fresh (omega arith) (next-in s i l) (omega arith, refl)) h e
+      go ends e h = rw (text-ends look n kind s depth i text ps e) (omega arith, l, omega (arith, weight-append ps (filled depth text), filled-weight depth text))
 
-  field-few : (from i : ℕ) (f : Field) → from ≤ i → i ≤ length s → Early i f → Few 1 s from (fieldN (suc n) kind s depth from i f)
+  field-few : (from i : ℕ) (f : Field) → from ≤ i → i ≤ length s → Early i f → Few 1 s from (fieldN look (suc n) kind s depth from i f)
   field-few from i f b l m = go (fieldMove s i f) refl (field-ahead s i f l) (field-early s i f m)
     where
       a : ℕ
       a = next s i
 
       Goal : Type 0
-      Goal = Few 1 s from (fieldN (suc n) kind s depth from i f)
+      Goal = Few 1 s from (fieldN look (suc n) kind s depth from i f)
 
-      after : (r : Read (List Piece)) → specN n kind s depth a ≡ r → Few 0 s a r → i < length s → fieldMove s i f ≡ calls → Goal
+      after : (r : Read (List Piece)) → specN look n kind s depth a ≡ r → Few 0 s a r → i < length s → fieldMove s i f ≡ calls → Goal
       after (got ps j) g p h e =
           let past = next-past s i h in
-          rw (field-got n kind s depth from i f ps j e g)
+          rw (field-got look n kind s depth from i f ps j e g)
           (specified-few s depth from j (formatted a f) ps (omega arith) (p .1) (λ k. omega (arith, formatted-by i a k f m past)))
-      after (refused x) g p h e = rw (field-refused n kind s depth from i f x e g) tt
+      after (refused x) g p h e = rw (field-refused look n kind s depth from i f x e g) tt
 
       go : (x : Move Field) → fieldMove s i f ≡ x → FieldAhead s i f x → EarlyMove i x → Goal
-      go (goes j f′) e h (on k) = rw (field-goes n kind s depth from i f j f′ e) (R .field kind s depth from j f′ (omega arith) (h .1) (k (omega arith)))
-      go (stops x) e h stopped = rw (field-stops n kind s depth from i f x e) tt
-      go calls e h at-colon = after (specN n kind s depth a) refl (R .spec kind s depth a (next-in s i l)) h e
+      go (goes j f′) e h (on k) = rw (field-goes look n kind s depth from i f j f′ e) (R .field kind s depth from j f′ (omega arith) (h .1) (k (omega arith)))
+      go (stops x) e h stopped = rw (field-stops look n kind s depth from i f x e) tt
+      go calls e h at-colon = after (specN look n kind s depth a) refl (R .spec kind s depth a (next-in s i l)) h e
       go ends e h at-brace =
           let past = next-past s i h in
-          rw (field-ends n kind s depth from i f e) (finished-few s depth from a f none (omega arith) (next-in s i l) (omega (arith, bare-by i a f m past)))
+          rw (field-ends look n kind s depth from i f e) (finished-few s depth from a f none (omega arith) (next-in s i l) (omega (arith, bare-by i a f m past)))
 
-  spec-few : (i : ℕ) → i ≤ length s → Few 0 s i (specN (suc n) kind s depth i)
+  spec-few : (i : ℕ) → i ≤ length s → Few 0 s i (specN look (suc n) kind s depth i)
   spec-few i l = go (code s (firstEnd s i) is "{") refl
     where
       j : ℕ
@@ -232,26 +232,26 @@ module _ (n : ℕ) (R : Fewest n) (kind : ℕ) (s : List ℕ) (depth : ℕ) wher
       none-yet : weight (firstPiece s depth i) ≡ 0
       none-yet = filled-weight (suc depth) (part s i j)
 
-      go : (t : Bool) → (code s j is "{") ≡ t → Few 0 s i (specN (suc n) kind s depth i)
+      go : (t : Bool) → (code s j is "{") ≡ t → Few 0 s i (specN look (suc n) kind s depth i)
       go true e =
           let qs = firstPiece s depth i in
-          rw (spec-calls n kind s depth i e)
-          (fewer 0 (weight qs) s i j (textN n kind s (suc depth) j [] qs) (omega arith) (omega (arith, none-yet)) (R .text kind s (suc depth) j [] qs (first-in s i l)))
-      go false e = rw (spec-ends n kind s depth i e) (omega arith, first-in s i l, omega (arith, none-yet))
+          rw (spec-calls look n kind s depth i e)
+          (fewer 0 (weight qs) s i j (textN look n kind s (suc depth) j [] qs) (omega arith) (omega (arith, none-yet)) (R .text kind s (suc depth) j [] qs (first-in s i l)))
+      go false e = rw (spec-ends look n kind s depth i e) (omega arith, first-in s i l, omega (arith, none-yet))
 
-fewest : (n : ℕ) → Fewest n
+fewest : (look : Naming) → (n : ℕ) → Fewest look n
 unfolding textN
-fewest zero = record { text = λ kind s depth i text ps l. tt; field = λ kind s depth from i f b l m. tt; spec = λ kind s depth i l. tt }
-fewest (suc n) = record {
-  text = λ kind s depth. text-few n (fewest n) kind s depth;
-  field = λ kind s depth. field-few n (fewest n) kind s depth;
-  spec = λ kind s depth. spec-few n (fewest n) kind s depth;
+fewest look zero = record { text = λ kind s depth i text ps l. tt; field = λ kind s depth from i f b l m. tt; spec = λ kind s depth i l. tt }
+fewest look (suc n) = record {
+  text = λ kind s depth. text-few look n (fewest look n) kind s depth;
+  field = λ kind s depth. field-few look n (fewest look n) kind s depth;
+  spec = λ kind s depth. spec-few look n (fewest look n) kind s depth;
 }
 
 -- ONE BODY
-pub body-few : (kind : ℕ) (s : List ℕ) → weight (piecesOf (readBody kind s)) ≤ length s
+pub body-few : (look : Naming) → (kind : ℕ) (s : List ℕ) → weight (piecesOf (readBody look kind s)) ≤ length s
 unfolding readBody alone piecesOf
-body-few kind s = go (isFString kind) refl
+body-few look kind s = go (isFString kind) refl
   where
     one : (r : Read (List ℕ)) → weight (piecesOf (alone r)) ≤ length s
     one (got t j) = omega arith
@@ -261,6 +261,6 @@ body-few kind s = go (isFString kind) refl
     more (got ps j) p = omega arith
     more (refused x) p = omega arith
 
-    go : (t : Bool) → isFString kind ≡ t → weight (piecesOf (readBody kind s)) ≤ length s
-    go true e = rw (e, readBody) (more (textN (enough s) kind s 0 0 [] []) (fewest (enough s) .text kind s 0 0 [] [] (omega arith)))
-    go false e = rw (e, readBody) (one (stringN (enough s) kind s 0 []))
+    go : (t : Bool) → isFString kind ≡ t → weight (piecesOf (readBody look kind s)) ≤ length s
+    go true e = rw (e, readBody) (more (textN look (enough s) kind s 0 0 [] []) (fewest look (enough s) .text kind s 0 0 [] [] (omega arith)))
+    go false e = rw (e, readBody) (one (stringN look (enough s) kind s 0 []))

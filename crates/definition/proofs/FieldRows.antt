@@ -9,7 +9,7 @@ use lib.Dec.{eqb}
 use lib.ListN.{length}
 use Rattle.definition.specs.Numbers.{isFString, isBytes}
 use Rattle.definition.specs.Chars.{if_then_else_}
-use Rattle.definition.specs.Escapes.{Read, got, refused}
+use Rattle.definition.specs.Escapes.{Naming, Read, got, refused}
 use Rattle.definition.specs.Body.{Piece, literal, field, spec, stringN, enough, alone, readBody}
 use Rattle.definition.specs.Records.{Role, top, raw, inner, touching, covers, Item, item, itemOf, glue, merge, bothItems, merged, recordAt, laid, cover, Answer, answerOf}
 use Rattle.definition.specs.Entry.{Literal, placeOf, body, Refusal, firstStart, entry}
@@ -136,12 +136,12 @@ both-same xs ys ps qs h k =
 never : {P A : Type 0} (r : Refusal) (x : A) → _≡_ {A = Outcome A} (refuses r) (accepts x) → P
 never r x e = let z : _≡_ {A = ℕ} 0 1 = cc in absurd (omega arith)
 
-module _ (s : List ℕ) where
-  literal-items : (i : ℕ) (l : Literal) (xs : List Item) → readLiteral s i l ≡ accepts xs → Same xs (literalRows s l)
+module _ (look : Naming) (s : List ℕ) where
+  literal-items : (i : ℕ) (l : Literal) (xs : List Item) → readLiteral look s i l ≡ accepts xs → Same xs (literalRows look s l)
   unfolding readLiteral piecesOf literalRows
-  literal-items i l xs e = go (readBody (l .kind) (body s l)) refl
+  literal-items i l xs e = go (readBody look (l .kind) (body s l)) refl
     where
-      go : (r : Read (List Piece)) → readBody (l .kind) (body s l) ≡ r → Same xs (literalRows s l)
+      go : (r : Read (List Piece)) → readBody look (l .kind) (body s l) ≡ r → Same xs (literalRows look s l)
       go (got ps j) f =
           let g : _≡_ {A = Outcome (List Item)} (accepts (map (itemOf (l .kind) (l .start) (l .end) (placeOf l 0)) ps)) (accepts xs) = rw (f, readLiteral) at e in
           let h : xs ≡ map (itemOf (l .kind) (l .start) (l .end) (placeOf l 0)) ps = cc in
@@ -155,33 +155,33 @@ module _ (s : List ℕ) where
   then-accepts (accepts ys) (refuses r) xs e f = never r xs e
   then-accepts (accepts ys) (accepts zs) xs e f = f ys zs refl refl cc
 
-  list-items : (i : ℕ) (ls : List Literal) (xs : List Item) → readFrom s i ls ≡ accepts xs → Same xs (allRows s ls)
+  list-items : (i : ℕ) (ls : List Literal) (xs : List Item) → readFrom look s i ls ≡ accepts xs → Same xs (allRows look s ls)
   unfolding readFrom allRows
   list-items i [] xs e = let h : xs ≡ [] = cc in rw h (tt, refl)
   list-items i (l ∷ ls) xs e =
-      then-accepts (readLiteral s i l) (readFrom s (suc i) ls) xs e (λ ys zs f g h.
-      rw h (both-same ys zs (literalRows s l) (allRows s ls) (literal-items i l ys f) (list-items (suc i) ls zs g)))
+      then-accepts (readLiteral look s i l) (readFrom look s (suc i) ls) xs e (λ ys zs f g h.
+      rw h (both-same ys zs (literalRows look s l) (allRows look s ls) (literal-items i l ys f) (list-items (suc i) ls zs g)))
 
   -- AN ACCEPTED LIST HAS THE FIELDS OF ITS ROWS, in order
-  pub list-fields : (ls : List Literal) (x : Answer) → read s ls ≡ accepts x → recordFields (x .records) ≡ map rowField (allRows s ls)
+  pub list-fields : (ls : List Literal) (x : Answer) → read look s ls ≡ accepts x → recordFields (x .records) ≡ map rowField (allRows look s ls)
   unfolding read answered
   list-fields ls x e = go (entry s ls) refl
     where
-      ended : (o : Outcome (List Item)) → readFrom s 0 ls ≡ o → answered s ls o ≡ accepts x → recordFields (x .records) ≡ map rowField (allRows s ls)
+      ended : (o : Outcome (List Item)) → readFrom look s 0 ls ≡ o → answered s ls o ≡ accepts x → recordFields (x .records) ≡ map rowField (allRows look s ls)
       ended (refuses r) f g = let z : _≡_ {A = ℕ} 0 1 = cc in absurd (omega arith)
       ended (accepts xs) f g =
           let h : x ≡ answerOf (sortOf ls) (uMark ls) (firstStart ls) (lastEnd 0 ls) (allChars s ls) xs = cc in
           let k = list-items 0 ls xs f in
           rw h (answer-fields s ls xs (k .0) ∙ k .1)
 
-      go : (c : Option Refusal) → entry s ls ≡ c → recordFields (x .records) ≡ map rowField (allRows s ls)
+      go : (c : Option Refusal) → entry s ls ≡ c → recordFields (x .records) ≡ map rowField (allRows look s ls)
       go (some r) p = never r x (rw (p, read) at e)
-      go none p = ended (readFrom s 0 ls) refl (rw (p, read) at e)
+      go none p = ended (readFrom look s 0 ls) refl (rw (p, read) at e)
 
   -- no kind but the f-strings' has a field
-  pub others-none : (l : Literal) → isFString (l .kind) ≡ false → literalRows s l ≡ []
+  pub others-none : (l : Literal) → isFString (l .kind) ≡ false → literalRows look s l ≡ []
   unfolding readBody fieldRows piecesOf alone literalRows
-  others-none l e = rw (e, readBody) (go (stringN (enough (body s l)) (l .kind) (body s l) 0 []))
+  others-none l e = rw (e, readBody) (go (stringN look (enough (body s l)) (l .kind) (body s l) 0 []))
     where
       go : (r : Read (List ℕ)) → fieldRows (l .start) (placeOf l 0) (piecesOf (alone r)) ≡ []
       go (got t j) = refl

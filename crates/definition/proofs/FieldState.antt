@@ -9,6 +9,7 @@ use lib.ListN.{length}
 use borrow.Author.Tests.{leb-false, not-false}
 use Rattle.definition.specs.Numbers.{isFString}
 use Rattle.definition.specs.Chars.{if_then_else_, _is_, atEnd, code, next, char}
+use Rattle.definition.specs.Escapes.{Naming}
 use Rattle.definition.specs.Body.{Signs, Piece, Bracket, Move, goes, Field, state, fresh, add, documented, spaced, FieldCase, pair, converts, documents, formats, opener, closes, closer, quote, space, backslash, stray, fieldCase, outside, caseOf, conversionMove, openMove, matching, closeMove, quoteMove, fieldMove, conversionOf, readBody}
 use Rattle.definition.specs.Matched.{matched, blank}
 use Rattle.definition.specs.Words.{isConversion}
@@ -106,9 +107,9 @@ module _ (s : List ℕ) (utf8 : Utf8 s) (i : ℕ) {C : Type 0} where
       go FieldCase.plain q = let t = tells FieldCase.plain q in rw (q, fieldMove) (add-moves f _ _ _ h (adds-char s i (t .0) utf8 (t .1)))
 
 -- EVERY FIELD of a well-formed body has that, and lies at most two deep
-pub body-had : (kind : ℕ) (s : List ℕ) → Utf8 s → isFString kind ≡ true → TreeRead Had 0 (readBody kind s)
+pub body-had : (look : Naming) → (kind : ℕ) (s : List ℕ) → Utf8 s → isFString kind ≡ true → TreeRead Had 0 (readBody look kind s)
 unfolding fresh
-body-had kind s utf8 = body-tree kind s Keeps Had (refl, adds-none) step
+body-had look kind s utf8 = body-tree look kind s Keeps Had (refl, adds-none) step
   where
     step : (i : ℕ) (f : Field) → Keeps f → Moved Keeps (Closes Had f) (fieldMove s i f)
     step i (state e b o c d w g) (k, a) =

@@ -10,7 +10,7 @@ use lib.ListN.{replicate}
 use borrow.Author.Tests.{leb-false, eq-eqb, ne-eqb}
 use Rattle.definition.specs.Numbers.{isFString, expressionNestedTooDeeply, emptyExpression}
 use Rattle.definition.specs.Chars.{if_then_else_, _is_, part, atEnd, code, next}
-use Rattle.definition.specs.Escapes.{Fault, fault, Read, got, refused}
+use Rattle.definition.specs.Escapes.{Naming, Fault, fault, Read, got, refused}
 use Rattle.definition.specs.Body.{Signs, Piece, literal, field, spec, Move, goes, stops, calls, ends, tooDeep, deep, textCase, textMove, filled, Field, state, withClose, formatted, fresh, fieldMove, direct, conversionOf, fieldPieces, selfDocumenting, finished, specified, firstEnd, textN, fieldN, specN, enough, readBody}
 use Rattle.definition.proofs.Steps.{text-goes, text-stops, text-ends, text-got, text-refused, field-goes, field-stops, field-ends, field-got, field-refused, firstPiece, spec-calls, spec-ends}
 
@@ -116,9 +116,9 @@ deep-case : (kind : ℕ) (s : List ℕ) (depth i : ℕ) → leb tooDeep depth �
 unfolding textCase
 deep-case kind s depth i e = rw e
 
-deep-stops : (kind : ℕ) (s : List ℕ) (depth i : ℕ) (text : List ℕ) → leb tooDeep depth ≡ true → textMove kind s depth i text ≡ stops (fault expressionNestedTooDeeply i)
+deep-stops : (look : Naming) → (kind : ℕ) (s : List ℕ) (depth i : ℕ) (text : List ℕ) → leb tooDeep depth ≡ true → textMove look kind s depth i text ≡ stops (fault expressionNestedTooDeeply i)
 unfolding textMove
-deep-stops kind s depth i text e = rw (deep-case kind s depth i e, textMove)
+deep-stops look kind s depth i text e = rw (deep-case kind s depth i e, textMove)
 
 -- P of a field's expression and of its conversion, where it is finished
 abbrev pub Closes : (List ℕ → ℕ → Type 0) → Field → Type 0
@@ -129,7 +129,7 @@ unfolding formatted
 closes-formatted P j (state e b o c d w g) h = h
 
 -- an invariant of a field's state, `Inv`, that gives P there
-module _ (kind : ℕ) (s : List ℕ) (Inv : Field → Type 0) (P : List ℕ → ℕ → Type 0)
+module _ (look : Naming) (kind : ℕ) (s : List ℕ) (Inv : Field → Type 0) (P : List ℕ → ℕ → Type 0)
     (start : Inv fresh)
     (step : (i : ℕ) (f : Field) → Inv f → Moved Inv (Closes P f) (fieldMove s i f)) where
   tree-documented : (depth : ℕ) (d : Bool) (e : List ℕ) (w : ℕ) → Tree P depth (selfDocumenting depth d e w)
@@ -165,58 +165,58 @@ module _ (kind : ℕ) (s : List ℕ) (Inv : Field → Type 0) (P : List ℕ → 
       go false e = rw e (finished-tree depth from (next s j) f (some ps) l h k)
 
   record Trees (n : ℕ) : Type 0 where
-    text : (depth i : ℕ) (text : List ℕ) (ps : List Piece) → Tree P depth ps → TreeRead P depth (textN n kind s depth i text ps)
-    field : (depth from i : ℕ) (f : Field) → depth ≤ 1 → Inv f → TreeRead P depth (fieldN n kind s depth from i f)
-    spec : (depth i : ℕ) → TreeRead P (suc depth) (specN n kind s depth i)
+    text : (depth i : ℕ) (text : List ℕ) (ps : List Piece) → Tree P depth ps → TreeRead P depth (textN look n kind s depth i text ps)
+    field : (depth from i : ℕ) (f : Field) → depth ≤ 1 → Inv f → TreeRead P depth (fieldN look n kind s depth from i f)
+    spec : (depth i : ℕ) → TreeRead P (suc depth) (specN look n kind s depth i)
 
   module _ (n : ℕ) (D : Trees n) (depth : ℕ) where
-    text-tree : (i : ℕ) (text : List ℕ) (ps : List Piece) → Tree P depth ps → TreeRead P depth (textN (suc n) kind s depth i text ps)
+    text-tree : (i : ℕ) (text : List ℕ) (ps : List Piece) → Tree P depth ps → TreeRead P depth (textN look (suc n) kind s depth i text ps)
     text-tree i text ps h = test (leb tooDeep depth) refl
       where
         Goal : Type 0
-        Goal = TreeRead P depth (textN (suc n) kind s depth i text ps)
+        Goal = TreeRead P depth (textN look (suc n) kind s depth i text ps)
 
-        after : (r : Read (List Piece)) → fieldN n kind s depth (next s i) (next s i) fresh ≡ r → TreeRead P depth r → textMove kind s depth i text ≡ calls → Goal
+        after : (r : Read (List Piece)) → fieldN look n kind s depth (next s i) (next s i) fresh ≡ r → TreeRead P depth r → textMove look kind s depth i text ≡ calls → Goal
         after (got qs j) f k e =
-            rw (text-got n kind s depth i text ps qs j e f)
+            rw (text-got look n kind s depth i text ps qs j e f)
             (D .text depth j [] (ps ++ filled depth text ++ qs) (tree-append P depth (ps ++ filled depth text) qs (tree-append P depth ps (filled depth text) h (tree-filled P depth text)) k))
-        after (refused x) f k e = rw (text-refused n kind s depth i text ps x e f) tt
+        after (refused x) f k e = rw (text-refused look n kind s depth i text ps x e f) tt
 
-        go : (x : Move (List ℕ)) → textMove kind s depth i text ≡ x → depth ≤ 1 → Goal
-        go (goes j text′) e l = rw (text-goes n kind s depth i text ps j text′ e) (D .text depth j text′ ps h)
-        go (stops x) e l = rw (text-stops n kind s depth i text ps x e) tt
-        go calls e l = after (fieldN n kind s depth (next s i) (next s i) fresh) refl (D .field depth (next s i) (next s i) fresh l start) e
-        go ends e l = rw (text-ends n kind s depth i text ps e) (tree-append P depth ps (filled depth text) h (tree-filled P depth text))
+        go : (x : Move (List ℕ)) → textMove look kind s depth i text ≡ x → depth ≤ 1 → Goal
+        go (goes j text′) e l = rw (text-goes look n kind s depth i text ps j text′ e) (D .text depth j text′ ps h)
+        go (stops x) e l = rw (text-stops look n kind s depth i text ps x e) tt
+        go calls e l = after (fieldN look n kind s depth (next s i) (next s i) fresh) refl (D .field depth (next s i) (next s i) fresh l start) e
+        go ends e l = rw (text-ends look n kind s depth i text ps e) (tree-append P depth ps (filled depth text) h (tree-filled P depth text))
 
         test : (t : Bool) → leb tooDeep depth ≡ t → Goal
-        test true e = rw (text-stops n kind s depth i text ps (fault expressionNestedTooDeeply i) (deep-stops kind s depth i text e)) tt
-        test false e = go (textMove kind s depth i text) refl (omega (arith, leb-false tooDeep depth e))
+        test true e = rw (text-stops look n kind s depth i text ps (fault expressionNestedTooDeeply i) (deep-stops look kind s depth i text e)) tt
+        test false e = go (textMove look kind s depth i text) refl (omega (arith, leb-false tooDeep depth e))
 
-    field-tree : (from i : ℕ) (f : Field) → depth ≤ 1 → Inv f → TreeRead P depth (fieldN (suc n) kind s depth from i f)
+    field-tree : (from i : ℕ) (f : Field) → depth ≤ 1 → Inv f → TreeRead P depth (fieldN look (suc n) kind s depth from i f)
     field-tree from i f l h = go (fieldMove s i f) refl (step i f h)
       where
         Goal : Type 0
-        Goal = TreeRead P depth (fieldN (suc n) kind s depth from i f)
+        Goal = TreeRead P depth (fieldN look (suc n) kind s depth from i f)
 
-        after : (r : Read (List Piece)) → specN n kind s depth (next s i) ≡ r → TreeRead P (suc depth) r → fieldMove s i f ≡ calls → Closes P f → Goal
-        after (got ps j) g k e c = rw (field-got n kind s depth from i f ps j e g) (specified-tree depth from j (formatted (next s i) f) ps l (closes-formatted P (next s i) f c) k)
-        after (refused x) g k e c = rw (field-refused n kind s depth from i f x e g) tt
+        after : (r : Read (List Piece)) → specN look n kind s depth (next s i) ≡ r → TreeRead P (suc depth) r → fieldMove s i f ≡ calls → Closes P f → Goal
+        after (got ps j) g k e c = rw (field-got look n kind s depth from i f ps j e g) (specified-tree depth from j (formatted (next s i) f) ps l (closes-formatted P (next s i) f c) k)
+        after (refused x) g k e c = rw (field-refused look n kind s depth from i f x e g) tt
 
         go : (x : Move Field) → fieldMove s i f ≡ x → Moved Inv (Closes P f) x → Goal
-        go (goes j f′) e (on k) = rw (field-goes n kind s depth from i f j f′ e) (D .field depth from j f′ l k)
-        go (stops x) e stopped = rw (field-stops n kind s depth from i f x e) tt
-        go calls e (at-spec c) = after (specN n kind s depth (next s i)) refl (D .spec depth (next s i)) e c
-        go ends e (at-end c) = rw (field-ends n kind s depth from i f e) (finished-tree depth from (next s i) f none l c tt)
+        go (goes j f′) e (on k) = rw (field-goes look n kind s depth from i f j f′ e) (D .field depth from j f′ l k)
+        go (stops x) e stopped = rw (field-stops look n kind s depth from i f x e) tt
+        go calls e (at-spec c) = after (specN look n kind s depth (next s i)) refl (D .spec depth (next s i)) e c
+        go ends e (at-end c) = rw (field-ends look n kind s depth from i f e) (finished-tree depth from (next s i) f none l c tt)
 
-    spec-tree : (i : ℕ) → TreeRead P (suc depth) (specN (suc n) kind s depth i)
+    spec-tree : (i : ℕ) → TreeRead P (suc depth) (specN look (suc n) kind s depth i)
     spec-tree i = go (code s (firstEnd s i) is "{") refl
       where
         first : Tree P (suc depth) (firstPiece s depth i)
         first = tree-filled P (suc depth) (part s i (firstEnd s i))
 
-        go : (t : Bool) → (code s (firstEnd s i) is "{") ≡ t → TreeRead P (suc depth) (specN (suc n) kind s depth i)
-        go true e = rw (spec-calls n kind s depth i e) (D .text (suc depth) (firstEnd s i) [] (firstPiece s depth i) first)
-        go false e = rw (spec-ends n kind s depth i e) first
+        go : (t : Bool) → (code s (firstEnd s i) is "{") ≡ t → TreeRead P (suc depth) (specN look (suc n) kind s depth i)
+        go true e = rw (spec-calls look n kind s depth i e) (D .text (suc depth) (firstEnd s i) [] (firstPiece s depth i) first)
+        go false e = rw (spec-ends look n kind s depth i e) first
 
   trees : (n : ℕ) → Trees n
   unfolding textN
@@ -224,6 +224,6 @@ module _ (kind : ℕ) (s : List ℕ) (Inv : Field → Type 0) (P : List ℕ → 
   trees (suc n) = record { text = text-tree n (trees n); field = field-tree n (trees n); spec = spec-tree n (trees n) }
 
   -- A BODY of an f-string is such a tree
-  pub body-tree : isFString kind ≡ true → TreeRead P 0 (readBody kind s)
+  pub body-tree : isFString kind ≡ true → TreeRead P 0 (readBody look kind s)
   unfolding readBody
   body-tree e = rw (e, readBody) (trees (enough s) .text 0 0 [] [] (done, refl, tt))

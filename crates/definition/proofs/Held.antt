@@ -8,6 +8,7 @@ use native.Mathlib.Omega.{arith}
 use lib.ListN.{length, drop, length-append}
 use borrow.Author.Tests.{le-leb}
 use Rattle.definition.specs.Numbers.{notSixes}
+use Rattle.definition.specs.Escapes.{Naming}
 use Rattle.definition.specs.Records.{Answer}
 use Rattle.definition.specs.Entry.{Literal, sixes, Refusal, refusal}
 use Rattle.definition.specs.Reading.{Outcome, accepts, refuses, read, allWords, wordsAfter, textAfter, numbers, Call, called, readInto, readNumbers}
@@ -26,11 +27,11 @@ Held c =
     (x : Answer) → c .outcome ≡ accepts x
     → (held c ≡ x) × (recordsWellFormed x ≡ true) × (lie (length (x .records)) (length (x .text)) (c .words) (c .text) ≡ true) × (assured x ≡ true)
 
-module _ (words text : List ℕ) (x : Answer) where
-  accepted-held : (script : List ℕ) (ls : List Literal) → read script ls ≡ accepts x
+module _ (look : Naming) (words text : List ℕ) (x : Answer) where
+  accepted-held : (script : List ℕ) (ls : List Literal) → read look script ls ≡ accepts x
       → heldFrom (numbers (accepts x)) (wordsAfter (accepts x) words) (textAfter (accepts x) text) ≡ x
   unfolding heldFrom numbers wordsAfter textAfter
-  accepted-held script ls e = answer-back script ls x e (drop (length (allWords (x .records))) words) (drop (length (x .text)) text)
+  accepted-held script ls e = answer-back look script ls x e (drop (length (allWords (x .records))) words) (drop (length (x .text)) text)
 
   accepted-lies : lie (length (x .records)) (length (x .text)) (wordsAfter (accepts x) words) (textAfter (accepts x) text) ≡ true
   unfolding lie wordsAfter textAfter
@@ -41,23 +42,23 @@ module _ (words text : List ℕ) (x : Answer) where
       rw (le-leb (length (x .records) * 8) (length (allWords (x .records) ++ w)) (omega (arith, all-words (x .records), v)), le-leb (length (x .text)) (length (x .text ++ t)) (omega (arith, length-append (x .text) t))) refl
 
 -- of descriptors
-pub into-held : (script : List ℕ) (ls : List Literal) (words text : List ℕ) → Held (readInto script ls words text)
+pub into-held : (look : Naming) → (script : List ℕ) (ls : List Literal) (words text : List ℕ) → Held (readInto look script ls words text)
 unfolding readInto called
-into-held script ls words text x e =
-    let r = roomed-accepts (length words) (length text) (read script ls) x e in
-    (rw e (accepted-held words text x script ls r), well-formed script ls x r, rw e (accepted-lies words text x), all-assured script ls x r)
+into-held look script ls words text x e =
+    let r = roomed-accepts (length words) (length text) (read look script ls) x e in
+    (rw e (accepted-held look words text x script ls r), well-formed look script ls x r, rw e (accepted-lies look words text x), all-assured look script ls x r)
 
 -- of flat numbers
-pub numbers-held : (script ns words text : List ℕ) → Held (readNumbers script ns words text)
+pub numbers-held : (look : Naming) → (script ns words text : List ℕ) → Held (readNumbers look script ns words text)
 unfolding readNumbers called
-numbers-held script ns words text = go (sixes ns) refl
+numbers-held look script ns words text = go (sixes ns) refl
   where
     no : {P : Type 0} (x : Answer) (r : Refusal) → _≡_ {A = Outcome Answer} (refuses r) (accepts x) → P
     no x r e = let z : _≡_ {A = ℕ} 0 1 = cc in absurd (omega arith)
 
-    go : (o : Option (List Literal)) → sixes ns ≡ o → Held (readNumbers script ns words text)
+    go : (o : Option (List Literal)) → sixes ns ≡ o → Held (readNumbers look script ns words text)
     go none i = rw (i, readNumbers) (λ x e. no x (refusal notSixes 0 0 0 0) e)
-    go (some ls) i = rw (i, readNumbers) (into-held script ls words text)
+    go (some ls) i = rw (i, readNumbers) (into-held look script ls words text)
 
 -- WHAT YOU MAY ASSUME OF EVERY EXPRESSION, of what a caller holds
 abbrev pub Assured : Call → Type 0
@@ -66,11 +67,11 @@ Assured c = (x : Answer) → c .outcome ≡ accepts x → assured (held c) ≡ t
 held-assured : (c : Call) → Held c → Assured c
 held-assured c h x e = let k = h x e in ap assured (k .0) ∙ k .3
 
-pub numbers-assured : (script ns words text : List ℕ) → Assured (readNumbers script ns words text)
-numbers-assured script ns words text = held-assured (readNumbers script ns words text) (numbers-held script ns words text)
+pub numbers-assured : (look : Naming) → (script ns words text : List ℕ) → Assured (readNumbers look script ns words text)
+numbers-assured look script ns words text = held-assured (readNumbers look script ns words text) (numbers-held look script ns words text)
 
-pub into-assured : (script : List ℕ) (ls : List Literal) (words text : List ℕ) → Assured (readInto script ls words text)
-into-assured script ls words text = held-assured (readInto script ls words text) (into-held script ls words text)
+pub into-assured : (look : Naming) → (script : List ℕ) (ls : List Literal) (words text : List ℕ) → Assured (readInto look script ls words text)
+into-assured look script ls words text = held-assured (readInto look script ls words text) (into-held look script ls words text)
 
 -- NO TWO OUTCOMES. Calls that return the same numbers, 0 where they end, and leave the same words and text
 abbrev pub Alike : Call → Call → Type 0
@@ -102,13 +103,13 @@ one-outcome c c′ h h′ s s′ (n, w, t) = go (c .outcome) refl (c′ .outcome
     go (refuses r) e (refuses r′) f = e ∙ ap refuses (same-refusal r r′ (λ k. same k (refuses r) (refuses r′) e f)) ∙ sym f
 
 -- of flat numbers
-pub numbers-one : (script ns words text script′ ns′ words′ text′ : List ℕ) → Alike (readNumbers script ns words text) (readNumbers script′ ns′ words′ text′)
-    → readNumbers script ns words text .outcome ≡ readNumbers script′ ns′ words′ text′ .outcome
-numbers-one script ns words text script′ ns′ words′ text′ =
-    one-outcome (readNumbers script ns words text) (readNumbers script′ ns′ words′ text′) (numbers-held script ns words text) (numbers-held script′ ns′ words′ text′) (numbers-sane script ns words text) (numbers-sane script′ ns′ words′ text′)
+pub numbers-one : (look look′ : Naming) (script ns words text script′ ns′ words′ text′ : List ℕ) → Alike (readNumbers look script ns words text) (readNumbers look′ script′ ns′ words′ text′)
+    → readNumbers look script ns words text .outcome ≡ readNumbers look′ script′ ns′ words′ text′ .outcome
+numbers-one look look′ script ns words text script′ ns′ words′ text′ =
+    one-outcome (readNumbers look script ns words text) (readNumbers look′ script′ ns′ words′ text′) (numbers-held look script ns words text) (numbers-held look′ script′ ns′ words′ text′) (numbers-sane look script ns words text) (numbers-sane look′ script′ ns′ words′ text′)
 
 -- of descriptors
-pub into-one : (script : List ℕ) (ls : List Literal) (words text script′ : List ℕ) (ls′ : List Literal) (words′ text′ : List ℕ)
-    → Alike (readInto script ls words text) (readInto script′ ls′ words′ text′) → readInto script ls words text .outcome ≡ readInto script′ ls′ words′ text′ .outcome
-into-one script ls words text script′ ls′ words′ text′ =
-    one-outcome (readInto script ls words text) (readInto script′ ls′ words′ text′) (into-held script ls words text) (into-held script′ ls′ words′ text′) (into-sane script ls words text) (into-sane script′ ls′ words′ text′)
+pub into-one : (look look′ : Naming) (script : List ℕ) (ls : List Literal) (words text script′ : List ℕ) (ls′ : List Literal) (words′ text′ : List ℕ)
+    → Alike (readInto look script ls words text) (readInto look′ script′ ls′ words′ text′) → readInto look script ls words text .outcome ≡ readInto look′ script′ ls′ words′ text′ .outcome
+into-one look look′ script ls words text script′ ls′ words′ text′ =
+    one-outcome (readInto look script ls words text) (readInto look′ script′ ls′ words′ text′) (into-held look script ls words text) (into-held look′ script′ ls′ words′ text′) (into-sane look script ls words text) (into-sane look′ script′ ls′ words′ text′)

@@ -7,7 +7,7 @@ use native.Mathlib.Nat.{add-zero, zero-add, add-suc, suc-add, add-assoc}
 use native.Mathlib.Omega.{arith}
 use lib.ListN.{length, take}
 use borrow.Author.Tests.{le-ltb}
-use Rattle.definition.specs.Escapes.{Read, got, refused}
+use Rattle.definition.specs.Escapes.{Naming, Read, got, refused}
 use Rattle.definition.specs.Body.{Piece, readBody}
 use Rattle.definition.specs.Records.{Item, Answer, answerOf}
 use Rattle.definition.specs.Entry.{Literal, oneMore, sixes, body, moved, firstStart, entry}
@@ -22,11 +22,11 @@ shift : ℕ → Outcome (List Item) → Outcome (List Item)
 shift n (accepts xs) = accepts xs
 shift n (refuses r) = refuses (moved (n + r .literal) (r .chars) r)
 
-shift-literal : (script : List ℕ) (n i : ℕ) (l : Literal) → readLiteral script (n + i) l ≡ shift n (readLiteral script i l)
+shift-literal : (look : Naming) → (script : List ℕ) (n i : ℕ) (l : Literal) → readLiteral look script (n + i) l ≡ shift n (readLiteral look script i l)
 unfolding refusalIn readLiteral shift moved
-shift-literal script n i l = go (readBody (l .kind) (body script l)) refl
+shift-literal look script n i l = go (readBody look (l .kind) (body script l)) refl
   where
-    go : (r : Read (List Piece)) → readBody (l .kind) (body script l) ≡ r → readLiteral script (n + i) l ≡ shift n (readLiteral script i l)
+    go : (r : Read (List Piece)) → readBody look (l .kind) (body script l) ≡ r → readLiteral look script (n + i) l ≡ shift n (readLiteral look script i l)
     go (got ps j) e = rw (e, readLiteral)
     go (refused x) e = rw (e, readLiteral)
 
@@ -37,12 +37,12 @@ shift-then n (accepts xs) (refuses r) = refl
 shift-then n (accepts xs) (accepts ys) = refl
 
 -- reading from a later number on
-shift-from : (script : List ℕ) (n i : ℕ) (ls : List Literal) → readFrom script (n + i) ls ≡ shift n (readFrom script i ls)
+shift-from : (look : Naming) → (script : List ℕ) (n i : ℕ) (ls : List Literal) → readFrom look script (n + i) ls ≡ shift n (readFrom look script i ls)
 unfolding readFrom shift
-shift-from script n i [] = refl
-shift-from script n i (l ∷ ls) =
-    ap₂ andThen (shift-literal script n i l) (ap (λ k. readFrom script k ls) (sym (add-suc n i)) ∙ shift-from script n (suc i) ls)
-    ∙ shift-then n (readLiteral script i l) (readFrom script (suc i) ls)
+shift-from look script n i [] = refl
+shift-from look script n i (l ∷ ls) =
+    ap₂ andThen (shift-literal look script n i l) (ap (λ k. readFrom look script k ls) (sym (add-suc n i)) ∙ shift-from look script n (suc i) ls)
+    ∙ shift-then n (readLiteral look script i l) (readFrom look script (suc i) ls)
 
 then-assoc : (o p q : Outcome (List Item)) → andThen o (andThen p q) ≡ andThen (andThen o p) q
 unfolding andThen
@@ -56,22 +56,22 @@ unfolding andThen
 then-nil (refuses r) = refl
 then-nil (accepts xs) = refl
 
-from-append : (script : List ℕ) (i : ℕ) (xs ys : List Literal) → readFrom script i (xs ++ ys) ≡ andThen (readFrom script i xs) (readFrom script (i + length xs) ys)
+from-append : (look : Naming) → (script : List ℕ) (i : ℕ) (xs ys : List Literal) → readFrom look script i (xs ++ ys) ≡ andThen (readFrom look script i xs) (readFrom look script (i + length xs) ys)
 unfolding readFrom
-from-append script i [] ys = ap (λ k. readFrom script k ys) (sym (add-zero i)) ∙ sym (then-nil (readFrom script (i + 0) ys))
-from-append script i (x ∷ xs) ys =
-    ap (andThen (readLiteral script i x))
-    (from-append script (suc i) xs ys ∙ ap (λ k. andThen (readFrom script (suc i) xs) (readFrom script k ys)) (suc-add i (length xs) ∙ sym (add-suc i (length xs))))
-    ∙ then-assoc (readLiteral script i x) (readFrom script (suc i) xs) (readFrom script (i + suc (length xs)) ys)
+from-append look script i [] ys = ap (λ k. readFrom look script k ys) (sym (add-zero i)) ∙ sym (then-nil (readFrom look script (i + 0) ys))
+from-append look script i (x ∷ xs) ys =
+    ap (andThen (readLiteral look script i x))
+    (from-append look script (suc i) xs ys ∙ ap (λ k. andThen (readFrom look script (suc i) xs) (readFrom look script k ys)) (suc-add i (length xs) ∙ sym (add-suc i (length xs))))
+    ∙ then-assoc (readLiteral look script i x) (readFrom look script (suc i) xs) (readFrom look script (i + suc (length xs)) ys)
 
 pub end-append : (e : ℕ) (xs : List Literal) (y : Literal) (ys : List Literal) → lastEnd e (xs ++ (y ∷ ys)) ≡ lastEnd 0 (y ∷ ys)
 unfolding lastEnd
 end-append e [] y ys = refl
 end-append e (x ∷ xs) y ys = end-append (x .end) xs y ys
 
-read-passed : (script : List ℕ) (ls : List Literal) → entry script ls ≡ none → read script ls ≡ answered script ls (readFrom script 0 ls)
+read-passed : (look : Naming) → (script : List ℕ) (ls : List Literal) → entry script ls ≡ none → read look script ls ≡ answered script ls (readFrom look script 0 ls)
 unfolding read
-read-passed script ls e = rw (e, read)
+read-passed look script ls e = rw (e, read)
 
 -- the characters of two runs, and of the literals before one of either
 chars-append : (script : List ℕ) (xs ys : List Literal) → allChars script (xs ++ ys) ≡ allChars script xs + allChars script ys
@@ -88,7 +88,7 @@ take-second : (n : ℕ) (xs ys : List Literal) → take (length xs + n) (xs ++ y
 take-second n [] ys = ap (λ k. take k ys) (zero-add n)
 take-second n (x ∷ xs) ys = ap (λ k. take k (x ∷ (xs ++ ys))) (suc-add (length xs) n) ∙ ap (λ l. x ∷ l) (take-second n xs ys)
 
-module _ (script : List ℕ) (x : Literal) (xs : List Literal) (y : Literal) (ys : List Literal) (passed : entry script ((x ∷ xs) ++ (y ∷ ys)) ≡ none) where
+module _ (look : Naming) (script : List ℕ) (x : Literal) (xs : List Literal) (y : Literal) (ys : List Literal) (passed : entry script ((x ∷ xs) ++ (y ∷ ys)) ≡ none) where
   answered-join : (o p : Outcome (List Item)) → Standing script 0 (x ∷ xs) o
       → answered script ((x ∷ xs) ++ (y ∷ ys)) (andThen o (shift (length (x ∷ xs)) p)) ≡ joinOutcomes (length (x ∷ xs)) (answered script (x ∷ xs) o) (answered script (y ∷ ys) p)
   unfolding answered andThen shift joinOutcomes shifted moved uMark firstStart answerOf
@@ -104,17 +104,17 @@ module _ (script : List ℕ) (x : Literal) (xs : List Literal) (y : Literal) (ys
       ∙ answer-append (sortOf (x ∷ xs)) (sortOf (y ∷ ys)) (uMark (x ∷ xs)) (uMark (y ∷ ys)) (x .start) (y .start) (lastEnd 0 (x ∷ xs)) (lastEnd 0 (y ∷ ys)) (allChars script (x ∷ xs)) (allChars script (y ∷ ys)) ps qs)
 
   -- DEMAND 3, with room for anything: two runs, each not empty, that together pass the entry checks
-  pub read-join : read script ((x ∷ xs) ++ (y ∷ ys)) ≡ joinOutcomes (length (x ∷ xs)) (read script (x ∷ xs)) (read script (y ∷ ys))
+  pub read-join : read look script ((x ∷ xs) ++ (y ∷ ys)) ≡ joinOutcomes (length (x ∷ xs)) (read look script (x ∷ xs)) (read look script (y ∷ ys))
   read-join =
-      read-passed script ((x ∷ xs) ++ (y ∷ ys)) passed
+      read-passed look script ((x ∷ xs) ++ (y ∷ ys)) passed
       ∙ ap (answered script ((x ∷ xs) ++ (y ∷ ys)))
-      (from-append script 0 (x ∷ xs) (y ∷ ys)
-      ∙ ap (λ k. andThen (readFrom script 0 (x ∷ xs)) (readFrom script k (y ∷ ys))) (zero-add (length (x ∷ xs)) ∙ sym (add-zero (length (x ∷ xs))))
-      ∙ ap (andThen (readFrom script 0 (x ∷ xs))) (shift-from script (length (x ∷ xs)) 0 (y ∷ ys)))
-      ∙ answered-join (readFrom script 0 (x ∷ xs)) (readFrom script 0 (y ∷ ys)) (from-stands script 0 (x ∷ xs))
+      (from-append look script 0 (x ∷ xs) (y ∷ ys)
+      ∙ ap (λ k. andThen (readFrom look script 0 (x ∷ xs)) (readFrom look script k (y ∷ ys))) (zero-add (length (x ∷ xs)) ∙ sym (add-zero (length (x ∷ xs))))
+      ∙ ap (andThen (readFrom look script 0 (x ∷ xs))) (shift-from look script (length (x ∷ xs)) 0 (y ∷ ys)))
+      ∙ answered-join (readFrom look script 0 (x ∷ xs)) (readFrom look script 0 (y ∷ ys)) (from-stands look script 0 (x ∷ xs))
       ∙ ap₂ (joinOutcomes (length (x ∷ xs)))
-      (sym (read-passed script (x ∷ xs) (entry-left script x xs y ys passed)))
-      (sym (read-passed script (y ∷ ys) (entry-right script x xs y ys passed)))
+      (sym (read-passed look script (x ∷ xs) (entry-left script x xs y ys passed)))
+      (sym (read-passed look script (y ∷ ys) (entry-right script x xs y ys passed)))
 
 room : (w t : ℕ) (o : Outcome Answer) → Enough w t o → roomed w t o ≡ o
 unfolding outcomeOf roomFor roomed Enough
@@ -122,20 +122,20 @@ room w t (refuses r) h = refl
 room w t (accepts x) h = rw (le-ltb (w / 8) (length (x .records)) (h .0), le-ltb t (length (x .text)) (h .1))
 
 -- DEMAND 3, over descriptors and with buffers, each of the three readings into its own: what the whole returns and leaves is the join's
-pub into-join : (script : List ℕ) (x : Literal) (xs : List Literal) (y : Literal) (ys : List Literal) (w t w₁ t₁ w₂ t₂ : List ℕ)
+pub into-join : (look : Naming) → (script : List ℕ) (x : Literal) (xs : List Literal) (y : Literal) (ys : List Literal) (w t w₁ t₁ w₂ t₂ : List ℕ)
     → entry script ((x ∷ xs) ++ (y ∷ ys)) ≡ none
-    → Enough (length w) (length t) (read script ((x ∷ xs) ++ (y ∷ ys)))
-    → Enough (length w₁) (length t₁) (read script (x ∷ xs))
-    → Enough (length w₂) (length t₂) (read script (y ∷ ys))
-    → readInto script ((x ∷ xs) ++ (y ∷ ys)) w t ≡ called (joinOutcomes (length (x ∷ xs)) (readInto script (x ∷ xs) w₁ t₁ .outcome) (readInto script (y ∷ ys) w₂ t₂ .outcome)) w t
+    → Enough (length w) (length t) (read look script ((x ∷ xs) ++ (y ∷ ys)))
+    → Enough (length w₁) (length t₁) (read look script (x ∷ xs))
+    → Enough (length w₂) (length t₂) (read look script (y ∷ ys))
+    → readInto look script ((x ∷ xs) ++ (y ∷ ys)) w t ≡ called (joinOutcomes (length (x ∷ xs)) (readInto look script (x ∷ xs) w₁ t₁ .outcome) (readInto look script (y ∷ ys) w₂ t₂ .outcome)) w t
 unfolding readInto called
-into-join script x xs y ys w t w₁ t₁ w₂ t₂ passed h h₁ h₂ =
+into-join look script x xs y ys w t w₁ t₁ w₂ t₂ passed h h₁ h₂ =
     ap (λ o. called o w t)
-    (room (length w) (length t) (read script ((x ∷ xs) ++ (y ∷ ys))) h
-    ∙ read-join script x xs y ys passed
+    (room (length w) (length t) (read look script ((x ∷ xs) ++ (y ∷ ys))) h
+    ∙ read-join look script x xs y ys passed
     ∙ ap₂ (joinOutcomes (length (x ∷ xs)))
-    (sym (room (length w₁) (length t₁) (read script (x ∷ xs)) h₁))
-    (sym (room (length w₂) (length t₂) (read script (y ∷ ys)) h₂)))
+    (sym (room (length w₁) (length t₁) (read look script (x ∷ xs)) h₁))
+    (sym (room (length w₂) (length t₂) (read look script (y ∷ ys)) h₂)))
 
 -- FLAT NUMBERS: the literals of two lists of numbers
 sixes-append : (ns ms : List ℕ) (xs ys : List Literal) → sixes ns ≡ some xs → sixes ms ≡ some ys → sixes (ns ++ ms) ≡ some (xs ++ ys)
@@ -159,21 +159,21 @@ sixes-append (a ∷ b ∷ c ∷ d ∷ e ∷ f ∷ ns) ms xs ys p q = go (λ ls r
         let y : xs ≡ l ∷ ls = cc in
         rw (ih ls r, y)
 
-read-numbers : (script ns : List ℕ) (w t : List ℕ) (ls : List Literal) → sixes ns ≡ some ls → readNumbers script ns w t ≡ readInto script ls w t
+read-numbers : (look : Naming) → (script ns : List ℕ) (w t : List ℕ) (ls : List Literal) → sixes ns ≡ some ls → readNumbers look script ns w t ≡ readInto look script ls w t
 unfolding readNumbers
-read-numbers script ns w t ls e = rw (e, readNumbers)
+read-numbers look script ns w t ls e = rw (e, readNumbers)
 
 -- DEMAND 3, over flat numbers
-pub numbers-join : (script ns ms : List ℕ) (x : Literal) (xs : List Literal) (y : Literal) (ys : List Literal) (w t w₁ t₁ w₂ t₂ : List ℕ)
+pub numbers-join : (look : Naming) → (script ns ms : List ℕ) (x : Literal) (xs : List Literal) (y : Literal) (ys : List Literal) (w t w₁ t₁ w₂ t₂ : List ℕ)
     → sixes ns ≡ some (x ∷ xs) → sixes ms ≡ some (y ∷ ys)
     → entry script ((x ∷ xs) ++ (y ∷ ys)) ≡ none
-    → Enough (length w) (length t) (read script ((x ∷ xs) ++ (y ∷ ys)))
-    → Enough (length w₁) (length t₁) (read script (x ∷ xs))
-    → Enough (length w₂) (length t₂) (read script (y ∷ ys))
-    → readNumbers script (ns ++ ms) w t ≡ called (joinOutcomes (length (x ∷ xs)) (readNumbers script ns w₁ t₁ .outcome) (readNumbers script ms w₂ t₂ .outcome)) w t
-numbers-join script ns ms x xs y ys w t w₁ t₁ w₂ t₂ p q passed h h₁ h₂ =
-    read-numbers script (ns ++ ms) w t ((x ∷ xs) ++ (y ∷ ys)) (sixes-append ns ms (x ∷ xs) (y ∷ ys) p q)
-    ∙ into-join script x xs y ys w t w₁ t₁ w₂ t₂ passed h h₁ h₂
+    → Enough (length w) (length t) (read look script ((x ∷ xs) ++ (y ∷ ys)))
+    → Enough (length w₁) (length t₁) (read look script (x ∷ xs))
+    → Enough (length w₂) (length t₂) (read look script (y ∷ ys))
+    → readNumbers look script (ns ++ ms) w t ≡ called (joinOutcomes (length (x ∷ xs)) (readNumbers look script ns w₁ t₁ .outcome) (readNumbers look script ms w₂ t₂ .outcome)) w t
+numbers-join look script ns ms x xs y ys w t w₁ t₁ w₂ t₂ p q passed h h₁ h₂ =
+    read-numbers look script (ns ++ ms) w t ((x ∷ xs) ++ (y ∷ ys)) (sixes-append ns ms (x ∷ xs) (y ∷ ys) p q)
+    ∙ into-join look script x xs y ys w t w₁ t₁ w₂ t₂ passed h h₁ h₂
     ∙ ap₂ (λ a b. called (joinOutcomes (length (x ∷ xs)) (a .outcome) (b .outcome)) w t)
-    (sym (read-numbers script ns w₁ t₁ (x ∷ xs) p))
-    (sym (read-numbers script ms w₂ t₂ (y ∷ ys) q))
+    (sym (read-numbers look script ns w₁ t₁ (x ∷ xs) p))
+    (sym (read-numbers look script ms w₂ t₂ (y ∷ ys) q))

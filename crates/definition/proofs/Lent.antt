@@ -8,7 +8,7 @@ use native.Mathlib.Omega.{arith}
 use lib.ListN.{length, length-append, length-map}
 use Rattle.definition.specs.Numbers.{isBytes, notSixes, tooFewRecordPlaces}
 use Rattle.definition.specs.Chars.{if_then_else_}
-use Rattle.definition.specs.Escapes.{Read, got, refused}
+use Rattle.definition.specs.Escapes.{Naming, Read, got, refused}
 use Rattle.definition.specs.Body.{Piece, literal, field, spec, readBody}
 use Rattle.definition.specs.Records.{touching, Item, raw, top, item, itemOf, glue, merge, bothItems, merged, texts, cover, Answer, answerOf}
 use Rattle.definition.specs.Entry.{Literal, sixes, placeOf, body, Refusal, refusal, total, firstStart, entry}
@@ -67,11 +67,11 @@ abbrev ItemsNeed : ℕ → ℕ → Outcome (List Item) → Type 0
 ItemsNeed n t (accepts xs) = (length xs ≤ n) × (length (texts xs) ≤ t)
 ItemsNeed n t (refuses r) = Unit {0}
 
-literal-needs : (script : List ℕ) (i : ℕ) (l : Literal) → ItemsNeed (l .size + 1) (2 * l .size) (readLiteral script i l)
+literal-needs : (look : Naming) → (script : List ℕ) (i : ℕ) (l : Literal) → ItemsNeed (l .size + 1) (2 * l .size) (readLiteral look script i l)
 unfolding readLiteral body
-literal-needs script i l = go (readBody (l .kind) (body script l)) refl (body-fits (l .kind) (body script l))
+literal-needs look script i l = go (readBody look (l .kind) (body script l)) refl (body-fits look (l .kind) (body script l))
   where
-    go : (r : Read (List Piece)) → readBody (l .kind) (body script l) ≡ r → Fits (length (body script l)) r → ItemsNeed (l .size + 1) (2 * l .size) (readLiteral script i l)
+    go : (r : Read (List Piece)) → readBody look (l .kind) (body script l) ≡ r → Fits (length (body script l)) r → ItemsNeed (l .size + 1) (2 * l .size) (readLiteral look script i l)
     go (got ps j) e h =
         let short = part-short script (l .offset) (l .offset + l .size) in
         rw (e, readLiteral)
@@ -88,12 +88,12 @@ more-needs : (n t n′ t′ : ℕ) (o : Outcome (List Item)) → n ≤ n′ → 
 more-needs n t n′ t′ (accepts xs) h k p = (omega arith, omega arith)
 more-needs n t n′ t′ (refuses r) h k p = tt
 
-from-needs : (script : List ℕ) (i : ℕ) (ls : List Literal) → ItemsNeed (total ls + length ls) (2 * total ls) (readFrom script i ls)
+from-needs : (look : Naming) → (script : List ℕ) (i : ℕ) (ls : List Literal) → ItemsNeed (total ls + length ls) (2 * total ls) (readFrom look script i ls)
 unfolding readFrom total texts
-from-needs script i [] = (omega arith, omega arith)
-from-needs script i (l ∷ ls) =
-    more-needs (l .size + 1 + (total ls + length ls)) (2 * l .size + 2 * total ls) (total (l ∷ ls) + length (l ∷ ls)) (2 * total (l ∷ ls)) (andThen (readLiteral script i l) (readFrom script (suc i) ls)) (omega arith) (omega arith)
-    (then-needs (l .size + 1) (2 * l .size) (total ls + length ls) (2 * total ls) (readLiteral script i l) (readFrom script (suc i) ls) (literal-needs script i l) (from-needs script (suc i) ls))
+from-needs look script i [] = (omega arith, omega arith)
+from-needs look script i (l ∷ ls) =
+    more-needs (l .size + 1 + (total ls + length ls)) (2 * l .size + 2 * total ls) (total (l ∷ ls) + length (l ∷ ls)) (2 * total (l ∷ ls)) (andThen (readLiteral look script i l) (readFrom look script (suc i) ls)) (omega arith) (omega arith)
+    (then-needs (l .size + 1) (2 * l .size) (total ls + length ls) (2 * total ls) (readLiteral look script i l) (readFrom look script (suc i) ls) (literal-needs look script i l) (from-needs look script (suc i) ls))
 
 -- AN ANSWER NEEDS AT MOST a record for each body byte and each literal, and two text bytes for each body byte
 abbrev pub Needs : List Literal → Outcome Answer → Type 0
@@ -105,16 +105,16 @@ unfolding answered answerOf
 answered-needs script ls (refuses r) h = tt
 answered-needs script ls (accepts xs) h = (omega (arith, laid-length (cover (firstStart ls) (lastEnd 0 ls) (uMark ls)) 0 (merged xs), merged-fewer xs), omega (arith, ap length (texts-merged xs)))
 
-read-need : (script : List ℕ) (ls : List Literal) → Needs ls (read script ls)
+read-need : (look : Naming) → (script : List ℕ) (ls : List Literal) → Needs ls (read look script ls)
 unfolding read
-read-need script ls = go (entry script ls) refl
+read-need look script ls = go (entry script ls) refl
   where
-    go : (c : Option Refusal) → entry script ls ≡ c → Needs ls (read script ls)
-    go none e = rw (e, read) (answered-needs script ls (readFrom script 0 ls) (from-needs script 0 ls))
+    go : (c : Option Refusal) → entry script ls ≡ c → Needs ls (read look script ls)
+    go none e = rw (e, read) (answered-needs script ls (readFrom look script 0 ls) (from-needs look script 0 ls))
     go (some r) e = rw (e, read) tt
 
-pub read-needs : (script : List ℕ) (ls : List Literal) (x : Answer) → read script ls ≡ accepts x → (length (x .records) ≤ total ls + length ls) × (length (x .text) ≤ 2 * total ls)
-read-needs script ls x e = rw e at (read-need script ls)
+pub read-needs : (look : Naming) → (script : List ℕ) (ls : List Literal) (x : Answer) → read look script ls ≡ accepts x → (length (x .records) ≤ total ls + length ls) × (length (x .text) ≤ 2 * total ls)
+read-needs look script ls x e = rw e at (read-need look script ls)
 
 -- SO MUCH IS LENT: eight words for each record, and the text bytes
 abbrev pub Lent : List Literal → List ℕ → List ℕ → Type 0
@@ -126,23 +126,23 @@ roomed-lent ls words text (refuses r) h k = refl
 roomed-lent ls words text (accepts x) h k = roomed-enough (length words) (length text) x (omega arith) (omega arith)
 
 -- THEN A CALL RETURNS WHAT IS READ WITH ROOM FOR ANYTHING, and is never refused by 30 or 31
-module _ (script words text : List ℕ) where
-  pub into-lent : (ls : List Literal) → Lent ls words text → readInto script ls words text ≡ called (read script ls) words text
+module _ (look : Naming) (script words text : List ℕ) where
+  pub into-lent : (ls : List Literal) → Lent ls words text → readInto look script ls words text ≡ called (read look script ls) words text
   unfolding readInto
-  into-lent ls h = ap (λ o. called o words text) (roomed-lent ls words text (read script ls) h (read-need script ls))
+  into-lent ls h = ap (λ o. called o words text) (roomed-lent ls words text (read look script ls) h (read-need look script ls))
 
-  pub numbers-lent : (ns : List ℕ) (ls : List Literal) → sixes ns ≡ some ls → Lent ls words text → readNumbers script ns words text ≡ called (read script ls) words text
+  pub numbers-lent : (ns : List ℕ) (ls : List Literal) → sixes ns ≡ some ls → Lent ls words text → readNumbers look script ns words text ≡ called (read look script ls) words text
   unfolding readNumbers
   numbers-lent ns ls e h = rw (e, readNumbers) (into-lent ls h)
 
-  pub into-below : (ls : List Literal) → Lent ls words text → Below (readInto script ls words text .outcome)
+  pub into-below : (ls : List Literal) → Lent ls words text → Below (readInto look script ls words text .outcome)
   unfolding called
-  into-below ls h = rw (into-lent ls h) (read-below script ls)
+  into-below ls h = rw (into-lent ls h) (read-below look script ls)
 
-  pub numbers-below : (ns : List ℕ) → ((ls : List Literal) → sixes ns ≡ some ls → Lent ls words text) → Below (readNumbers script ns words text .outcome)
+  pub numbers-below : (ns : List ℕ) → ((ls : List Literal) → sixes ns ≡ some ls → Lent ls words text) → Below (readNumbers look script ns words text .outcome)
   unfolding readNumbers called refusal
   numbers-below ns h = go (sixes ns) refl
     where
-      go : (o : Option (List Literal)) → sixes ns ≡ o → Below (readNumbers script ns words text .outcome)
+      go : (o : Option (List Literal)) → sixes ns ≡ o → Below (readNumbers look script ns words text .outcome)
       go none e = rw (e, readNumbers) (omega arith)
       go (some ls) e = rw (e, readNumbers) (into-below ls (h ls e))

@@ -76,3 +76,4 @@ pub mod NameSearch
 pub mod NameChecked
 pub mod NamesShown
 pub mod NameTable
+pub mod NamedShown

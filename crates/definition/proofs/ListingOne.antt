@@ -1,13 +1,17 @@
 -- Two calls for every field that return the same numbers and leave the same rows have one list. Assumes nothing.
 use mathlib.Core.Path.{_≡_, refl, sym, _∙_, ap}
+use mathlib.Core.Bool.{Bool, true, false}
 use mathlib.Core.List.{List, [], _∷_, _++_, append-assoc}
-use Prim.Native.Nat.{ℕ, suc, _≤_}
+use Prim.Native.Nat.{ℕ, suc, _/_, _≤_}
 use native.Mathlib.Omega.{arith}
+use lib.Dec.{ltb}
 use lib.ListN.{length, drop}
+use Rattle.definition.specs.Escapes.{Naming}
 use Rattle.definition.specs.Body.{Signs}
 use Rattle.definition.specs.Words.{word}
 use Rattle.definition.specs.Rows.{reason, Row, rowNumbers}
-use Rattle.definition.specs.Listing.{ListRow, ofField, ofRefusal, tenOf, tens, refusalsIn, Fields, fields, tooLong, short, fieldsOf, fieldsAfter, fieldsCall, fieldsInto, fieldsNumbers}
+use Rattle.definition.specs.Cut.{cut}
+use Rattle.definition.specs.Listing.{ListRow, ofField, ofRefusal, tenOf, tens, reached, refusalsIn, rowsOf, Fields, fields, tooLong, wrongNames, short, fieldsOf, fieldsAfter, fieldsCall, fieldsInto, fieldsNumbers}
 use Rattle.definition.proofs.SignLaws.{Fits, written, neither, by-repr, by-spec, reason-fits}
 
 -- a field's first number is not a refusal's
@@ -42,20 +46,44 @@ rows-same (r ∷ rs) (q ∷ qs) x y n e =
     let t = rows-same rs qs x y (omega arith) (sym (after-ten r (tens rs ++ x)) ∙ ap (drop 10) f ∙ after-ten q (tens qs ++ y)) in
     λ i. h i ∷ t i
 
-one-list : (x y : Fields) (b b′ : List ℕ) → ((k : ℕ) → word (fieldsNumbers x) k ≡ word (fieldsNumbers y) k) → fieldsAfter x b ≡ fieldsAfter y b′ → x ≡ y
-unfolding fieldsNumbers fieldsAfter
-one-list (fields rs l c) (fields qs m d) b b′ n e = let t = rows-same rs qs _ _ (n 1) e in λ i. fields (t i) (n 3 i) (n 4 i)
-one-list (fields rs l c) tooLong b b′ n e = let z = n 0 in absurd (omega arith)
-one-list (fields rs l c) (short m) b b′ n e = let z = n 0 in absurd (omega arith)
-one-list tooLong (fields qs m d) b b′ n e = let z = n 0 in absurd (omega arith)
-one-list tooLong tooLong b b′ n e = refl
-one-list tooLong (short m) b b′ n e = let z = n 0 in absurd (omega arith)
-one-list (short m) (fields qs l d) b b′ n e = let z = n 0 in absurd (omega arith)
-one-list (short m) tooLong b b′ n e = let z = n 0 in absurd (omega arith)
-one-list (short m) (short k) b b′ n e = ap short (n 9)
+-- the number of what is wrong with a file of names is no other refusal's
+abbrev pub Told : Fields → Type 0
+Told (fields rs l c) = Unit {0}
+Told tooLong = Unit {0}
+Told (wrongNames n) = 60 ≤ n
+Told (short m) = Unit {0}
 
-pub fields-one : (script buffer script′ buffer′ : List ℕ)
-    → ((k : ℕ) → word (fieldsNumbers (fieldsInto script buffer .listed)) k ≡ word (fieldsNumbers (fieldsInto script′ buffer′ .listed)) k)
-    → fieldsInto script buffer .rows ≡ fieldsInto script′ buffer′ .rows → fieldsInto script buffer .listed ≡ fieldsInto script′ buffer′ .listed
+pub list-one : (x y : Fields) → Told x → Told y → (b b′ : List ℕ) → ((k : ℕ) → word (fieldsNumbers x) k ≡ word (fieldsNumbers y) k) → fieldsAfter x b ≡ fieldsAfter y b′ → x ≡ y
+unfolding fieldsNumbers fieldsAfter
+list-one (fields rs l c) (fields qs m d) h k b b′ n e = let t = rows-same rs qs _ _ (n 1) e in λ i. fields (t i) (n 3 i) (n 4 i)
+list-one (fields rs l c) tooLong h k b b′ n e = let z = n 0 in absurd (omega arith)
+list-one (fields rs l c) (wrongNames m) h k b b′ n e = let z = n 0 in absurd (omega arith)
+list-one (fields rs l c) (short m) h k b b′ n e = let z = n 0 in absurd (omega arith)
+list-one tooLong (fields qs m d) h k b b′ n e = let z = n 0 in absurd (omega arith)
+list-one tooLong tooLong h k b b′ n e = refl
+list-one tooLong (wrongNames m) h k b b′ n e = let z = n 0 in absurd (omega arith)
+list-one tooLong (short m) h k b b′ n e = let z = n 0 in absurd (omega arith)
+list-one (wrongNames m) (fields qs l d) h k b b′ n e = let z = n 0 in absurd (omega arith)
+list-one (wrongNames m) tooLong h k b b′ n e = let z = n 0 in absurd (omega arith)
+list-one (wrongNames m) (wrongNames o) h k b b′ n e = ap wrongNames (n 0)
+list-one (wrongNames m) (short o) h k b b′ n e = let z = n 0 in absurd (omega arith)
+list-one (short m) (fields qs l d) h k b b′ n e = let z = n 0 in absurd (omega arith)
+list-one (short m) tooLong h k b b′ n e = let z = n 0 in absurd (omega arith)
+list-one (short m) (wrongNames o) h k b b′ n e = let z = n 0 in absurd (omega arith)
+list-one (short m) (short o) h k b b′ n e = ap short (n 9)
+
+pub fields-told : (look : Naming) (s : List ℕ) (room : ℕ) → Told (fieldsOf look s room)
+unfolding fieldsOf
+fields-told look s room = go (ltb 1048576 (length s)) (ltb (room / 10) (length (rowsOf look s)))
+  where
+    go : (t u : Bool) → Told (elim t [ true ↦ tooLong | false ↦ elim u [ true ↦ short (length (rowsOf look s)) | false ↦ fields (rowsOf look s) (length (cut s .literals)) (reached (length s) (cut s .ending)) ] ])
+    go true u = tt
+    go false true = tt
+    go false false = tt
+
+pub fields-one : (look look′ : Naming) (script buffer script′ buffer′ : List ℕ)
+    → ((k : ℕ) → word (fieldsNumbers (fieldsInto look script buffer .listed)) k ≡ word (fieldsNumbers (fieldsInto look′ script′ buffer′ .listed)) k)
+    → fieldsInto look script buffer .rows ≡ fieldsInto look′ script′ buffer′ .rows → fieldsInto look script buffer .listed ≡ fieldsInto look′ script′ buffer′ .listed
 unfolding fieldsInto fieldsCall
-fields-one script buffer script′ buffer′ n e = one-list (fieldsOf script (length buffer)) (fieldsOf script′ (length buffer′)) buffer buffer′ n e
+fields-one look look′ script buffer script′ buffer′ n e =
+    list-one (fieldsOf look script (length buffer)) (fieldsOf look′ script′ (length buffer′)) (fields-told look script (length buffer)) (fields-told look′ script′ (length buffer′)) buffer buffer′ n e

@@ -8,6 +8,7 @@ use native.Mathlib.Omega.{arith}
 use borrow.Author.Tests.{lt-ltb, le-ltb, ltb-false}
 use lib.Dec.{ltb}
 use lib.ListN.{length, drop, length-append, length-drop, length-replicate}
+use Rattle.definition.specs.Escapes.{Naming}
 use Rattle.definition.specs.Rows.{rowNumbers}
 use Rattle.definition.specs.Cut.{cut}
 use Rattle.definition.specs.Listing.{ListRow, ofField, ofRefusal, tenOf, tens, cutRows, reached, sourceRows, below, rowsOf, Fields, fields, tooLong, short, fieldsOf, fieldsAfter, fieldsCall, fieldsInto}
@@ -15,27 +16,27 @@ use Rattle.definition.proofs.SourceLaws.{AllFit, none-fits, below-fit}
 use Rattle.definition.proofs.ListingLaws.{rows-again, rows-fit}
 
 -- A LOOP OVER THE ROWS ALREADY WRITTEN: those whose sources are listed, those whose sources are not yet, and what is still to come
-pub record Listing (s : List ℕ) (done todo : List ListRow) : Type 0 where
+pub record Listing (look : Naming) (s : List ℕ) (done todo : List ListRow) : Type 0 where
   pub rest : List ListRow
-  pub whole : rowsOf s ≡ done ++ (todo ++ rest)
-  pub more : rest ≡ below s (length done) (todo ++ rest)
+  pub whole : rowsOf look s ≡ done ++ (todo ++ rest)
+  pub more : rest ≡ below look s (length done) (todo ++ rest)
 
-module _ (s : List ℕ) where
-  pub listing-start : Listing s [] (cutRows s 0 (cut s))
-  listing-start = record { rest = below s 0 (rowsOf s); whole = rows-again s; more = ap (below s 0) (rows-again s) }
+module _ (look : Naming) (s : List ℕ) where
+  pub listing-start : Listing look s [] (cutRows look s 0 (cut s))
+  listing-start = record { rest = below look s 0 (rowsOf look s); whole = rows-again look s; more = ap (below look s 0) (rows-again look s) }
 
   -- one row more
-  pub listing-step : (done : List ListRow) (r : ListRow) (todo : List ListRow) → Listing s done (r ∷ todo) → Listing s (done ++ r ∷ []) (todo ++ sourceRows s (suc (length done)) r)
+  pub listing-step : (done : List ListRow) (r : ListRow) (todo : List ListRow) → Listing look s done (r ∷ todo) → Listing look s (done ++ r ∷ []) (todo ++ sourceRows look s (suc (length done)) r)
   unfolding below
   listing-step done r todo p =
       let n = suc (length done) in
-      let later = below s n (todo ++ p .rest) in
-      let e : p .rest ≡ sourceRows s n r ++ later = p .more in
+      let later = below look s n (todo ++ p .rest) in
+      let e : p .rest ≡ sourceRows look s n r ++ later = p .more in
       let k : length (done ++ r ∷ []) ≡ n = length-append done (r ∷ []) ∙ add-one (length done) in
       record {
         rest = later;
-        whole = p .whole ∙ ap (λ x. done ++ (r ∷ todo ++ x)) e ∙ ap (λ x. done ++ (r ∷ x)) (sym (append-assoc todo (sourceRows s n r) later)) ∙ sym (append-assoc done (r ∷ []) ((todo ++ sourceRows s n r) ++ later));
-        more = rw k (ap (below s n) (ap (λ x. todo ++ x) e ∙ sym (append-assoc todo (sourceRows s n r) later)));
+        whole = p .whole ∙ ap (λ x. done ++ (r ∷ todo ++ x)) e ∙ ap (λ x. done ++ (r ∷ x)) (sym (append-assoc todo (sourceRows look s n r) later)) ∙ sym (append-assoc done (r ∷ []) ((todo ++ sourceRows look s n r) ++ later));
+        more = rw k (ap (below look s n) (ap (λ x. todo ++ x) e ∙ sym (append-assoc todo (sourceRows look s n r) later)));
       }
 
   -- rows that are their own sources' are none
@@ -43,29 +44,29 @@ module _ (s : List ℕ) where
   fit-right n [] ys p = p
   fit-right n (x ∷ xs) ys p = fit-right n xs ys (p .1)
 
-  no-rows : (n i : ℕ) (rs : List ListRow) → AllFit s n rs → rs ≡ below s i rs → rs ≡ []
+  no-rows : (n i : ℕ) (rs : List ListRow) → AllFit s n rs → rs ≡ below look s i rs → rs ≡ []
   no-rows zero i rs p e = none-fits s rs p
-  no-rows (suc n) i rs p e = no-rows n i rs (rw (sym e) at (below-fit s n i rs p)) e
+  no-rows (suc n) i rs p e = no-rows n i rs (rw (sym e) at (below-fit look s n i rs p)) e
 
   -- none is left: the list is what was written
-  pub listing-end : (done : List ListRow) → Listing s done [] → rowsOf s ≡ done
+  pub listing-end : (done : List ListRow) → Listing look s done [] → rowsOf look s ≡ done
   listing-end done p =
-      let e = no-rows (suc (length s)) (length done) (p .rest) (fit-right (suc (length s)) done (p .rest) (subst (λ (x : List ListRow). AllFit s (suc (length s)) x) (p .whole) (rows-fit s))) (p .more) in
+      let e = no-rows (suc (length s)) (length done) (p .rest) (fit-right (suc (length s)) done (p .rest) (subst (λ (x : List ListRow). AllFit s (suc (length s)) x) (p .whole) (rows-fit look s))) (p .more) in
       p .whole ∙ ap (λ x. done ++ x) e ∙ append-nil done
 
   -- THE CALL
   module _ (room : ℕ) where
-    pub fields-long : 1048576 < length s → fieldsOf s room ≡ tooLong
+    pub fields-long : 1048576 < length s → fieldsOf look s room ≡ tooLong
     unfolding fieldsOf
     fields-long h = rw (lt-ltb 1048576 (length s) h, fieldsOf)
 
-    pub fields-short : length s ≤ 1048576 → room / 10 < length (rowsOf s) → fieldsOf s room ≡ short (length (rowsOf s))
+    pub fields-short : length s ≤ 1048576 → room / 10 < length (rowsOf look s) → fieldsOf look s room ≡ short (length (rowsOf look s))
     unfolding fieldsOf
-    fields-short h k = rw (le-ltb 1048576 (length s) h, lt-ltb (room / 10) (length (rowsOf s)) k, fieldsOf)
+    fields-short h k = rw (le-ltb 1048576 (length s) h, lt-ltb (room / 10) (length (rowsOf look s)) k, fieldsOf)
 
-    pub fields-given : length s ≤ 1048576 → length (rowsOf s) ≤ room / 10 → fieldsOf s room ≡ fields (rowsOf s) (length (cut s .literals)) (reached (length s) (cut s .ending))
+    pub fields-given : length s ≤ 1048576 → length (rowsOf look s) ≤ room / 10 → fieldsOf look s room ≡ fields (rowsOf look s) (length (cut s .literals)) (reached (length s) (cut s .ending))
     unfolding fieldsOf
-    fields-given h k = rw (le-ltb 1048576 (length s) h, le-ltb (room / 10) (length (rowsOf s)) k, fieldsOf)
+    fields-given h k = rw (le-ltb 1048576 (length s) h, le-ltb (room / 10) (length (rowsOf look s)) k, fieldsOf)
 
 -- ten numbers a row
 pub ten : (r : ListRow) → length (tenOf r) ≡ 10
@@ -84,14 +85,14 @@ tens-append [] ys = refl
 tens-append (x ∷ xs) ys = ap (λ r. tenOf x ++ r) (tens-append xs ys) ∙ sym (append-assoc (tenOf x) (tens xs) (tens ys))
 
 -- THE ROW BUFFER keeps its length
-pub rows-kept : (s buffer : List ℕ) → length (fieldsInto s buffer .rows) ≡ length buffer
+pub rows-kept : (look : Naming) → (s buffer : List ℕ) → length (fieldsInto look s buffer .rows) ≡ length buffer
 unfolding fieldsInto fieldsCall fieldsOf fieldsAfter
-rows-kept s buffer = go (ltb 1048576 (length s)) refl (ltb (length buffer / 10) (length (rowsOf s))) refl
+rows-kept look s buffer = go (ltb 1048576 (length s)) refl (ltb (length buffer / 10) (length (rowsOf look s))) refl
   where
-    go : (x : Bool) → ltb 1048576 (length s) ≡ x → (y : Bool) → ltb (length buffer / 10) (length (rowsOf s)) ≡ y → length (fieldsAfter (fieldsOf s (length buffer)) buffer) ≡ length buffer
+    go : (x : Bool) → ltb 1048576 (length s) ≡ x → (y : Bool) → ltb (length buffer / 10) (length (rowsOf look s)) ≡ y → length (fieldsAfter (fieldsOf look s (length buffer)) buffer) ≡ length buffer
     go true e y f = rw (e, fieldsOf) (length-replicate (length buffer) 0)
     go false e true f = rw (e, f, fieldsOf) (length-replicate (length buffer) 0)
     go false e false f =
-        let n = ltb-false (length buffer / 10) (length (rowsOf s)) f in
-        let ns = tens (rowsOf s) in
-        rw (e, f, fieldsOf) (omega (arith, tens-length (rowsOf s), length-append ns (drop (length ns) buffer), length-drop (length ns) buffer))
+        let n = ltb-false (length buffer / 10) (length (rowsOf look s)) f in
+        let ns = tens (rowsOf look s) in
+        rw (e, f, fieldsOf) (omega (arith, tens-length (rowsOf look s), length-append ns (drop (length ns) buffer), length-drop (length ns) buffer))

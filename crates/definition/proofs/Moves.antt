@@ -10,7 +10,7 @@ use lib.ListN.{length, drop, length-append, length-take, length-replicate}
 use borrow.Author.Tests.{leb-true, leb-false}
 use Rattle.definition.specs.Numbers.{isBytes, isRaw, ofBody, unicodeError, nameNotHeld, stringError, emptyExpression, unclosedLbrace, tooManyBrackets, mismatchedDelimiter, unmatched, unterminatedString, tooFewRecordPlaces, afterBang, lastBrace}
 use Rattle.definition.specs.Chars.{if_then_else_, _is_, part, noCode, atEnd, inside, _to_, code, next, char, utf8, before}
-use Rattle.definition.specs.Escapes.{Fault, fault, Read, got, refused, Meaning, stands, stays, vanishes, octalDigit, octalFrom, hexDigit, scalar, hexFrom, held, lookup, named, unicodeName, EscapeCase, ended, simple, octal, hex, name, newline, foreign, other, escapeCase, escape, encode, meant}
+use Rattle.definition.specs.Escapes.{Naming, Fault, fault, Read, got, refused, Meaning, stands, stays, vanishes, octalDigit, octalFrom, hexDigit, scalar, hexFrom, named, unicodeName, EscapeCase, ended, simple, octal, hex, name, newline, foreign, other, escapeCase, escape, encode, meant}
 use Rattle.definition.specs.Body.{Signs, Piece, literal, field, spec, Bracket, wrong, Move, goes, stops, calls, ends, withEscape, StringCase, stringCase, stringMove, TextCase, deep, opens, last, doubled, lone, textCase, textMove, Field, state, withEquals, withClose, isBlank, add, documented, formatted, spaced, FieldCase, pair, converts, documents, formats, opener, closes, closer, quote, space, backslash, stray, outside, fieldCase, caseOf, conversionMove, openMove, matching, closeMove, quoteMove, fieldMove, filled, finished, specified, selfDocumenting, fieldPieces, conversionOf}
 use Rattle.definition.proofs.CharLaws.{next-past, next-in, next-from}
 use Rattle.definition.proofs.Adds.{sees-char, adds-pair, closing, adds-quoted}
@@ -113,12 +113,12 @@ hex-sound (suc n) v s i letter h l =
     go true e p = rw (e, hexFrom) (onward s i (next s i) more (next-from s i) p)
     go false e p = rw (e, hexFrom) (λ q. (tt, refl), l)
 
-named-sound : (s : List ℕ) (i m : ℕ) → i + m < length s → Sound s i (named s i m)
+named-sound : (look : Naming) → (s : List ℕ) (i m : ℕ) → i + m < length s → Sound s i (named look s i m)
 unfolding named
-named-sound s i m h = go (ltb 88 m) (eqb (lookup held (part s i (i + m))) noCode)
+named-sound look s i m h = go (ltb 88 m) (eqb (look (part s i (i + m))) noCode)
   where
     c : ℕ
-    c = lookup held (part s i (i + m))
+    c = look (part s i (i + m))
 
     go : (x y : Bool) → Sound s i (if x then refused (fault unicodeError (i + m + 1)) else if y then refused (fault nameNotHeld i) else got (stands c) (i + m + 1))
     go true y = (λ q. (tt, refl), omega arith)
@@ -128,9 +128,9 @@ named-sound s i m h = go (ltb 88 m) (eqb (lookup held (part s i (i + m))) noCode
 inner-in : (s : List ℕ) (i : ℕ) → atEnd s i ≡ false → i < length s
 inner-in s i e = leb-false (length s) i e
 
-name-sound : (s : List ℕ) (i : ℕ) → i ≤ length s → Sound s i (unicodeName s i)
+name-sound : (look : Naming) → (s : List ℕ) (i : ℕ) → i ≤ length s → Sound s i (unicodeName look s i)
 unfolding unicodeName
-name-sound s i h = go (not (code s i is "{")) (atEnd s (a + m)) refl
+name-sound look s i h = go (not (code s i is "{")) (atEnd s (a + m)) refl
   where
     a : ℕ
     a = next s i
@@ -138,19 +138,19 @@ name-sound s i h = go (not (code s i is "{")) (atEnd s (a + m)) refl
     m : ℕ
     m = before (λ b. b is "}") (drop a s)
 
-    go : (x y : Bool) → atEnd s (a + m) ≡ y → Sound s i (if x then refused (fault stringError i) else if y then refused (fault stringError (length s)) else named s a m)
+    go : (x y : Bool) → atEnd s (a + m) ≡ y → Sound s i (if x then refused (fault stringError i) else if y then refused (fault stringError (length s)) else named look s a m)
     go true y e = (λ q. (tt, refl), h)
     go false true e = (λ q. (tt, refl), omega arith)
-    go false false e = onward s i a (named s a m) (next-from s i) (named-sound s a m (inner-in s (a + m) e))
+    go false false e = onward s i a (named look s a m) (next-from s i) (named-sound look s a m (inner-in s (a + m) e))
 
 escape-at-end : (kind : ℕ) (s : List ℕ) (i : ℕ) → atEnd s i ≡ true → escapeCase kind s i ≡ ended
 unfolding escapeCase
 escape-at-end kind s i e = rw e
 
 -- an escape takes a character
-pub escape-sound : (kind : ℕ) (s : List ℕ) (i : ℕ) → i ≤ length s → Sound s (i + 1) (escape kind s i)
+pub escape-sound : (look : Naming) → (kind : ℕ) (s : List ℕ) (i : ℕ) → i ≤ length s → Sound s (i + 1) (escape look kind s i)
 unfolding escape
-escape-sound kind s i l = at-end (atEnd s i) refl
+escape-sound look kind s i l = at-end (atEnd s i) refl
   where
     a : ℕ
     a = next s i
@@ -161,17 +161,17 @@ escape-sound kind s i l = at-end (atEnd s i) refl
     on : {A : Type 0} (r : Read A) → i < length s → Sound s a r → Sound s (i + 1) r
     on r h p = onward s (i + 1) a r (omega (arith, next-past s i h)) p
 
-    go : (x : EscapeCase) → escapeCase kind s i ≡ x → i < length s → Sound s (i + 1) (escape kind s i)
+    go : (x : EscapeCase) → escapeCase kind s i ≡ x → i < length s → Sound s (i + 1) (escape look kind s i)
     go ended e h = rw (e, escape) (λ q. (tt, refl), l)
     go (simple c) e h = rw (e, escape) (omega (arith, next-past s i h), k)
     go octal e h = rw (e, escape) (on (octalFrom 2 (octalDigit (code s i)) s a) h (octal-sound 2 (octalDigit (code s i)) s a k))
     go (hex n) e h = rw (e, escape) (on (hexFrom n 0 s a a) h (hex-sound n 0 s a a k k))
-    go name e h = rw (e, escape) (on (unicodeName s a) h (name-sound s a k))
+    go name e h = rw (e, escape) (on (unicodeName look s a) h (name-sound look s a k))
     go newline e h = rw (e, escape) (omega (arith, next-past s i h), k)
     go foreign e h = rw (e, escape) (λ q. (tt, refl), k)
     go other e h = rw (e, escape) (omega (arith, next-past s i h), k)
 
-    at-end : (t : Bool) → atEnd s i ≡ t → Sound s (i + 1) (escape kind s i)
+    at-end : (t : Bool) → atEnd s i ≡ t → Sound s (i + 1) (escape look kind s i)
     at-end true e = rw (escape-at-end kind s i e, escape) (λ q. (tt, refl), l)
     at-end false e = go (escapeCase kind s i) refl (inner-in s i e)
 
@@ -201,9 +201,9 @@ meant-short kind s i j stays h = omega (arith, part-short s i j)
 meant-short kind s i j vanishes h = omega arith
 
 -- the escape of a backslash at i
-escaped : (C E : Type 0) (kind : ℕ) (s : List ℕ) (i : ℕ) (text : List ℕ) → i < length s → Ahead textSize (textSize text) C E s i (withEscape kind s i text (escape kind s (next s i)))
+escaped : (look : Naming) → (C E : Type 0) (kind : ℕ) (s : List ℕ) (i : ℕ) (text : List ℕ) → i < length s → Ahead textSize (textSize text) C E s i (withEscape kind s i text (escape look kind s (next s i)))
 unfolding withEscape
-escaped C E kind s i text h = go (escape kind s (next s i)) (escape-sound kind s (next s i) (next-in s i (omega arith)))
+escaped look C E kind s i text h = go (escape look kind s (next s i)) (escape-sound look kind s (next s i) (next-in s i (omega arith)))
   where
     go : (r : Read Meaning) → Sound s (next s i + 1) r → Ahead textSize (textSize text) C E s i (withEscape kind s i text r)
     go (got m j) p =
@@ -242,17 +242,17 @@ string-inside kind s i e h = go (code s i is "\\" && not (isRaw kind)) refl (isB
     go false p false q = let k = rw (e, p, q) at h in let z : _≡_ {A = ℕ} 0 1 = cc in omega arith
 
 -- it ends only where the body does
-pub string-ahead : (kind : ℕ) (s : List ℕ) (i : ℕ) (text : List ℕ) → Ahead textSize (textSize text) ⊥ (length s ≤ i) s i (stringMove kind s i text)
+pub string-ahead : (look : Naming) → (kind : ℕ) (s : List ℕ) (i : ℕ) (text : List ℕ) → Ahead textSize (textSize text) ⊥ (length s ≤ i) s i (stringMove look kind s i text)
 unfolding stringMove
-string-ahead kind s i text = at-end (atEnd s i) refl
+string-ahead look kind s i text = at-end (atEnd s i) refl
   where
-    go : (x : StringCase) → stringCase kind s i ≡ x → atEnd s i ≡ false → i < length s → Ahead textSize (textSize text) ⊥ (length s ≤ i) s i (stringMove kind s i text)
+    go : (x : StringCase) → stringCase kind s i ≡ x → atEnd s i ≡ false → i < length s → Ahead textSize (textSize text) ⊥ (length s ≤ i) s i (stringMove look kind s i text)
     go StringCase.over e f h = absurd (string-inside kind s i f e)
-    go StringCase.escapes e f h = rw (e, stringMove) (escaped ⊥ (length s ≤ i) kind s i text h)
+    go StringCase.escapes e f h = rw (e, stringMove) (escaped look ⊥ (length s ≤ i) kind s i text h)
     go StringCase.foreign e f h = rw (e, stringMove) (λ q. (tt, refl), next-in s i (omega arith))
     go StringCase.plain e f h = rw (e, stringMove) (with-char s i (next s i) text (on-by-one s i h) (omega arith))
 
-    at-end : (t : Bool) → atEnd s i ≡ t → Ahead textSize (textSize text) ⊥ (length s ≤ i) s i (stringMove kind s i text)
+    at-end : (t : Bool) → atEnd s i ≡ t → Ahead textSize (textSize text) ⊥ (length s ≤ i) s i (stringMove look kind s i text)
     at-end true e = rw (string-at-end kind s i e, stringMove) (leb-true _ _ e)
     at-end false e = go (stringCase kind s i) refl e (inner-in s i e)
 
@@ -261,25 +261,25 @@ text-at-end : (kind : ℕ) (s : List ℕ) (depth i : ℕ) → atEnd s i ≡ true
 unfolding textCase
 text-at-end kind s depth i e = rw e
 
-pub text-ahead : (kind : ℕ) (s : List ℕ) (depth i : ℕ) (text : List ℕ) → i ≤ length s → Ahead textSize (textSize text) (i < length s) (Unit {0}) s i (textMove kind s depth i text)
+pub text-ahead : (look : Naming) → (kind : ℕ) (s : List ℕ) (depth i : ℕ) (text : List ℕ) → i ≤ length s → Ahead textSize (textSize text) (i < length s) (Unit {0}) s i (textMove look kind s depth i text)
 unfolding textMove
-text-ahead kind s depth i text l = at-end (atEnd s i) refl
+text-ahead look kind s depth i text l = at-end (atEnd s i) refl
   where
-    deep-or-over : (t : Bool) → textCase kind s depth i ≡ (if t then deep else TextCase.over) → Ahead textSize (textSize text) (i < length s) (Unit {0}) s i (textMove kind s depth i text)
+    deep-or-over : (t : Bool) → textCase kind s depth i ≡ (if t then deep else TextCase.over) → Ahead textSize (textSize text) (i < length s) (Unit {0}) s i (textMove look kind s depth i text)
     deep-or-over true e = rw (e, textMove) (λ q. (tt, refl), l)
     deep-or-over false e = rw (e, textMove) tt
 
-    go : (x : TextCase) → textCase kind s depth i ≡ x → i < length s → Ahead textSize (textSize text) (i < length s) (Unit {0}) s i (textMove kind s depth i text)
+    go : (x : TextCase) → textCase kind s depth i ≡ x → i < length s → Ahead textSize (textSize text) (i < length s) (Unit {0}) s i (textMove look kind s depth i text)
     go deep e h = rw (e, textMove) (λ q. (tt, refl), l)
     go TextCase.over e h = rw (e, textMove) tt
     go opens e h = rw (e, textMove) h
     go last e h = rw (e, textMove) (λ q. (tt, refl), next-in s i l)
     go doubled e h = rw (e, textMove) (with-char s i (next s (next s i)) text (on-by-two s i h) (next-from s (next s i)))
     go lone e h = rw (e, textMove) (λ q. (tt, refl), next-in s i l)
-    go TextCase.escapes e h = rw (e, textMove) (escaped (i < length s) (Unit {0}) kind s i text h)
+    go TextCase.escapes e h = rw (e, textMove) (escaped look (i < length s) (Unit {0}) kind s i text h)
     go TextCase.plain e h = rw (e, textMove) (with-char s i (next s i) text (on-by-one s i h) (omega arith))
 
-    at-end : (t : Bool) → atEnd s i ≡ t → Ahead textSize (textSize text) (i < length s) (Unit {0}) s i (textMove kind s depth i text)
+    at-end : (t : Bool) → atEnd s i ≡ t → Ahead textSize (textSize text) (i < length s) (Unit {0}) s i (textMove look kind s depth i text)
     at-end true e = deep-or-over (leb 2 depth) (text-at-end kind s depth i e)
     at-end false e = go (textCase kind s depth i) refl (inner-in s i e)
 

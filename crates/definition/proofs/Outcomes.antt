@@ -10,7 +10,7 @@ use lib.ListN.{length, drop, length-append, length-drop, length-replicate}
 use borrow.Author.Tests.{ltb-false}
 use Rattle.definition.specs.Numbers.{isBytes, emptyList, refusals, _among_, ofEntry, tooManyLiterals, badDescriptor, bodiesTooLong, notUtf8, mixedBytes}
 use Rattle.definition.specs.Chars.{if_then_else_}
-use Rattle.definition.specs.Escapes.{Read, got, refused}
+use Rattle.definition.specs.Escapes.{Naming, Read, got, refused}
 use Rattle.definition.specs.Body.{Piece, readBody}
 use Rattle.definition.specs.Records.{Item, Record, wordsOf, merged, texts, recordAt, laid, cover, Answer, answerOf}
 use Rattle.definition.specs.Entry.{Literal, sixes, placeOf, body, Refusal, refusal, moved, notEmpty, notMany, firstBad, bad, allGood, total, notLong, formed, illFormed, allUtf8, anyOf, firstStart, notMixed, firstOf, entry}
@@ -104,11 +104,11 @@ abbrev FromBody : {A : Type 0} → Outcome A → Type 0
 FromBody (accepts x) = Unit {0}
 FromBody (refuses r) = OfBody (r .number) (r .a) (r .b)
 
-literal-body : (script : List ℕ) (i : ℕ) (l : Literal) → FromBody (readLiteral script i l)
+literal-body : (look : Naming) → (script : List ℕ) (i : ℕ) (l : Literal) → FromBody (readLiteral look script i l)
 unfolding refusalIn readLiteral
-literal-body script i l = go (readBody (l .kind) (body script l)) refl (body-reading (l .kind) (body script l) .0)
+literal-body look script i l = go (readBody look (l .kind) (body script l)) refl (body-reading look (l .kind) (body script l) .0)
   where
-    go : (r : Read (List Piece)) → readBody (l .kind) (body script l) ≡ r → Sound (body script l) 0 r → FromBody (readLiteral script i l)
+    go : (r : Read (List Piece)) → readBody look (l .kind) (body script l) ≡ r → Sound (body script l) 0 r → FromBody (readLiteral look script i l)
     go (got ps j) e h = rw (e, readLiteral) tt
     go (refused x) e h = rw (e, readLiteral) (h .0 tt .0)
 
@@ -118,10 +118,10 @@ then-body (refuses r) p h k = h
 then-body (accepts xs) (refuses r) h k = k
 then-body (accepts xs) (accepts ys) h k = tt
 
-from-body : (script : List ℕ) (i : ℕ) (ls : List Literal) → FromBody (readFrom script i ls)
+from-body : (look : Naming) → (script : List ℕ) (i : ℕ) (ls : List Literal) → FromBody (readFrom look script i ls)
 unfolding readFrom
-from-body script i [] = tt
-from-body script i (l ∷ ls) = then-body (readLiteral script i l) (readFrom script (suc i) ls) (literal-body script i l) (from-body script (suc i) ls)
+from-body look script i [] = tt
+from-body look script i (l ∷ ls) = then-body (readLiteral look script i l) (readFrom look script (suc i) ls) (literal-body look script i l) (from-body look script (suc i) ls)
 
 -- WITH ROOM FOR ANYTHING: what the entry checks refuse is refused so, by 1 to 7; all else is accepted, or refused by 10 to 28
 abbrev pub Numbered : Option Refusal → Outcome Answer → Type 0
@@ -133,12 +133,12 @@ unfolding answered moved
 answered-body script ls (accepts xs) h = tt
 answered-body script ls (refuses r) h = h
 
-pub read-numbered : (script : List ℕ) (ls : List Literal) → Numbered (entry script ls) (read script ls)
+pub read-numbered : (look : Naming) → (script : List ℕ) (ls : List Literal) → Numbered (entry script ls) (read look script ls)
 unfolding read
-read-numbered script ls = go (entry script ls) refl (entry-numbered script ls)
+read-numbered look script ls = go (entry script ls) refl (entry-numbered script ls)
   where
-    go : (c : Option Refusal) → entry script ls ≡ c → Refusing OfEntry c → Numbered c (read script ls)
-    go none e h = rw (e, read) (answered-body script ls (readFrom script 0 ls) (from-body script 0 ls))
+    go : (c : Option Refusal) → entry script ls ≡ c → Refusing OfEntry c → Numbered c (read look script ls)
+    go none e h = rw (e, read) (answered-body script ls (readFrom look script 0 ls) (from-body look script 0 ls))
     go (some r) e h = (h, rw (e, read) refl)
 
 -- AN ACCEPTANCE'S OFFSETS AND LENGTHS: the text from n to m lies in the records in order, without gaps
@@ -183,12 +183,12 @@ answered-sane script ls (accepts xs) h = (gapless, omega (arith, gapless-sum 0 r
         (laid-gapless 0 (merged xs) (length (texts (merged xs))) (omega arith))
 
 -- of a list with room for anything
-pub read-sane : (script : List ℕ) (ls : List Literal) → Sane (read script ls)
+pub read-sane : (look : Naming) → (script : List ℕ) (ls : List Literal) → Sane (read look script ls)
 unfolding read
-read-sane script ls = go (entry script ls) refl (entry-numbered script ls)
+read-sane look script ls = go (entry script ls) refl (entry-numbered script ls)
   where
-    go : (c : Option Refusal) → entry script ls ≡ c → Refusing OfEntry c → Sane (read script ls)
-    go none e h = rw (e, read) (answered-sane script ls (readFrom script 0 ls) (from-body script 0 ls))
+    go : (c : Option Refusal) → entry script ls ≡ c → Refusing OfEntry c → Sane (read look script ls)
+    go none e h = rw (e, read) (answered-sane script ls (readFrom look script 0 ls) (from-body look script 0 ls))
     go (some r) e h = rw (e, read) (entry-listed r h)
 
 roomed-sane : (w t : ℕ) (o : Outcome Answer) → Sane o → Sane (roomed w t o)
@@ -202,18 +202,18 @@ roomed-sane w t (accepts x) h = go (ltb (w / 8) (length (x .records))) refl (ltb
     go false p false q = rw (p, q) h
 
 -- of descriptors with both buffers lent
-pub into-sane : (script : List ℕ) (ls : List Literal) (words text : List ℕ) → Sane (readInto script ls words text .outcome)
+pub into-sane : (look : Naming) → (script : List ℕ) (ls : List Literal) (words text : List ℕ) → Sane (readInto look script ls words text .outcome)
 unfolding readInto called
-into-sane script ls words text = roomed-sane (length words) (length text) (read script ls) (read-sane script ls)
+into-sane look script ls words text = roomed-sane (length words) (length text) (read look script ls) (read-sane look script ls)
 
 -- of flat numbers
-pub numbers-sane : (script ns words text : List ℕ) → Sane (readNumbers script ns words text .outcome)
+pub numbers-sane : (look : Naming) → (script ns words text : List ℕ) → Sane (readNumbers look script ns words text .outcome)
 unfolding readNumbers called refusal
-numbers-sane script ns words text = go (sixes ns) refl
+numbers-sane look script ns words text = go (sixes ns) refl
   where
-    go : (o : Option (List Literal)) → sixes ns ≡ o → Sane (readNumbers script ns words text .outcome)
+    go : (o : Option (List Literal)) → sixes ns ≡ o → Sane (readNumbers look script ns words text .outcome)
     go none e = rw (e, readNumbers) tt
-    go (some ls) e = rw (e, readNumbers) (into-sane script ls words text)
+    go (some ls) e = rw (e, readNumbers) (into-sane look script ls words text)
 
 -- BOTH BUFFERS KEEP THEIR LENGTHS
 abbrev pub Kept : List ℕ → List ℕ → Call → Type 0
@@ -244,14 +244,14 @@ called-kept (accepts x) words text = go (ltb (length words / 8) (length (x .reco
         let m = ltb-false (length text) (length (x .text)) q in
         rw (p, q) (in-front (allWords (x .records)) words (omega (arith, all-words (x .records))), in-front (x .text) text m)
 
-pub into-kept : (script : List ℕ) (ls : List Literal) (words text : List ℕ) → Kept words text (readInto script ls words text)
+pub into-kept : (look : Naming) → (script : List ℕ) (ls : List Literal) (words text : List ℕ) → Kept words text (readInto look script ls words text)
 unfolding readInto
-into-kept script ls words text = called-kept (read script ls) words text
+into-kept look script ls words text = called-kept (read look script ls) words text
 
-pub numbers-kept : (script ns words text : List ℕ) → Kept words text (readNumbers script ns words text)
+pub numbers-kept : (look : Naming) → (script ns words text : List ℕ) → Kept words text (readNumbers look script ns words text)
 unfolding readNumbers called wordsAfter textAfter
-numbers-kept script ns words text = go (sixes ns) refl
+numbers-kept look script ns words text = go (sixes ns) refl
   where
-    go : (o : Option (List Literal)) → sixes ns ≡ o → Kept words text (readNumbers script ns words text)
+    go : (o : Option (List Literal)) → sixes ns ≡ o → Kept words text (readNumbers look script ns words text)
     go none e = rw (e, readNumbers) (length-replicate (length words) 0, length-replicate (length text) 0)
-    go (some ls) e = rw (e, readNumbers) (into-kept script ls words text)
+    go (some ls) e = rw (e, readNumbers) (into-kept look script ls words text)

@@ -14,7 +14,7 @@ use borrow.Author.Tests.{lt-leb}
 use Rattle.definition.specs.Numbers.{mismatchedDelimiter, refusals, _among_, ofEntry, ofBody, tooFewRecordPlaces}
 use Rattle.definition.specs.Chars.{if_then_else_}
 use Rattle.definition.specs.Counts.{counted}
-use Rattle.definition.specs.Escapes.{Fault, Read, got, refused}
+use Rattle.definition.specs.Escapes.{Naming, Fault, Read, got, refused}
 use Rattle.definition.specs.Body.{Piece, readBody}
 use Rattle.definition.specs.Records.{Item, Answer, answerOf}
 use Rattle.definition.specs.Entry.{Literal, sixes, placeOf, body, Refusal, refusal, moved, entry}
@@ -60,16 +60,16 @@ abbrev pub Standing : List ℕ → ℕ → List Literal → Outcome (List Item) 
 Standing script i ls (accepts xs) = Unit {0}
 Standing script i ls (refuses r) = InBody script 0 i ls r
 
-module _ (script : List ℕ) where
-  literal-stands : (i : ℕ) (l : Literal) (ls : List Literal) → Standing script i (l ∷ ls) (readLiteral script i l)
+module _ (look : Naming) (script : List ℕ) where
+  literal-stands : (i : ℕ) (l : Literal) (ls : List Literal) → Standing script i (l ∷ ls) (readLiteral look script i l)
   unfolding openedAt refusalIn readLiteral
-  literal-stands i l ls = go (readBody (l .kind) (body script l)) refl (body-reading (l .kind) (body script l) .0)
+  literal-stands i l ls = go (readBody look (l .kind) (body script l)) refl (body-reading look (l .kind) (body script l) .0)
     where
       opens : (x : Fault) (t : Bool) → eqb (x .number) mismatchedDelimiter ≡ t → Names (body script l) x t → Opened script l (x .taken) (refusalIn script i l x) t
       opens x true e h = (x .opened, rw e refl, h)
       opens x false e h = rw e refl
 
-      go : (r : Read (List Piece)) → readBody (l .kind) (body script l) ≡ r → Sound (body script l) 0 r → Standing script i (l ∷ ls) (readLiteral script i l)
+      go : (r : Read (List Piece)) → readBody look (l .kind) (body script l) ≡ r → Sound (body script l) 0 r → Standing script i (l ∷ ls) (readLiteral look script i l)
       go (got ps j) e h = rw (e, readLiteral) tt
       go (refused x) e h =
           let says = h .0 tt in
@@ -82,10 +82,10 @@ module _ (script : List ℕ) where
       record { number = k .number; literal = k .literal; named = later (k .named); taken = k .taken; within = k .within; place = k .place; opened = k .opened; line = k .line; column = k .column; chars = k .chars }
   then-stands i l ls (accepts xs) (accepts ys) h k = tt
 
-  pub from-stands : (i : ℕ) (ls : List Literal) → Standing script i ls (readFrom script i ls)
+  pub from-stands : (i : ℕ) (ls : List Literal) → Standing script i ls (readFrom look script i ls)
   unfolding readFrom
   from-stands i [] = tt
-  from-stands i (l ∷ ls) = then-stands i l ls (readLiteral script i l) (readFrom script (suc i) ls) (literal-stands i l ls) (from-stands (suc i) ls)
+  from-stands i (l ∷ ls) = then-stands i l ls (readLiteral look script i l) (readFrom look script (suc i) ls) (literal-stands i l ls) (from-stands (suc i) ls)
 
 -- a refusal in no body: before any character, or after all of them
 pub record InNone (script : List ℕ) (ls : List Literal) (r : Refusal) : Type 0 where
@@ -113,7 +113,7 @@ apart r h k =
     let b = leb→le 10 n (front (leb 10 n) (leb n 28) (front (leb 10 n && leb n 28) (n among refusals) k)) in
     omega arith
 
-module _ (script : List ℕ) (ls : List Literal) where
+module _ (look : Naming) (script : List ℕ) (ls : List Literal) where
   opened-moved : (l : Literal) (taken : ℕ) (r : Refusal) (t : Bool) (n m : ℕ) → Opened script l taken r t → Opened script l taken (moved n m r) t
   unfolding moved
   opened-moved l taken r true n m h = h
@@ -144,12 +144,12 @@ module _ (script : List ℕ) (ls : List Literal) where
       record { number = apart (refusal n i place 0 0) h; opened = refl; line = refl; column = refl; chars = rw (lt-leb 30 n (omega arith)) refl }
 
   -- with room for anything
-  read-placed : Placed script ls (read script ls)
+  read-placed : Placed script ls (read look script ls)
   unfolding read refusal
   read-placed = go (entry script ls) refl (entry-refusing (InNone script ls) entry-none script ls)
     where
-      go : (c : Option Refusal) → entry script ls ≡ c → Refusing (InNone script ls) c → Placed script ls (read script ls)
-      go none e h = rw (e, read) (answered-placed (readFrom script 0 ls) (from-stands script 0 ls))
+      go : (c : Option Refusal) → entry script ls ≡ c → Refusing (InNone script ls) c → Placed script ls (read look script ls)
+      go none e h = rw (e, read) (answered-placed (readFrom look script 0 ls) (from-stands look script 0 ls))
       go (some r) e h = rw (e, read) (inr h)
 
   roomed-placed : (w t : ℕ) (o : Outcome Answer) → Placed script ls o → Placed script ls (roomed w t o)
@@ -163,19 +163,19 @@ module _ (script : List ℕ) (ls : List Literal) where
       go false p false q = rw (p, q) h
 
   -- of descriptors with both buffers lent
-  pub into-placed : (words text : List ℕ) → Placed script ls (readInto script ls words text .outcome)
+  pub into-placed : (words text : List ℕ) → Placed script ls (readInto look script ls words text .outcome)
   unfolding readInto called
-  into-placed words text = roomed-placed (length words) (length text) (read script ls) read-placed
+  into-placed words text = roomed-placed (length words) (length text) (read look script ls) read-placed
 
 -- of flat numbers: their literals, none if some are left over
 abbrev pub listed : Option (List Literal) → List Literal
 listed none = []
 listed (some ls) = ls
 
-pub numbers-placed : (script ns words text : List ℕ) → Placed script (listed (sixes ns)) (readNumbers script ns words text .outcome)
+pub numbers-placed : (look : Naming) → (script ns words text : List ℕ) → Placed script (listed (sixes ns)) (readNumbers look script ns words text .outcome)
 unfolding readNumbers called refusal
-numbers-placed script ns words text = go (sixes ns) refl
+numbers-placed look script ns words text = go (sixes ns) refl
   where
-    go : (o : Option (List Literal)) → sixes ns ≡ o → Placed script (listed o) (readNumbers script ns words text .outcome)
+    go : (o : Option (List Literal)) → sixes ns ≡ o → Placed script (listed o) (readNumbers look script ns words text .outcome)
     go none e = rw (e, readNumbers) (inr (record { number = λ k. k; opened = refl; line = refl; column = refl; chars = refl }))
-    go (some ls) e = rw (e, readNumbers) (into-placed script ls words text)
+    go (some ls) e = rw (e, readNumbers) (into-placed look script ls words text)

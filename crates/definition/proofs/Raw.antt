@@ -10,7 +10,7 @@ use lib.ListN.{length, take}
 use lib.Seq.{take-all, take-add}
 use borrow.Author.Tests.{leb-true, leb-false, lt-leb}
 use Rattle.definition.specs.Chars.{_is_, byte, atEnd, code, next, char}
-use Rattle.definition.specs.Escapes.{got}
+use Rattle.definition.specs.Escapes.{Naming, got}
 use Rattle.definition.specs.Body.{literal, TextCase, textCase, textMove, filled, textN, enough, readBody}
 use Rattle.definition.specs.Records.{top, item, itemOf, wordsOf, merge, merged, glue, texts, laid, recordAt, cover, covers, joined, Answer, answerOf}
 use Rattle.definition.specs.Entry.{Literal, sixes, oneMore, body, anyOf, firstStart, entry}
@@ -32,7 +32,7 @@ no-brace [] i h l = absurd (omega arith)
 no-brace (b ∷ s) zero h l = clean (b is "{}") (braceless s) h .0
 no-brace (b ∷ s) (suc i) h l = no-brace s i (clean (b is "{}") (braceless s) h .1) (omega arith)
 
-module _ (s : List ℕ) (free : braceless s ≡ true) where
+module _ (look : Naming) (s : List ℕ) (free : braceless s ≡ true) where
   raw-case : (i : ℕ) → i < length s → textCase 4 s 0 i ≡ TextCase.plain
   unfolding textCase
   raw-case i l =
@@ -50,21 +50,21 @@ module _ (s : List ℕ) (free : braceless s ≡ true) where
       let e : i + (next s i - i) ≡ next s i = omega (arith, next-from s i) in
       sym (take-add i (next s i - i) s) ∙ ap (λ k. take k s) e
 
-  raw-text : (n i : ℕ) → i ≤ length s → Moves s i 1 n → textN n 4 s 0 i (take i s) [] ≡ got (filled 0 s) (length s)
+  raw-text : (n i : ℕ) → i ≤ length s → Moves s i 1 n → textN look n 4 s 0 i (take i s) [] ≡ got (filled 0 s) (length s)
   unfolding textMove
   raw-text zero i l m = absurd (omega arith)
   raw-text (suc n) i l m =
       cases (atEnd s i)
       (λ e.
       let k = leb-true (length s) i e in
-      text-ends n 4 s 0 i (take i s) [] (rw (raw-over i e, textMove) refl) ∙ ap₂ (λ t j. got (filled 0 t) j) (take-all i s k) (omega arith))
+      text-ends look n 4 s 0 i (take i s) [] (rw (raw-over i e, textMove) refl) ∙ ap₂ (λ t j. got (filled 0 t) j) (take-all i s k) (omega arith))
       (λ e.
       let k = leb-false (length s) i e in
-      text-goes n 4 s 0 i (take i s) [] (next s i) (take i s ++ char s i) (rw (raw-case i k, textMove) refl)
-      ∙ ap (λ t. textN n 4 s 0 (next s i) t []) (one-more i)
+      text-goes look n 4 s 0 i (take i s) [] (next s i) (take i s ++ char s i) (rw (raw-case i k, textMove) refl)
+      ∙ ap (λ t. textN look n 4 s 0 (next s i) t []) (one-more i)
       ∙ raw-text n (next s i) (next-in s i l) (omega (arith, next-past s i k)))
 
-  raw-body : 1 ≤ length s → readBody 4 s ≡ got (literal 0 s ∷ []) (length s)
+  raw-body : 1 ≤ length s → readBody look 4 s ≡ got (literal 0 s ∷ []) (length s)
   unfolding readBody filled
   raw-body h = raw-text (enough s) 0 (omega arith) (omega arith) ∙ ap (λ ps. got ps (length s)) (one s h)
     where
@@ -73,7 +73,7 @@ module _ (s : List ℕ) (free : braceless s ≡ true) where
       one (b ∷ s) h = refl
 
 -- READ ALONE, by its six numbers
-module _ (script : List ℕ) (triple offset size start end : ℕ) where
+module _ (look : Naming) (script : List ℕ) (triple offset size start end : ℕ) where
   abbrev pub alone : Literal
   alone = record { kind = 4; triple = triple; offset = offset; size = size; start = start; end = end }
 
@@ -91,11 +91,11 @@ module _ (script : List ℕ) (triple offset size start end : ℕ) where
     abbrev answer : Answer
     answer = answerOf joined 0 start end (allChars script (alone ∷ [])) (item top 1 bytes start end 0 0 0 ∷ [])
 
-    raw-from : readFrom script 0 (alone ∷ []) ≡ accepts (item top 1 bytes start end 0 0 0 ∷ [])
+    raw-from : readFrom look script 0 (alone ∷ []) ≡ accepts (item top 1 bytes start end 0 0 0 ∷ [])
     unfolding readFrom andThen readLiteral itemOf
-    raw-from = rw (raw-body bytes free some-byte, readLiteral) refl
+    raw-from = rw (raw-body look bytes free some-byte, readLiteral) refl
 
-    raw-read : read script (alone ∷ []) ≡ accepts answer
+    raw-read : read look script (alone ∷ []) ≡ accepts answer
     unfolding read answered sortOf anyOf uMark firstStart lastEnd
     raw-read = rw (passed, raw-from, read) refl
 
@@ -105,7 +105,7 @@ module _ (script : List ℕ) (triple offset size start end : ℕ) where
 
     module _ (words text : List ℕ) (w : 8 ≤ length words) (t : length bytes ≤ length text) where
       -- of descriptors
-      pub into-raw : RawIs words text (readInto script (alone ∷ []) words text)
+      pub into-raw : RawIs words text (readInto look script (alone ∷ []) words text)
       unfolding readInto called numbers sortNumber wordsAfter textAfter answerOf
       into-raw =
           let room : roomed (length words) (length text) (accepts answer) ≡ accepts answer = roomed-enough (length words) (length text) answer (omega (arith, raw-words .2)) (omega (arith, ap length (raw-words .1))) in
@@ -116,6 +116,6 @@ module _ (script : List ℕ) (triple offset size start end : ℕ) where
           )
 
       -- of flat numbers
-      pub numbers-raw : RawIs words text (readNumbers script (4 ∷ triple ∷ offset ∷ size ∷ start ∷ end ∷ []) words text)
+      pub numbers-raw : RawIs words text (readNumbers look script (4 ∷ triple ∷ offset ∷ size ∷ start ∷ end ∷ []) words text)
       unfolding readNumbers sixes oneMore
       numbers-raw = into-raw

@@ -9,6 +9,7 @@ use lib.Dec.{T, ltb, leb}
 use lib.ListN.{length}
 use borrow.Author.Tests.{le-ltb, leb-true}
 use Rattle.definition.specs.Numbers.{refusals, _among_, notSixes, tooFewRecordPlaces, tooLittleTextRoom}
+use Rattle.definition.specs.Escapes.{Naming}
 use Rattle.definition.specs.Records.{Answer}
 use Rattle.definition.specs.Entry.{Literal, Refusal, refusal, moved, sixes, entry}
 use Rattle.definition.specs.Reading.{Outcome, accepts, refuses, read, outcomeOf, shortOf, roomFor, roomed, Call, called, readInto, readNumbers}
@@ -44,32 +45,32 @@ module _ (w t : ℕ) where
       go false p true q = let h = rw (p, q) at e in cc
       go false p false q = rw (p, q) at e
 
-module _ (script words text words′ text′ : List ℕ) (x : Answer) where
+module _ (look : Naming) (script words text words′ text′ : List ℕ) (x : Answer) where
   -- of descriptors
-  pub into-needed : (ls : List Literal) → readInto script ls words text .outcome ≡ accepts x → Needed x (readInto script ls words′ text′ .outcome)
+  pub into-needed : (ls : List Literal) → readInto look script ls words text .outcome ≡ accepts x → Needed x (readInto look script ls words′ text′ .outcome)
   unfolding readInto called
-  into-needed ls e = rw (roomed-accepts (length words) (length text) (read script ls) x e) (roomed-needed (length words′) (length text′) x)
+  into-needed ls e = rw (roomed-accepts (length words) (length text) (read look script ls) x e) (roomed-needed (length words′) (length text′) x)
 
-  pub into-enough : (ls : List Literal) → readInto script ls words text .outcome ≡ accepts x → length (x .records) ≤ length words′ / 8 → length (x .text) ≤ length text′
-      → readInto script ls words′ text′ .outcome ≡ accepts x
+  pub into-enough : (ls : List Literal) → readInto look script ls words text .outcome ≡ accepts x → length (x .records) ≤ length words′ / 8 → length (x .text) ≤ length text′
+      → readInto look script ls words′ text′ .outcome ≡ accepts x
   unfolding readInto called
-  into-enough ls e h k = rw (roomed-accepts (length words) (length text) (read script ls) x e) (roomed-enough (length words′) (length text′) x h k)
+  into-enough ls e h k = rw (roomed-accepts (length words) (length text) (read look script ls) x e) (roomed-enough (length words′) (length text′) x h k)
 
   -- of flat numbers
-  module _ (ns : List ℕ) (e : readNumbers script ns words text .outcome ≡ accepts x) where
+  module _ (ns : List ℕ) (e : readNumbers look script ns words text .outcome ≡ accepts x) where
     -- numbers that are accepted are a list of descriptors
-    listed : (P : Call → Type 0) → ((ls : List Literal) → readInto script ls words text .outcome ≡ accepts x → P (readInto script ls words′ text′)) → P (readNumbers script ns words′ text′)
+    listed : (P : Call → Type 0) → ((ls : List Literal) → readInto look script ls words text .outcome ≡ accepts x → P (readInto look script ls words′ text′)) → P (readNumbers look script ns words′ text′)
     unfolding readNumbers called
     listed P given = go (sixes ns) refl
       where
-        go : (o : Option (List Literal)) → sixes ns ≡ o → P (readNumbers script ns words′ text′)
+        go : (o : Option (List Literal)) → sixes ns ≡ o → P (readNumbers look script ns words′ text′)
         go none i = let h = rw (i, readNumbers) at e in let z : _≡_ {A = ℕ} 0 1 = cc in absurd (omega arith)
         go (some ls) i = rw (i, readNumbers) (given ls (rw (i, readNumbers) at e))
 
-    pub numbers-needed : Needed x (readNumbers script ns words′ text′ .outcome)
+    pub numbers-needed : Needed x (readNumbers look script ns words′ text′ .outcome)
     numbers-needed = listed (λ c. Needed x (c .outcome)) into-needed
 
-    pub numbers-enough : length (x .records) ≤ length words′ / 8 → length (x .text) ≤ length text′ → readNumbers script ns words′ text′ .outcome ≡ accepts x
+    pub numbers-enough : length (x .records) ≤ length words′ / 8 → length (x .text) ≤ length text′ → readNumbers look script ns words′ text′ .outcome ≡ accepts x
     numbers-enough h k = listed (λ c. c .outcome ≡ accepts x) (λ ls i. into-enough ls i h k)
 
 -- WITH ROOM FOR ANYTHING no number is above 28
@@ -91,8 +92,8 @@ body-below n a b h = go (leb 10 n) (detailed n a b) h
     go true y h = under n 28 (omega arith) (n among refusals) y h
     go false y h = absurd h
 
-pub read-below : (script : List ℕ) (ls : List Literal) → Below (read script ls)
-read-below script ls = go (entry script ls) (read script ls) (read-numbered script ls)
+pub read-below : (look : Naming) → (script : List ℕ) (ls : List Literal) → Below (read look script ls)
+read-below look script ls = go (entry script ls) (read look script ls) (read-numbered look script ls)
   where
     go : (c : Option Refusal) (o : Outcome Answer) → Numbered c o → Below o
     go (some r) o h = rw (h .1) (under (r .number) 7 (omega arith) (r .number among refusals) (detailed (r .number) (r .a) (r .b)) (h .0))
@@ -123,20 +124,20 @@ roomed-told w t (accepts x) r b h e = go (ltb (w / 8) (length (x .records))) ref
     go false p false k = differ x r (rw (p, k) at e)
 
 -- FROM 30 OR 31 an acceptance follows: with the room that it tells, and with just those counts
-module _ (script words text words′ text′ : List ℕ) (r : Refusal) (h : 30 ≤ r .number) (w : r .a ≤ length words′ / 8) (t : r .b ≤ length text′) where
+module _ (look : Naming) (script words text words′ text′ : List ℕ) (r : Refusal) (h : 30 ≤ r .number) (w : r .a ≤ length words′ / 8) (t : r .b ≤ length text′) where
   -- of descriptors
-  pub into-told : (ls : List Literal) → readInto script ls words text .outcome ≡ refuses r → Told r (readInto script ls words′ text′ .outcome)
+  pub into-told : (ls : List Literal) → readInto look script ls words text .outcome ≡ refuses r → Told r (readInto look script ls words′ text′ .outcome)
   unfolding readInto called
-  into-told ls e = go (roomed-told (length words) (length text) (read script ls) r (read-below script ls) h e)
+  into-told ls e = go (roomed-told (length words) (length text) (read look script ls) r (read-below look script ls) h e)
     where
-      go : Told r (read script ls) → Told r (readInto script ls words′ text′ .outcome)
+      go : Told r (read look script ls) → Told r (readInto look script ls words′ text′ .outcome)
       go (x, o, m, n) = (x, ap (roomed (length words′) (length text′)) o ∙ roomed-enough (length words′) (length text′) x (omega arith) (omega arith), m, n)
 
   -- of flat numbers
-  pub numbers-told : (ns : List ℕ) → readNumbers script ns words text .outcome ≡ refuses r → Told r (readNumbers script ns words′ text′ .outcome)
+  pub numbers-told : (ns : List ℕ) → readNumbers look script ns words text .outcome ≡ refuses r → Told r (readNumbers look script ns words′ text′ .outcome)
   unfolding readNumbers called refusal
   numbers-told ns e = go (sixes ns) refl
     where
-      go : (o : Option (List Literal)) → sixes ns ≡ o → Told r (readNumbers script ns words′ text′ .outcome)
+      go : (o : Option (List Literal)) → sixes ns ≡ o → Told r (readNumbers look script ns words′ text′ .outcome)
       go none i = let s = same-refusal (refusal notSixes 0 0 0 0) r (rw (i, readNumbers) at e) in let h′ = rw (← s) at h in absurd (omega arith)
       go (some ls) i = rw (i, readNumbers) (into-told ls (rw (i, readNumbers) at e))

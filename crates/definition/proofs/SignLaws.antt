@@ -12,7 +12,7 @@ use lib.ListN.{length, drop, length-drop}
 use lib.Seq.{getD-drop}
 use Rattle.definition.specs.Numbers.{isFString, emptyExpression}
 use Rattle.definition.specs.Chars.{if_then_else_, _is_, byte, part, atEnd, code, next, char, before}
-use Rattle.definition.specs.Escapes.{Fault, fault, Read, got, refused, Meaning, escape}
+use Rattle.definition.specs.Escapes.{Naming, Fault, fault, Read, got, refused, Meaning, escape}
 use Rattle.definition.specs.Body.{Signs, Piece, literal, field, spec, Bracket, Move, goes, stops, calls, ends, withEscape, TextCase, deep, opens, last, doubled, lone, textCase, textMove, filled, Field, state, withEquals, withBang, withColon, withClose, fresh, add, documented, spaced, formatted, FieldCase, pair, converts, documents, formats, opener, closes, closer, quote, space, backslash, stray, outside, fieldCase, caseOf, conversionMove, openMove, matching, closeMove, quoteMove, fieldMove, conversionOf, fieldPieces, selfDocumenting, finished, specified, plainRun, firstEnd, textN, fieldN, specN, stringN, enough, alone, readBody}
 use Rattle.definition.specs.Rows.{reason, signAt, signsAt}
 use Rattle.definition.proofs.CharLaws.{cases, no, either, byte-in, next-in, next-from, next-ascii, code-ascii, code-is, before-in}
@@ -269,18 +269,18 @@ unfolding withEscape
 escape-met kind s i text (got m j) = tt
 escape-met kind s i text (refused x) = tt
 
-text-met : (kind : ℕ) (s : List ℕ) (depth i : ℕ) (text : List ℕ) → TextMet s i (textMove kind s depth i text)
+text-met : (look : Naming) → (kind : ℕ) (s : List ℕ) (depth i : ℕ) (text : List ℕ) → TextMet s i (textMove look kind s depth i text)
 unfolding textMove
-text-met kind s depth i text = go (textCase kind s depth i) refl
+text-met look kind s depth i text = go (textCase kind s depth i) refl
   where
-    go : (x : TextCase) → textCase kind s depth i ≡ x → TextMet s i (textMove kind s depth i text)
+    go : (x : TextCase) → textCase kind s depth i ≡ x → TextMet s i (textMove look kind s depth i text)
     go deep e = rw (e, textMove) tt
     go TextCase.over e = rw (e, textMove) (text-told s i kind depth TextCase.over e)
     go opens e = rw (e, textMove) (text-told s i kind depth opens e)
     go last e = rw (e, textMove) tt
     go doubled e = rw (e, textMove) tt
     go lone e = rw (e, textMove) tt
-    go TextCase.escapes e = rw (e, textMove) (escape-met kind s i text (escape kind s (next s i)))
+    go TextCase.escapes e = rw (e, textMove) (escape-met kind s i text (escape look kind s (next s i)))
     go TextCase.plain e = rw (e, textMove) tt
 
 -- READINGS: what a field gives, and what a text gives
@@ -372,14 +372,14 @@ none-yet s i o = (
   refl,
 )
 
-record Signings (n : ℕ) : Type 0 where
-  text : (kind : ℕ) (s : List ℕ) (depth i : ℕ) (text : List ℕ) (ps : List Piece) → i ≤ length s → Signed s ps → TextReads s i (textN n kind s depth i text ps)
-  field : (kind : ℕ) (s : List ℕ) (depth from i : ℕ) (f : Field) → from ≤ i → i ≤ length s → MetField s from f → FieldReads s from (fieldN n kind s depth from i f)
-  spec : (kind : ℕ) (s : List ℕ) (depth i : ℕ) → i ≤ length s → TextReads s i (specN n kind s depth i)
+record Signings (look : Naming) (n : ℕ) : Type 0 where
+  text : (kind : ℕ) (s : List ℕ) (depth i : ℕ) (text : List ℕ) (ps : List Piece) → i ≤ length s → Signed s ps → TextReads s i (textN look n kind s depth i text ps)
+  field : (kind : ℕ) (s : List ℕ) (depth from i : ℕ) (f : Field) → from ≤ i → i ≤ length s → MetField s from f → FieldReads s from (fieldN look n kind s depth from i f)
+  spec : (kind : ℕ) (s : List ℕ) (depth i : ℕ) → i ≤ length s → TextReads s i (specN look n kind s depth i)
 
-module _ (n : ℕ) (D : Signings n) (kind : ℕ) (s : List ℕ) (depth : ℕ) where
-  text-signed : (i : ℕ) (text : List ℕ) (ps : List Piece) → i ≤ length s → Signed s ps → TextReads s i (textN (suc n) kind s depth i text ps)
-  text-signed i text ps l h = go (textMove kind s depth i text) refl (text-ahead kind s depth i text l) (text-met kind s depth i text)
+module _ (look : Naming) (n : ℕ) (D : Signings look n) (kind : ℕ) (s : List ℕ) (depth : ℕ) where
+  text-signed : (i : ℕ) (text : List ℕ) (ps : List Piece) → i ≤ length s → Signed s ps → TextReads s i (textN look (suc n) kind s depth i text ps)
+  text-signed i text ps l h = go (textMove look kind s depth i text) refl (text-ahead look kind s depth i text l) (text-met look kind s depth i text)
     where
       a : ℕ
       a = next s i
@@ -388,42 +388,42 @@ module _ (n : ℕ) (D : Signings n) (kind : ℕ) (s : List ℕ) (depth : ℕ) wh
       whole = signed-append s ps (filled depth text) h (filled-signed s depth text)
 
       Goal : Type 0
-      Goal = TextReads s i (textN (suc n) kind s depth i text ps)
+      Goal = TextReads s i (textN look (suc n) kind s depth i text ps)
 
-      after-field : (r : Read (List Piece)) → fieldN n kind s depth a a fresh ≡ r → FieldReads s a r → textMove kind s depth i text ≡ calls → Goal
+      after-field : (r : Read (List Piece)) → fieldN look n kind s depth a a fresh ≡ r → FieldReads s a r → textMove look kind s depth i text ≡ calls → Goal
       after-field (got qs j) f k e =
           let b = next-from s i in
-          rw (text-got n kind s depth i text ps qs j e f)
-          (text-later s i j (textN n kind s depth j [] (ps ++ filled depth text ++ qs)) (omega arith)
+          rw (text-got look n kind s depth i text ps qs j e f)
+          (text-later s i j (textN look n kind s depth j [] (ps ++ filled depth text ++ qs)) (omega arith)
           (D .text kind s depth j [] (ps ++ filled depth text ++ qs) (k .2) (signed-append s (ps ++ filled depth text) qs whole (k .0))))
-      after-field (refused x) f k e = rw (text-refused n kind s depth i text ps x e f) tt
+      after-field (refused x) f k e = rw (text-refused look n kind s depth i text ps x e f) tt
 
-      go : (x : Move (List ℕ)) → textMove kind s depth i text ≡ x → Ahead textSize (textSize text) (i < length s) (Unit {0}) s i x → TextMet s i x → Goal
-      go (goes j text′) e k p = rw (text-goes n kind s depth i text ps j text′ e) (text-later s i j (textN n kind s depth j text′ ps) (omega arith) (D .text kind s depth j text′ ps (k .1) h))
-      go (stops x) e k p = rw (text-stops n kind s depth i text ps x e) tt
-      go calls e k p = after-field (fieldN n kind s depth a a fresh) refl (D .field kind s depth a a fresh (omega arith) (next-in s i l) (none-yet s a (after s 0 i 123 (omega arith) (omega arith) p))) e
-      go ends e k p = rw (text-ends n kind s depth i text ps e) (whole, omega arith, l, p)
+      go : (x : Move (List ℕ)) → textMove look kind s depth i text ≡ x → Ahead textSize (textSize text) (i < length s) (Unit {0}) s i x → TextMet s i x → Goal
+      go (goes j text′) e k p = rw (text-goes look n kind s depth i text ps j text′ e) (text-later s i j (textN look n kind s depth j text′ ps) (omega arith) (D .text kind s depth j text′ ps (k .1) h))
+      go (stops x) e k p = rw (text-stops look n kind s depth i text ps x e) tt
+      go calls e k p = after-field (fieldN look n kind s depth a a fresh) refl (D .field kind s depth a a fresh (omega arith) (next-in s i l) (none-yet s a (after s 0 i 123 (omega arith) (omega arith) p))) e
+      go ends e k p = rw (text-ends look n kind s depth i text ps e) (whole, omega arith, l, p)
 
-  field-signed : (from i : ℕ) (f : Field) → from ≤ i → i ≤ length s → MetField s from f → FieldReads s from (fieldN (suc n) kind s depth from i f)
+  field-signed : (from i : ℕ) (f : Field) → from ≤ i → i ≤ length s → MetField s from f → FieldReads s from (fieldN look (suc n) kind s depth from i f)
   field-signed from i f b l m = go (fieldMove s i f) refl (field-ahead s i f l) (field-met s from i b f m)
     where
       Goal : Type 0
-      Goal = FieldReads s from (fieldN (suc n) kind s depth from i f)
+      Goal = FieldReads s from (fieldN look (suc n) kind s depth from i f)
 
-      after-spec : (r : Read (List Piece)) → specN n kind s depth (next s i) ≡ r → TextReads s (next s i) r → fieldMove s i f ≡ calls → code s i ≡ 58 → Goal
+      after-spec : (r : Read (List Piece)) → specN look n kind s depth (next s i) ≡ r → TextReads s (next s i) r → fieldMove s i f ≡ calls → code s i ≡ 58 → Goal
       after-spec (got ps j) g k e p =
           let c = next-from s i in
-          rw (field-got n kind s depth from i f ps j e g)
+          rw (field-got look n kind s depth from i f ps j e g)
           (specified-signed s depth from j (formatted (next s i) f) ps (omega arith) (k .3) (formatted-met s from i b ps f p m) (k .0))
-      after-spec (refused x) g k e p = rw (field-refused n kind s depth from i f x e g) tt
+      after-spec (refused x) g k e p = rw (field-refused look n kind s depth from i f x e g) tt
 
       go : (x : Move Field) → fieldMove s i f ≡ x → FieldAhead s i f x → MetMove s from i x → Goal
-      go (goes j f′) e k (on p) = rw (field-goes n kind s depth from i f j f′ e) (D .field kind s depth from j f′ (omega arith) (k .1) p)
-      go (stops x) e k stopped = rw (field-stops n kind s depth from i f x e) tt
-      go calls e k (at-colon p) = after-spec (specN n kind s depth (next s i)) refl (D .spec kind s depth (next s i) (next-in s i l)) e p
-      go ends e k (at-brace p) = rw (field-ends n kind s depth from i f e) (ended-signed s depth from i b p f none m tt)
+      go (goes j f′) e k (on p) = rw (field-goes look n kind s depth from i f j f′ e) (D .field kind s depth from j f′ (omega arith) (k .1) p)
+      go (stops x) e k stopped = rw (field-stops look n kind s depth from i f x e) tt
+      go calls e k (at-colon p) = after-spec (specN look n kind s depth (next s i)) refl (D .spec kind s depth (next s i) (next-in s i l)) e p
+      go ends e k (at-brace p) = rw (field-ends look n kind s depth from i f e) (ended-signed s depth from i b p f none m tt)
 
-  spec-signed : (i : ℕ) → i ≤ length s → TextReads s i (specN (suc n) kind s depth i)
+  spec-signed : (i : ℕ) → i ≤ length s → TextReads s i (specN look (suc n) kind s depth i)
   unfolding plainRun
   spec-signed i l = go (code s (firstEnd s i) is "{") refl
     where
@@ -433,28 +433,28 @@ module _ (n : ℕ) (D : Signings n) (kind : ℕ) (s : List ℕ) (depth : ℕ) wh
       within : firstEnd s i ≤ length s
       within = before-in (λ b. b is "{}") s i l
 
-      go : (t : Bool) → (code s (firstEnd s i) is "{") ≡ t → TextReads s i (specN (suc n) kind s depth i)
-      go true e = rw (spec-calls n kind s depth i e) (text-later s i (firstEnd s i) (textN n kind s (suc depth) (firstEnd s i) [] (firstPiece s depth i)) (omega arith) (D .text kind s (suc depth) (firstEnd s i) [] (firstPiece s depth i) within first))
-      go false e = rw (spec-ends n kind s depth i e) (first, omega arith, within, first-ends s i l e)
+      go : (t : Bool) → (code s (firstEnd s i) is "{") ≡ t → TextReads s i (specN look (suc n) kind s depth i)
+      go true e = rw (spec-calls look n kind s depth i e) (text-later s i (firstEnd s i) (textN look n kind s (suc depth) (firstEnd s i) [] (firstPiece s depth i)) (omega arith) (D .text kind s (suc depth) (firstEnd s i) [] (firstPiece s depth i) within first))
+      go false e = rw (spec-ends look n kind s depth i e) (first, omega arith, within, first-ends s i l e)
 
-signings : (n : ℕ) → Signings n
+signings : (look : Naming) → (n : ℕ) → Signings look n
 unfolding textN
-signings zero = record { text = λ kind s depth i text ps l h. tt; field = λ kind s depth from i f b l m. tt; spec = λ kind s depth i l. tt }
-signings (suc n) = record {
-  text = λ kind s depth. text-signed n (signings n) kind s depth;
-  field = λ kind s depth. field-signed n (signings n) kind s depth;
-  spec = λ kind s depth. spec-signed n (signings n) kind s depth;
+signings look zero = record { text = λ kind s depth i text ps l h. tt; field = λ kind s depth from i f b l m. tt; spec = λ kind s depth i l. tt }
+signings look (suc n) = record {
+  text = λ kind s depth. text-signed look n (signings look n) kind s depth;
+  field = λ kind s depth. field-signed look n (signings look n) kind s depth;
+  spec = λ kind s depth. spec-signed look n (signings look n) kind s depth;
 }
 
 -- THE SIGNS OF EVERY FIELD OF A BODY
-pub body-signed : (kind : ℕ) (s : List ℕ) (ps : List Piece) (j : ℕ) → readBody kind s ≡ got ps j → Signed s ps
+pub body-signed : (look : Naming) → (kind : ℕ) (s : List ℕ) (ps : List Piece) (j : ℕ) → readBody look kind s ≡ got ps j → Signed s ps
 unfolding readBody alone
-body-signed kind s ps j e = go (isFString kind) refl
+body-signed look kind s ps j e = go (isFString kind) refl
   where
     plain : (r : Read (List ℕ)) → alone r ≡ got ps j → Signed s ps
     plain (got t k) f = let z : ps ≡ literal 0 t ∷ [] = cc in rw z tt
     plain (refused x) f = let z : _≡_ {A = ℕ} 0 1 = cc in absurd (omega arith)
 
     go : (t : Bool) → isFString kind ≡ t → Signed s ps
-    go true t = (rw (rw (t, readBody) at e) at (signings (enough s) .text kind s 0 0 [] [] (omega arith) tt)) .0
-    go false t = plain (stringN (enough s) kind s 0 []) (rw (t, readBody) at e)
+    go true t = (rw (rw (t, readBody) at e) at (signings look (enough s) .text kind s 0 0 [] [] (omega arith) tt)) .0
+    go false t = plain (stringN look (enough s) kind s 0 []) (rw (t, readBody) at e)

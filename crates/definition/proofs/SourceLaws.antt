@@ -8,7 +8,7 @@ use lib.Dec.{ltb}
 use lib.ListN.{length, length-take}
 use Rattle.definition.specs.Numbers.{isFString, readOtherwise}
 use Rattle.definition.specs.Chars.{if_then_else_}
-use Rattle.definition.specs.Escapes.{Read, got, refused}
+use Rattle.definition.specs.Escapes.{Naming, Read, got, refused}
 use Rattle.definition.specs.Body.{Piece, literal, field, spec, readBody}
 use Rattle.definition.specs.Records.{Answer}
 use Rattle.definition.specs.Entry.{Literal, placeOf, body}
@@ -57,7 +57,7 @@ none-fits s (ofField w r ∷ rs) p = let h = p .0 .levels in absurd (omega arith
 none-fits s (ofRefusal w start place number a b o ∷ rs) p = let h = p .0 in absurd (omega arith)
 
 -- THE ROWS OF A CUT of the part from `from` up to `end`
-module _ (s : List ℕ) (n from end : ℕ) (h : end ≤ length s) (k : end - from < n) (w : ℕ) where
+module _ (look : Naming) (s : List ℕ) (n from end : ℕ) (h : end ≤ length s) (k : end - from < n) (w : ℕ) where
   inside : (l : Literal) → InPart s from end l → (e i : ℕ) → placeOf l 0 + i ≤ e → e < placeOf l 0 + length (body s l) → (e ≤ length s) × (e - (placeOf l 0 + i) + 1 < n)
   unfolding placeOf body
   inside l p e i a b =
@@ -96,39 +96,39 @@ module _ (s : List ℕ) (n from end : ℕ) (h : end ≤ length s) (k : end - fro
       )
   fields-fit l p (spec m ∷ ps) q = fields-fit l p ps q
 
-  pub read-fit : (l : Literal) → InPart s from end l → (r : Read (List Piece)) → readBody (l .kind) (body s l) ≡ r → AllFit s n (map (ofField w) (fieldRows (l .start) (placeOf l 0) (piecesOf r)))
+  pub read-fit : (l : Literal) → InPart s from end l → (r : Read (List Piece)) → readBody look (l .kind) (body s l) ≡ r → AllFit s n (map (ofField w) (fieldRows (l .start) (placeOf l 0) (piecesOf r)))
   unfolding piecesOf fieldRows
-  read-fit l p (got ps j) e = fields-fit l p ps (body-signed (l .kind) (body s l) ps j e)
+  read-fit l p (got ps j) e = fields-fit l p ps (body-signed look (l .kind) (body s l) ps j e)
   read-fit l p (refused x) e = tt
 
-  pub literal-fit : (l : Literal) → InPart s from end l → AllFit s n (readRows s w l)
+  pub literal-fit : (l : Literal) → InPart s from end l → AllFit s n (readRows look s w l)
   unfolding readRows literalRows
-  literal-fit l p = go (isFString (l .kind)) refl (read s (l ∷ [])) refl
+  literal-fit l p = go (isFString (l .kind)) refl (read look s (l ∷ [])) refl
     where
-      go : (t : Bool) → isFString (l .kind) ≡ t → (o : Outcome Answer) → read s (l ∷ []) ≡ o → AllFit s n (readRows s w l)
+      go : (t : Bool) → isFString (l .kind) ≡ t → (o : Outcome Answer) → read look s (l ∷ []) ≡ o → AllFit s n (readRows look s w l)
       go false t o e = rw (t, readRows) tt
-      go true t (accepts x) e = rw (t, e, readRows) (read-fit l p (readBody (l .kind) (body s l)) refl)
+      go true t (accepts x) e = rw (t, e, readRows) (read-fit l p (readBody look (l .kind) (body s l)) refl)
       go true t (refuses r) e = rw (t, e, readRows) (omega arith, tt)
 
-  all-fit : (ls : List Literal) → EachLiteral (InPart s from end) ls → AllFit s n (allRead s w ls)
+  all-fit : (ls : List Literal) → EachLiteral (InPart s from end) ls → AllFit s n (allRead look s w ls)
   unfolding allRead
   all-fit [] p = tt
-  all-fit (l ∷ ls) p = fit-append s n (readRows s w l) (allRead s w ls) (literal-fit l (p .0)) (all-fit ls (p .1))
+  all-fit (l ∷ ls) p = fit-append s n (readRows look s w l) (allRead look s w ls) (literal-fit l (p .0)) (all-fit ls (p .1))
 
   broken-fit : (e : Ending) → AllFit s n (brokenRow w e)
   unfolding brokenRow
   broken-fit reachesEnd = tt
   broken-fit (breaksOff number place) = (omega arith, tt)
 
-  pub cut-fit : from ≤ end → AllFit s n (cutRows s w (cutPart s from end))
+  pub cut-fit : from ≤ end → AllFit s n (cutRows look s w (cutPart s from end))
   unfolding cutRows
   cut-fit a =
       let c = cutPart s from end in
-      fit-append s n (allRead s w (c .literals)) (brokenRow w (c .ending)) (all-fit (c .literals) (in-part s from end h from (omega arith) (c .literals) (c .ending) (part-cut-is s from end a h))) (broken-fit (c .ending))
+      fit-append s n (allRead look s w (c .literals)) (brokenRow w (c .ending)) (all-fit (c .literals) (in-part s from end h from (omega arith) (c .literals) (c .ending) (part-cut-is s from end a h))) (broken-fit (c .ending))
 
 -- the script's own rows
-pub first-fit : (s : List ℕ) → AllFit s (suc (length s)) (cutRows s 0 (cut s))
-first-fit s = rw (cut-is-part s) (cut-fit s (suc (length s)) 0 (length s) (omega arith) (omega arith) 0 (omega arith))
+pub first-fit : (look : Naming) → (s : List ℕ) → AllFit s (suc (length s)) (cutRows look s 0 (cut s))
+first-fit look s = rw (cut-is-part s) (cut-fit look s (suc (length s)) 0 (length s) (omega arith) (omega arith) 0 (omega arith))
 
 -- THE ROWS OF SOURCES need a level less
 otherwise-fit : (s : List ℕ) (n w : ℕ) (r : Row) (c : Cut) → 1 ≤ n → AllFit s n (otherwiseRow s w r c)
@@ -139,15 +139,15 @@ otherwise-fit s n w r c h = go (ltb (otherwise s r c) (length s))
     go true = (h, tt)
     go false = tt
 
-pub source-fit : (s : List ℕ) (n i : ℕ) (r : ListRow) → Fits s (suc n) r → AllFit s n (sourceRows s i r)
+pub source-fit : (look : Naming) → (s : List ℕ) (n i : ℕ) (r : ListRow) → Fits s (suc n) r → AllFit s n (sourceRows look s i r)
 unfolding sourceRows
-source-fit s n i (ofRefusal w start place number a b o) p = tt
-source-fit s n i (ofField w r) p =
+source-fit look s n i (ofRefusal w start place number a b o) p = tt
+source-fit look s n i (ofField w r) p =
     let x = p .levels in
     let c = cutPart s (r .place) (sourceEnd (r .signs)) in
-    fit-append s n (otherwiseRow s i r c) (cutRows s i c) (otherwise-fit s n i r c (omega arith)) (cut-fit s n (r .place) (sourceEnd (r .signs)) (p .within) (omega arith) i (p .ahead))
+    fit-append s n (otherwiseRow s i r c) (cutRows look s i c) (otherwise-fit s n i r c (omega arith)) (cut-fit look s n (r .place) (sourceEnd (r .signs)) (p .within) (omega arith) i (p .ahead))
 
-pub below-fit : (s : List ℕ) (n i : ℕ) (rs : List ListRow) → AllFit s (suc n) rs → AllFit s n (below s i rs)
+pub below-fit : (look : Naming) → (s : List ℕ) (n i : ℕ) (rs : List ListRow) → AllFit s (suc n) rs → AllFit s n (below look s i rs)
 unfolding below
-below-fit s n i [] p = tt
-below-fit s n i (r ∷ rs) p = fit-append s n (sourceRows s (suc i) r) (below s (suc i) rs) (source-fit s n (suc i) r (p .0)) (below-fit s n (suc i) rs (p .1))
+below-fit look s n i [] p = tt
+below-fit look s n i (r ∷ rs) p = fit-append s n (sourceRows look s (suc i) r) (below look s (suc i) rs) (source-fit look s n (suc i) r (p .0)) (below-fit look s n (suc i) rs (p .1))

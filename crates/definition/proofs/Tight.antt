@@ -9,7 +9,7 @@ use borrow.Author.Tests.{leb-false}
 use lib.ListN.{length, length-append, length-replicate}
 use Rattle.definition.specs.Numbers.{isFString}
 use Rattle.definition.specs.Chars.{if_then_else_, _is_, part, atEnd, code, next}
-use Rattle.definition.specs.Escapes.{Read, got, refused}
+use Rattle.definition.specs.Escapes.{Naming, Read, got, refused}
 use Rattle.definition.specs.Body.{Piece, literal, field, spec, Move, goes, stops, calls, ends, stringMove, stringN, filled, Field, state, withClose, formatted, fresh, textMove, fieldMove, conversionOf, fieldPieces, selfDocumenting, finished, specified, firstEnd, textN, fieldN, specN, enough, alone, readBody}
 use Rattle.definition.proofs.CharLaws.{next-past, next-in}
 use Rattle.definition.proofs.Moves.{textSize, Ahead, part-short, string-ahead, text-ahead, fieldSize, FieldAhead, field-ahead}
@@ -122,76 +122,76 @@ specified-tight s depth from i j f ps h k l m = go (atEnd s j) refl
         (tighter (marked f + 1) (marked f + 1 + specRecords (some ps)) (doubled f) (doubled f + specBytes (some ps)) s i j (finished depth from (next s j) f (some ps)) (omega arith) (omega arith) (omega arith)
         (finished-tight s depth from j (next s j) f (some ps) (next-past s j (leb-false (length s) j e)) (next-in s j k)))
 
-record Tights (n : ℕ) : Type 0 where
+record Tights (look : Naming) (n : ℕ) : Type 0 where
   text : (kind : ℕ) (s : List ℕ) (depth i : ℕ) (text : List ℕ) (ps : List Piece) → i ≤ length s
-      → Tight (length ps + pending text) (bytes ps + length text) s i (textN n kind s depth i text ps)
-  field : (kind : ℕ) (s : List ℕ) (depth from i : ℕ) (f : Field) → i ≤ length s → Tight (marked f + 1) (doubled f) s i (fieldN n kind s depth from i f)
-  spec : (kind : ℕ) (s : List ℕ) (depth i : ℕ) → i ≤ length s → Tight 0 0 s i (specN n kind s depth i)
+      → Tight (length ps + pending text) (bytes ps + length text) s i (textN look n kind s depth i text ps)
+  field : (kind : ℕ) (s : List ℕ) (depth from i : ℕ) (f : Field) → i ≤ length s → Tight (marked f + 1) (doubled f) s i (fieldN look n kind s depth from i f)
+  spec : (kind : ℕ) (s : List ℕ) (depth i : ℕ) → i ≤ length s → Tight 0 0 s i (specN look n kind s depth i)
 
-module _ (n : ℕ) (R : Tights n) (kind : ℕ) (s : List ℕ) (depth : ℕ) where
-  text-tight : (i : ℕ) (text : List ℕ) (ps : List Piece) → i ≤ length s → Tight (length ps + pending text) (bytes ps + length text) s i (textN (suc n) kind s depth i text ps)
+module _ (look : Naming) (n : ℕ) (R : Tights look n) (kind : ℕ) (s : List ℕ) (depth : ℕ) where
+  text-tight : (i : ℕ) (text : List ℕ) (ps : List Piece) → i ≤ length s → Tight (length ps + pending text) (bytes ps + length text) s i (textN look (suc n) kind s depth i text ps)
   unfolding fresh
-  text-tight i text ps l = go (textMove kind s depth i text) refl (text-ahead kind s depth i text l)
+  text-tight i text ps l = go (textMove look kind s depth i text) refl (text-ahead look kind s depth i text l)
     where
       a : ℕ
       a = next s i
 
       Goal : Type 0
-      Goal = Tight (length ps + pending text) (bytes ps + length text) s i (textN (suc n) kind s depth i text ps)
+      Goal = Tight (length ps + pending text) (bytes ps + length text) s i (textN look (suc n) kind s depth i text ps)
 
-      after : (r : Read (List Piece)) → fieldN n kind s depth a a fresh ≡ r → Tight 1 0 s a r → i < length s → textMove kind s depth i text ≡ calls → Goal
+      after : (r : Read (List Piece)) → fieldN look n kind s depth a a fresh ≡ r → Tight 1 0 s a r → i < length s → textMove look kind s depth i text ≡ calls → Goal
       after (got qs j) f p h e =
           let qs′ = ps ++ filled depth text ++ qs in
           let past = next-past s i h in
           let full = filled-tight depth text in
-          rw (text-got n kind s depth i text ps qs j e f)
-          (tighter (length ps + pending text) (length qs′ + 0) (bytes ps + length text) (bytes qs′ + 0) s i j (textN n kind s depth j [] qs′) (omega arith)
+          rw (text-got look n kind s depth i text ps qs j e f)
+          (tighter (length ps + pending text) (length qs′ + 0) (bytes ps + length text) (bytes qs′ + 0) s i j (textN look n kind s depth j [] qs′) (omega arith)
           (omega (arith, length-append (ps ++ filled depth text) qs, length-append ps (filled depth text)))
           (omega (arith, bytes-append (ps ++ filled depth text) qs, bytes-append ps (filled depth text)))
           (R .text kind s depth j [] qs′ (p .1)))
-      after (refused x) f p h e = rw (text-refused n kind s depth i text ps x e f) tt
+      after (refused x) f p h e = rw (text-refused look n kind s depth i text ps x e f) tt
 
-      go : (x : Move (List ℕ)) → textMove kind s depth i text ≡ x → Ahead textSize (textSize text) (i < length s) (Unit {0}) s i x → Goal
+      go : (x : Move (List ℕ)) → textMove look kind s depth i text ≡ x → Ahead textSize (textSize text) (i < length s) (Unit {0}) s i x → Goal
       go (goes j text′) e h =
           let most = pending-most text′ in
-          rw (text-goes n kind s depth i text ps j text′ e)
-          (tighter (length ps + pending text) (length ps + pending text′) (bytes ps + length text) (bytes ps + length text′) s i j (textN n kind s depth j text′ ps) (omega arith) (omega arith) (omega arith)
+          rw (text-goes look n kind s depth i text ps j text′ e)
+          (tighter (length ps + pending text) (length ps + pending text′) (bytes ps + length text) (bytes ps + length text′) s i j (textN look n kind s depth j text′ ps) (omega arith) (omega arith) (omega arith)
           (R .text kind s depth j text′ ps (h .1)))
-      go (stops x) e h = rw (text-stops n kind s depth i text ps x e) tt
-      go calls e h = after (fieldN n kind s depth a a fresh) refl (R .field kind s depth a a fresh (next-in s i l)) h e
+      go (stops x) e h = rw (text-stops look n kind s depth i text ps x e) tt
+      go calls e h = after (fieldN look n kind s depth a a fresh) refl (R .field kind s depth a a fresh (next-in s i l)) h e
       go ends e h =
           let full = filled-tight depth text in
-          rw (text-ends n kind s depth i text ps e)
+          rw (text-ends look n kind s depth i text ps e)
           (omega arith, l, omega (arith, length-append ps (filled depth text)), omega (arith, bytes-append ps (filled depth text)))
 
-  field-tights : (from i : ℕ) (f : Field) → i ≤ length s → Tight (marked f + 1) (doubled f) s i (fieldN (suc n) kind s depth from i f)
+  field-tights : (from i : ℕ) (f : Field) → i ≤ length s → Tight (marked f + 1) (doubled f) s i (fieldN look (suc n) kind s depth from i f)
   field-tights from i f l = go (fieldMove s i f) refl (field-ahead s i f l)
     where
       a : ℕ
       a = next s i
 
       Goal : Type 0
-      Goal = Tight (marked f + 1) (doubled f) s i (fieldN (suc n) kind s depth from i f)
+      Goal = Tight (marked f + 1) (doubled f) s i (fieldN look (suc n) kind s depth from i f)
 
-      after : (r : Read (List Piece)) → specN n kind s depth a ≡ r → Tight 0 0 s a r → i < length s → fieldMove s i f ≡ calls → Goal
+      after : (r : Read (List Piece)) → specN look n kind s depth a ≡ r → Tight 0 0 s a r → i < length s → fieldMove s i f ≡ calls → Goal
       after (got ps j) g p h e =
           let past = next-past s i h in
-          rw (field-got n kind s depth from i f ps j e g) (rw (formatted-marked a f, formatted-doubled a f) at (specified-tight s depth from i j (formatted a f) ps (omega arith) (p .1) (omega arith) (omega arith)))
-      after (refused x) g p h e = rw (field-refused n kind s depth from i f x e g) tt
+          rw (field-got look n kind s depth from i f ps j e g) (rw (formatted-marked a f, formatted-doubled a f) at (specified-tight s depth from i j (formatted a f) ps (omega arith) (p .1) (omega arith) (omega arith)))
+      after (refused x) g p h e = rw (field-refused look n kind s depth from i f x e g) tt
 
       go : (x : Move Field) → fieldMove s i f ≡ x → FieldAhead s i f x → Goal
       go (goes j f′) e h =
-          rw (field-goes n kind s depth from i f j f′ e)
-          (tighter (marked f + 1) (marked f′ + 1) (doubled f) (doubled f′) s i j (fieldN n kind s depth from j f′) (omega arith) (omega (arith, marked-most f′)) (doubled-on f f′ i j (h .2))
+          rw (field-goes look n kind s depth from i f j f′ e)
+          (tighter (marked f + 1) (marked f′ + 1) (doubled f) (doubled f′) s i j (fieldN look n kind s depth from j f′) (omega arith) (omega (arith, marked-most f′)) (doubled-on f f′ i j (h .2))
           (R .field kind s depth from j f′ (h .1)))
-      go (stops x) e h = rw (field-stops n kind s depth from i f x e) tt
-      go calls e h = after (specN n kind s depth a) refl (R .spec kind s depth a (next-in s i l)) h e
+      go (stops x) e h = rw (field-stops look n kind s depth from i f x e) tt
+      go calls e h = after (specN look n kind s depth a) refl (R .spec kind s depth a (next-in s i l)) h e
       go ends e h =
-          rw (field-ends n kind s depth from i f e)
+          rw (field-ends look n kind s depth from i f e)
           (tighter (marked f + 1) (marked f + 1 + 0) (doubled f) (doubled f + 0) s i i (finished depth from a f none) (omega arith) (omega arith) (omega arith)
           (finished-tight s depth from i a f none (next-past s i h) (next-in s i l)))
 
-  spec-tight : (i : ℕ) → i ≤ length s → Tight 0 0 s i (specN (suc n) kind s depth i)
+  spec-tight : (i : ℕ) → i ≤ length s → Tight 0 0 s i (specN look (suc n) kind s depth i)
   spec-tight i l = go (code s (firstEnd s i) is "{") refl
     where
       j : ℕ
@@ -204,21 +204,21 @@ module _ (n : ℕ) (R : Tights n) (kind : ℕ) (s : List ℕ) (depth : ℕ) wher
           let m = pending-most t in
           (omega (arith, part-short s i j), omega (arith, part-short s i j))
 
-      go : (t : Bool) → (code s j is "{") ≡ t → Tight 0 0 s i (specN (suc n) kind s depth i)
+      go : (t : Bool) → (code s j is "{") ≡ t → Tight 0 0 s i (specN look (suc n) kind s depth i)
       go true e =
           let qs = firstPiece s depth i in
-          rw (spec-calls n kind s depth i e)
-          (tighter 0 (length qs + 0) 0 (bytes qs + 0) s i j (textN n kind s (suc depth) j [] qs) (omega arith) (omega (arith, full .0)) (omega (arith, full .1))
+          rw (spec-calls look n kind s depth i e)
+          (tighter 0 (length qs + 0) 0 (bytes qs + 0) s i j (textN look n kind s (suc depth) j [] qs) (omega arith) (omega (arith, full .0)) (omega (arith, full .1))
           (R .text kind s (suc depth) j [] qs (first-in s i l)))
-      go false e = rw (spec-ends n kind s depth i e) (omega arith, first-in s i l, omega (arith, full .0), omega (arith, full .1))
+      go false e = rw (spec-ends look n kind s depth i e) (omega arith, first-in s i l, omega (arith, full .0), omega (arith, full .1))
 
-tights : (n : ℕ) → Tights n
+tights : (look : Naming) → (n : ℕ) → Tights look n
 unfolding textN
-tights zero = record { text = λ kind s depth i text ps l. tt; field = λ kind s depth from i f l. tt; spec = λ kind s depth i l. tt }
-tights (suc n) = record {
-  text = λ kind s depth. text-tight n (tights n) kind s depth;
-  field = λ kind s depth. field-tights n (tights n) kind s depth;
-  spec = λ kind s depth. spec-tight n (tights n) kind s depth;
+tights look zero = record { text = λ kind s depth i text ps l. tt; field = λ kind s depth from i f l. tt; spec = λ kind s depth i l. tt }
+tights look (suc n) = record {
+  text = λ kind s depth. text-tight look n (tights look n) kind s depth;
+  field = λ kind s depth. field-tights look n (tights look n) kind s depth;
+  spec = λ kind s depth. spec-tight look n (tights look n) kind s depth;
 }
 
 -- a string's or bytes' text
@@ -226,30 +226,30 @@ abbrev TightText : ℕ → List ℕ → ℕ → Read (List ℕ) → Type 0
 TightText t s i (got text j) = (j ≤ length s) × (length text + 2 * i ≤ t + 2 * j)
 TightText t s i (refused x) = Unit {0}
 
-string-tight : (n kind : ℕ) (s : List ℕ) (i : ℕ) (text : List ℕ) → i ≤ length s → TightText (length text) s i (stringN n kind s i text)
+string-tight : (look : Naming) → (n kind : ℕ) (s : List ℕ) (i : ℕ) (text : List ℕ) → i ≤ length s → TightText (length text) s i (stringN look n kind s i text)
 unfolding stringN
-string-tight zero kind s i text l = tt
-string-tight (suc n) kind s i text l = go (string-tight n kind s) (stringMove kind s i text) refl (string-ahead kind s i text)
+string-tight look zero kind s i text l = tt
+string-tight look (suc n) kind s i text l = go (string-tight look n kind s) (stringMove look kind s i text) refl (string-ahead look kind s i text)
   where
     on : (j : ℕ) (text′ : List ℕ) (r : Read (List ℕ)) → length text′ + 2 * i ≤ length text + 2 * j → TightText (length text′) s j r → TightText (length text) s i r
     on j text′ (got t k) h p = (p .0, omega arith)
     on j text′ (refused x) h p = tt
 
-    go : ((j : ℕ) (text′ : List ℕ) → j ≤ length s → TightText (length text′) s j (stringN n kind s j text′))
-        → (x : Move (List ℕ)) → stringMove kind s i text ≡ x → Ahead textSize (textSize text) ⊥ (length s ≤ i) s i x → TightText (length text) s i (stringN (suc n) kind s i text)
-    go ih (goes j text′) e h = rw (string-goes n kind s i text j text′ e) (on j text′ (stringN n kind s j text′) (omega arith) (ih j text′ (h .1)))
-    go ih (stops x) e h = rw (string-stops n kind s i text x e) tt
+    go : ((j : ℕ) (text′ : List ℕ) → j ≤ length s → TightText (length text′) s j (stringN look n kind s j text′))
+        → (x : Move (List ℕ)) → stringMove look kind s i text ≡ x → Ahead textSize (textSize text) ⊥ (length s ≤ i) s i x → TightText (length text) s i (stringN look (suc n) kind s i text)
+    go ih (goes j text′) e h = rw (string-goes look n kind s i text j text′ e) (on j text′ (stringN look n kind s j text′) (omega arith) (ih j text′ (h .1)))
+    go ih (stops x) e h = rw (string-stops look n kind s i text x e) tt
     go ih calls e h = absurd h
-    go ih ends e h = rw (string-ends n kind s i text e) (l, omega arith)
+    go ih ends e h = rw (string-ends look n kind s i text e) (l, omega arith)
 
 -- ONE BODY: at most a record for each byte and one more, at most two text bytes for each
 abbrev pub Fits : ℕ → Read (List Piece) → Type 0
 Fits n (got ps j) = (length ps ≤ n + 1) × (bytes ps ≤ 2 * n)
 Fits n (refused x) = Unit {0}
 
-pub body-fits : (kind : ℕ) (s : List ℕ) → Fits (length s) (readBody kind s)
+pub body-fits : (look : Naming) → (kind : ℕ) (s : List ℕ) → Fits (length s) (readBody look kind s)
 unfolding readBody alone
-body-fits kind s = go (isFString kind) refl
+body-fits look kind s = go (isFString kind) refl
   where
     one : (r : Read (List ℕ)) → TightText 0 s 0 r → Fits (length s) (alone r)
     one (got t j) p = (omega arith, omega arith)
@@ -259,6 +259,6 @@ body-fits kind s = go (isFString kind) refl
     more (got ps j) p = (omega arith, omega arith)
     more (refused x) p = tt
 
-    go : (t : Bool) → isFString kind ≡ t → Fits (length s) (readBody kind s)
-    go true e = rw (e, readBody) (more (textN (enough s) kind s 0 0 [] []) (tights (enough s) .text kind s 0 0 [] [] (omega arith)))
-    go false e = rw (e, readBody) (one (stringN (enough s) kind s 0 []) (string-tight (enough s) kind s 0 [] (omega arith)))
+    go : (t : Bool) → isFString kind ≡ t → Fits (length s) (readBody look kind s)
+    go true e = rw (e, readBody) (more (textN look (enough s) kind s 0 0 [] []) (tights look (enough s) .text kind s 0 0 [] [] (omega arith)))
+    go false e = rw (e, readBody) (one (stringN look (enough s) kind s 0 []) (string-tight look (enough s) kind s 0 [] (omega arith)))

@@ -12,6 +12,7 @@ use lib.Seq.{drop-append-add, drop-append-le, take-append-le, take-append-seam}
 use borrow.Author.Tests.{leb-true, leb-false, le-ltb}
 use Rattle.definition.specs.Numbers.{notSixes}
 use Rattle.definition.specs.Chars.{part}
+use Rattle.definition.specs.Escapes.{Naming}
 use Rattle.definition.specs.Records.{Record, wordsOf, Answer}
 use Rattle.definition.specs.Entry.{Literal, sixes, refusal}
 use Rattle.definition.specs.Reading.{Outcome, accepts, refuses, read, roomed, allWords, inFront, wordsAfter, textAfter, Call, called, readInto, readNumbers}
@@ -98,29 +99,29 @@ module _ (o : Outcome Answer) (words text : List ℕ) (x : Answer) where
   )
 
 -- of descriptors
-module _ (script : List ℕ) (ls : List Literal) (words text : List ℕ) (x : Answer) where
-  pub into-viewed : Viewed (readInto script ls words text) x
+module _ (look : Naming) (script : List ℕ) (ls : List Literal) (words text : List ℕ) (x : Answer) where
+  pub into-viewed : Viewed (readInto look script ls words text) x
   unfolding readInto
-  into-viewed = called-viewed (roomed (length words) (length text) (read script ls)) words text x
+  into-viewed = called-viewed (roomed (length words) (length text) (read look script ls)) words text x
 
-  pub into-texted : Texted (readInto script ls words text) x
+  pub into-texted : Texted (readInto look script ls words text) x
   unfolding readInto called
-  into-texted = called-texted (roomed (length words) (length text) (read script ls)) words text x (into-sane script ls words text)
+  into-texted = called-texted (roomed (length words) (length text) (read look script ls)) words text x (into-sane look script ls words text)
 
 -- of flat numbers
-module _ (script ns words text : List ℕ) (x : Answer) where
+module _ (look : Naming) (script ns words text : List ℕ) (x : Answer) where
   numbers-by : (P : Call → Answer → Type 0) → P (called (refuses (refusal notSixes 0 0 0 0)) words text) x
-      → ((ls : List Literal) → P (readInto script ls words text) x) → P (readNumbers script ns words text) x
+      → ((ls : List Literal) → P (readInto look script ls words text) x) → P (readNumbers look script ns words text) x
   unfolding readNumbers
   numbers-by P none-is some-is = go (sixes ns) refl
     where
-      go : (o : Option (List Literal)) → sixes ns ≡ o → P (readNumbers script ns words text) x
+      go : (o : Option (List Literal)) → sixes ns ≡ o → P (readNumbers look script ns words text) x
       go none e = rw (e, readNumbers) none-is
       go (some ls) e = rw (e, readNumbers) (some-is ls)
 
-  pub numbers-viewed : Viewed (readNumbers script ns words text) x
-  numbers-viewed = numbers-by Viewed (called-viewed (refuses (refusal notSixes 0 0 0 0)) words text x) (λ ls. into-viewed script ls words text x)
+  pub numbers-viewed : Viewed (readNumbers look script ns words text) x
+  numbers-viewed = numbers-by Viewed (called-viewed (refuses (refusal notSixes 0 0 0 0)) words text x) (λ ls. into-viewed look script ls words text x)
 
-  pub numbers-texted : Texted (readNumbers script ns words text) x
+  pub numbers-texted : Texted (readNumbers look script ns words text) x
   unfolding refusal
-  numbers-texted = numbers-by Texted (called-texted (refuses (refusal notSixes 0 0 0 0)) words text x tt) (λ ls. into-texted script ls words text x)
+  numbers-texted = numbers-by Texted (called-texted (refuses (refusal notSixes 0 0 0 0)) words text x tt) (λ ls. into-texted look script ls words text x)

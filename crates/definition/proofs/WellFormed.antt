@@ -11,6 +11,7 @@ use lib.Seq.{take-append-seam, drop-append-seam}
 use borrow.Author.Tests.{eqb-true, eq-eqb, le-leb}
 use Rattle.definition.specs.Numbers.{isFString, isBytes, isUnicode}
 use Rattle.definition.specs.Chars.{if_then_else_, part}
+use Rattle.definition.specs.Escapes.{Naming}
 use Rattle.definition.specs.Body.{Piece, literal, field, spec}
 use Rattle.definition.specs.Records.{Role, top, raw, inner, touching, covers, Item, item, itemOf, Record, wordsOf, glue, merge, bothItems, merged, texts, recordAt, laid, cover, Sort, plain, joined, bytesOnly, Answer, answerOf}
 use Rattle.definition.specs.Matched.{matched, blank}
@@ -237,9 +238,9 @@ no-bytes-with-f ls h k = go (anyOf isBytes ls) (anyOf notBytes ls) (some-f ls h)
     go true b e k = sym e ∙ k
     go false b e k = refl
 
-joined-items : (script : List ℕ) (ls : List Literal) (xs : List Item) → anyOf isBytes ls ≡ false → readFrom script 0 ls ≡ accepts xs → NoFour xs
-joined-items script ls xs h e =
-    all-hold NoFour tt four-append isBytes script (λ i l b. literal-holds NoFour tt four-append script i l (λ ps j r. four-pieces (l .kind) (l .start) (l .end) (placeOf l 0) ps b)) ls xs h e
+joined-items : (look : Naming) → (script : List ℕ) (ls : List Literal) (xs : List Item) → anyOf isBytes ls ≡ false → readFrom look script 0 ls ≡ accepts xs → NoFour xs
+joined-items look script ls xs h e =
+    all-hold look NoFour tt four-append isBytes script (λ i l b. literal-holds look NoFour tt four-append script i l (λ ps j r. four-pieces (l .kind) (l .start) (l .end) (placeOf l 0) ps b)) ls xs h e
 
 mark-bit : (ls : List Literal) → leb (uMark ls) 1 ≡ true
 unfolding uMark
@@ -274,9 +275,9 @@ laid-back q u s e c xs g words text =
     records = ap (λ n. recordsFrom n 0 (allWords rs ++ words)) (laid-length (cover s e u) 0 (merged xs)) ∙ g .back words
 
 -- AN ACCEPTANCE
-module _ (script : List ℕ) (ls : List Literal) (x : Answer) (e : read script ls ≡ accepts x) where
-  abbrev from : From script ls x
-  from = accepted script ls x e
+module _ (look : Naming) (script : List ℕ) (ls : List Literal) (x : Answer) (e : read look script ls ≡ accepts x) where
+  abbrev from : From look script ls x
+  from = accepted look script ls x e
 
   abbrev rs : List Record
   rs = map (cover (firstStart ls) (lastEnd 0 ls) (uMark ls)) (laid 0 (merged (from .items)))
@@ -284,7 +285,7 @@ module _ (script : List ℕ) (ls : List Literal) (x : Answer) (e : read script l
   good : Good (firstStart ls) (lastEnd 0 ls) (uMark ls) 0 false [] 0 0 (merged (from .items))
   good =
       laid-good (firstStart ls) (lastEnd 0 ls) (uMark ls) 0 false [] 0 0 (merged (from .items))
-      (run-merged false [] 0 0 (from .items) (items-run script ls (from .items) (passes script ls (from .passed) .well) (from .reads)))
+      (run-merged false [] 0 0 (from .items) (items-run look script ls (from .items) (passes script ls (from .passed) .well) (from .reads)))
 
   is-sort : x .sort ≡ sortOf ls
   unfolding answerOf
@@ -306,9 +307,9 @@ module _ (script : List ℕ) (ls : List Literal) (x : Answer) (e : read script l
       go true p b q =
           let none-is = no-bytes-with-f ls p (not-mixed ls (passes script ls (from .passed) .unmixed)) in
           ap₂ sorted (is-sort ∙ sort-table ls true b p q) is-records
-          ∙ no-bytes (firstStart ls) (lastEnd 0 ls) (uMark ls) 0 (merged (from .items)) (four-merged (from .items) (joined-items script ls (from .items) none-is (from .reads)))
-      go false p true q = ap (λ k. sorted k (x .records)) (is-sort ∙ sort-table ls false true p q) ∙ one-of 4 0 (length (x .text)) (x .start) (x .end) (x .uMark) 0 0 (x .records) (rw q at (one-record script ls x p e))
-      go false p false q = ap (λ k. sorted k (x .records)) (is-sort ∙ sort-table ls false false p q) ∙ one-of 1 0 (length (x .text)) (x .start) (x .end) (x .uMark) 0 0 (x .records) (rw q at (one-record script ls x p e))
+          ∙ no-bytes (firstStart ls) (lastEnd 0 ls) (uMark ls) 0 (merged (from .items)) (four-merged (from .items) (joined-items look script ls (from .items) none-is (from .reads)))
+      go false p true q = ap (λ k. sorted k (x .records)) (is-sort ∙ sort-table ls false true p q) ∙ one-of 4 0 (length (x .text)) (x .start) (x .end) (x .uMark) 0 0 (x .records) (rw q at (one-record look script ls x p e))
+      go false p false q = ap (λ k. sorted k (x .records)) (is-sort ∙ sort-table ls false false p q) ∙ one-of 1 0 (length (x .text)) (x .start) (x .end) (x .uMark) 0 0 (x .records) (rw q at (one-record look script ls x p e))
 
   -- every top-level literal and bytes record has the whole range and u mark
   pub all-cover : whole (x .start) (x .end) (x .uMark) (x .records) ≡ true
@@ -326,7 +327,7 @@ module _ (script : List ℕ) (ls : List Literal) (x : Answer) (e : read script l
       sort-fits
     where
       sane : Sane (accepts x)
-      sane = rw e at (read-sane script ls)
+      sane = rw e at (read-sane look script ls)
 
   -- it is well formed
   pub well-formed : recordsWellFormed x ≡ true

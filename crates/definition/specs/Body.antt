@@ -7,7 +7,7 @@ use lib.Dec.{ltb, leb, eqb}
 use lib.ListN.{length, drop, replicate}
 use Rattle.definition.specs.Numbers.{isFString, isBytes, isRaw, nonAsciiInBytes, unclosedLbrace, invalidConversionFlag, emptyExpression, mismatchedDelimiter, expressionNestedTooDeeply, singleRbrace, unmatched, unterminatedString, tooManyBrackets, afterBang, afterConversion, afterEquals, inField, lastBrace}
 use Rattle.definition.specs.Chars.{if_then_else_, _is_, part, atEnd, insideAny, code, next, char, whiteSpace, before}
-use Rattle.definition.specs.Escapes.{Fault, fault, detail, Read, got, refused, Meaning, escape, meant}
+use Rattle.definition.specs.Escapes.{Naming, Fault, fault, detail, Read, got, refused, Meaning, escape, meant}
 
 -- A field's signs: the bytes taken just after its first self-documenting `=`, its `!`, its `:` and its `}`; 0 for none
 pub record Signs : Type 0 where
@@ -44,21 +44,21 @@ stringCase kind s i =
     if code s i is "\\" && not (isRaw kind) then escapes else
     if isBytes kind && leb 0x80 (code s i) then foreign else plain
 
-unfoldable pub stringMove : ℕ → List ℕ → ℕ → List ℕ → Move (List ℕ)
-stringMove kind s i text =
+unfoldable pub stringMove : Naming → ℕ → List ℕ → ℕ → List ℕ → Move (List ℕ)
+stringMove look kind s i text =
     elim (stringCase kind s i) [
       | over ↦ ends
-      | escapes ↦ withEscape kind s i text (escape kind s (next s i))
+      | escapes ↦ withEscape kind s i text (escape look kind s (next s i))
       | foreign ↦ stops (fault nonAsciiInBytes (next s i))
       | plain ↦ goes (next s i) (text ++ char s i)
     ]
 
 -- n bounds the moves
-unfoldable pub stringN : ℕ → ℕ → List ℕ → ℕ → List ℕ → Read (List ℕ)
-stringN zero kind s i text = refused (fault 0 i)
-stringN (suc n) kind s i text =
-    elim (stringMove kind s i text) [
-      | goes j text′ ↦ stringN n kind s j text′
+unfoldable pub stringN : Naming → ℕ → ℕ → List ℕ → ℕ → List ℕ → Read (List ℕ)
+stringN look zero kind s i text = refused (fault 0 i)
+stringN look (suc n) kind s i text =
+    elim (stringMove look kind s i text) [
+      | goes j text′ ↦ stringN look n kind s j text′
       | stops x ↦ refused x
       | calls ↦ refused (fault 0 i)
       | ends ↦ got text i
@@ -88,8 +88,8 @@ textCase kind s depth i =
     if c is "\\" && not (isRaw kind) && not (c′ is "{}") then escapes else plain
 
 -- `text` is what was read since the last field
-unfoldable pub textMove : ℕ → List ℕ → ℕ → ℕ → List ℕ → Move (List ℕ)
-textMove kind s depth i text =
+unfoldable pub textMove : Naming → ℕ → List ℕ → ℕ → ℕ → List ℕ → Move (List ℕ)
+textMove look kind s depth i text =
     elim (textCase kind s depth i) [
       | deep ↦ stops (fault expressionNestedTooDeeply i)
       | over ↦ ends
@@ -97,7 +97,7 @@ textMove kind s depth i text =
       | last ↦ stops (detail unclosedLbrace (next s i) lastBrace)
       | doubled ↦ goes (next s (next s i)) (text ++ char s i)
       | lone ↦ stops (fault singleRbrace (next s i))
-      | escapes ↦ withEscape kind s i text (escape kind s (next s i))
+      | escapes ↦ withEscape kind s i text (escape look kind s (next s i))
       | plain ↦ goes (next s i) (text ++ char s i)
     ]
 
@@ -273,39 +273,40 @@ abbrev pub firstEnd : List ℕ → ℕ → ℕ
 firstEnd s i = i + plainRun (drop i s)
 
 -- TEXT, FIELD AND SPEC call for one another; n bounds the moves. `ps` is the text's pieces so far; a field began at `from`
-unfoldable mutual
-  pub textN : ℕ → ℕ → List ℕ → ℕ → ℕ → List ℕ → List Piece → Read (List Piece)
-  textN zero kind s depth i text ps = refused (fault 0 i)
-  textN (suc n) kind s depth i text ps =
-      elim (textMove kind s depth i text) [
-        | goes j text′ ↦ textN n kind s depth j text′ ps
-        | stops x ↦ refused x
-        | calls ↦ elim (fieldN n kind s depth (next s i) (next s i) fresh) [
-          | got qs j ↦ textN n kind s depth j [] (ps ++ filled depth text ++ qs)
-          | refused x ↦ refused x
+module _ (look : Naming) where
+  unfoldable mutual
+    pub textN : ℕ → ℕ → List ℕ → ℕ → ℕ → List ℕ → List Piece → Read (List Piece)
+    textN zero kind s depth i text ps = refused (fault 0 i)
+    textN (suc n) kind s depth i text ps =
+        elim (textMove look kind s depth i text) [
+          | goes j text′ ↦ textN n kind s depth j text′ ps
+          | stops x ↦ refused x
+          | calls ↦ elim (fieldN n kind s depth (next s i) (next s i) fresh) [
+            | got qs j ↦ textN n kind s depth j [] (ps ++ filled depth text ++ qs)
+            | refused x ↦ refused x
+          ]
+          | ends ↦ got (ps ++ filled depth text) i
         ]
-        | ends ↦ got (ps ++ filled depth text) i
-      ]
 
-  pub fieldN : ℕ → ℕ → List ℕ → ℕ → ℕ → ℕ → Field → Read (List Piece)
-  fieldN zero kind s depth from i f = refused (fault 0 i)
-  fieldN (suc n) kind s depth from i f =
-      elim (fieldMove s i f) [
-        | goes j f′ ↦ fieldN n kind s depth from j f′
-        | stops x ↦ refused x
-        | calls ↦ elim (specN n kind s depth (next s i)) [
-          | got ps j ↦ specified s depth from j (formatted (next s i) f) ps
-          | refused x ↦ refused x
+    pub fieldN : ℕ → ℕ → List ℕ → ℕ → ℕ → ℕ → Field → Read (List Piece)
+    fieldN zero kind s depth from i f = refused (fault 0 i)
+    fieldN (suc n) kind s depth from i f =
+        elim (fieldMove s i f) [
+          | goes j f′ ↦ fieldN n kind s depth from j f′
+          | stops x ↦ refused x
+          | calls ↦ elim (specN n kind s depth (next s i)) [
+            | got ps j ↦ specified s depth from j (formatted (next s i) f) ps
+            | refused x ↦ refused x
+          ]
+          | ends ↦ finished depth from (next s i) f none
         ]
-        | ends ↦ finished depth from (next s i) f none
-      ]
 
-  pub specN : ℕ → ℕ → List ℕ → ℕ → ℕ → Read (List Piece)
-  specN zero kind s depth i = refused (fault 0 i)
-  specN (suc n) kind s depth i =
-      let j = firstEnd s i in
-      let first = filled (suc depth) (part s i j) in
-      elim (code s j is "{") [ true ↦ textN n kind s (suc depth) j [] first | false ↦ got first j ]
+    pub specN : ℕ → ℕ → List ℕ → ℕ → ℕ → Read (List Piece)
+    specN zero kind s depth i = refused (fault 0 i)
+    specN (suc n) kind s depth i =
+        let j = firstEnd s i in
+        let first = filled (suc depth) (part s i j) in
+        elim (code s j is "{") [ true ↦ textN n kind s (suc depth) j [] first | false ↦ got first j ]
 
 -- moves enough for a body
 abbrev pub enough : List ℕ → ℕ
@@ -317,6 +318,6 @@ alone (got t j) = got (literal 0 t ∷ []) j
 alone (refused x) = refused x
 
 -- ONE LITERAL: the body s of a kind
-unfoldable pub readBody : ℕ → List ℕ → Read (List Piece)
-readBody kind s =
-    elim (isFString kind) [ true ↦ textN (enough s) kind s 0 0 [] [] | false ↦ alone (stringN (enough s) kind s 0 []) ]
+unfoldable pub readBody : Naming → ℕ → List ℕ → Read (List Piece)
+readBody look kind s =
+    elim (isFString kind) [ true ↦ textN look (enough s) kind s 0 0 [] [] | false ↦ alone (stringN look (enough s) kind s 0 []) ]

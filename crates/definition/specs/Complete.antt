@@ -7,6 +7,7 @@ use lib.Dec.{eqb}
 use lib.ListN.{length, take}
 use Rattle.definition.specs.Numbers.{isFString}
 use Rattle.definition.specs.Chars.{_is_, byte}
+use Rattle.definition.specs.Escapes.{Naming}
 use Rattle.definition.specs.Records.{Answer}
 use Rattle.definition.specs.Entry.{Literal}
 use Rattle.definition.specs.Reading.{accepts, read}
@@ -17,17 +18,17 @@ use Rattle.definition.specs.IsCut.{reachesEnd, IsCut, EachLiteral}
 use Rattle.definition.specs.Listing.{ListRow, ofField, sourceEnd}
 
 -- THE ROWS OF LITERALS in order: each f-string is accepted alone, and its rows have the fields of its answer, in record order; no other literal is read
-pub data Fielded (s : List ℕ) (within : ℕ) : List Literal → List ListRow → Type 0 where
-  none : Fielded s within [] []
-  other : {l : Literal} {ls : List Literal} {rows : List ListRow} → isFString (l .kind) ≡ false → Fielded s within ls rows → Fielded s within (l ∷ ls) rows
-  fstring : {l : Literal} {ls : List Literal} {rows : List ListRow} → (answer : Answer) → read s (l ∷ []) ≡ accepts answer
-      → map rowField (literalRows s l) ≡ recordFields (answer .records) → Fielded s within ls rows → Fielded s within (l ∷ ls) (map (ofField within) (literalRows s l) ++ rows)
+pub data Fielded (look : Naming) (s : List ℕ) (within : ℕ) : List Literal → List ListRow → Type 0 where
+  none : Fielded look s within [] []
+  other : {l : Literal} {ls : List Literal} {rows : List ListRow} → isFString (l .kind) ≡ false → Fielded look s within ls rows → Fielded look s within (l ∷ ls) rows
+  fstring : {l : Literal} {ls : List Literal} {rows : List ListRow} → (answer : Answer) → read look s (l ∷ []) ≡ accepts answer
+      → map rowField (literalRows look s l) ≡ recordFields (answer .records) → Fielded look s within ls rows → Fielded look s within (l ∷ ls) (map (ofField within) (literalRows look s l) ++ rows)
 
 -- A PART OF A SCRIPT from `from` up to `end` is cut to its end, and these are the rows of its literals
-pub record Covered (s : List ℕ) (within from end : ℕ) (rows : List ListRow) : Type 0 where
+pub record Covered (look : Naming) (s : List ℕ) (within from end : ℕ) (rows : List ListRow) : Type 0 where
   pub literals : List Literal
   pub isCut : IsCut (take end s) from literals reachesEnd
-  pub fielded : Fielded s within literals rows
+  pub fielded : Fielded look s within literals rows
 
 -- no byte from i up to j passes a test; none outside the literals
 abbrev pub NoneIn : (ℕ → Bool) → List ℕ → (i j : ℕ) → Type 0
@@ -72,17 +73,17 @@ pub data ReadOtherwise (s : List ℕ) (r : Row) (reached : ℕ) (literals : List
   inSpec : 1 ≤ r .signs .colon → opens s (r .start) ≡ 1 → r .signs .colon ≤ p → (byte s p is "\\") ≡ true → NoneIn (λ b. b is "{}\\") s (r .signs .colon) p → ReadOtherwise s r reached literals p
 
 -- THE ROWS OF SOURCES: of the field of each row in order, whose numbers follow i
-pub data Sources (s : List ℕ) : (i : ℕ) → List ListRow → List ListRow → Type 0 where
-  none : {i : ℕ} → Sources s i [] []
-  source : {i within : ℕ} {r : Row} {rs own rows : List ListRow} → (covered : Covered s (suc i) (r .place) (sourceEnd (r .signs)) own) → Likewise s r (covered .literals)
-      → Sources s (suc i) rs rows → Sources s i (ofField within r ∷ rs) (own ++ rows)
+pub data Sources (look : Naming) (s : List ℕ) : (i : ℕ) → List ListRow → List ListRow → Type 0 where
+  none : {i : ℕ} → Sources look s i [] []
+  source : {i within : ℕ} {r : Row} {rs own rows : List ListRow} → (covered : Covered look s (suc i) (r .place) (sourceEnd (r .signs)) own) → Likewise s r (covered .literals)
+      → Sources look s (suc i) rs rows → Sources look s i (ofField within r ∷ rs) (own ++ rows)
 
 -- COMPLETE: the rows are those of the script's literals and then those of the source of each field in the list, in order, and no others
-pub record Complete (s : List ℕ) (rows : List ListRow) : Type 0 where
+pub record Complete (look : Naming) (s : List ℕ) (rows : List ListRow) : Type 0 where
   pub own : List ListRow
   pub later : List ListRow
-  pub script : Covered s 0 0 (length s) own
-  pub sources : Sources s 0 rows later
+  pub script : Covered look s 0 0 (length s) own
+  pub sources : Sources look s 0 rows later
   pub exact : rows ≡ own ++ later
 
 -- A FIELD'S PLACES are just after its `{`, `=`, `!`, `:` and `}` in the script, and its conversion is what its reason says

@@ -93,20 +93,28 @@ unfoldable pub lookup : List (String × ℕ) → List ℕ → ℕ
 lookup [] t = noCode
 lookup (h ∷ hs) t = elim (same (ascii (h .0)) t) [ true ↦ h .1 | false ↦ lookup hs t ]
 
--- the name of m bytes, from i on: at most 88 bytes long, and held
-unfoldable pub named : List ℕ → ℕ → ℕ → Read Meaning
-named s i m =
-    let c = lookup held (part s i (i + m)) in
+-- A LOOKUP: the code of each name; no code for what is none
+abbrev pub Naming : Type 0
+Naming = List ℕ → ℕ
+
+-- that of a reading to which no file of names is lent
+abbrev pub heldNames : Naming
+heldNames = lookup held
+
+-- the name of m bytes, from i on: at most 88 bytes long, and one that the lookup has
+unfoldable pub named : Naming → List ℕ → ℕ → ℕ → Read Meaning
+named look s i m =
+    let c = look (part s i (i + m)) in
     if ltb 88 m then refused (fault unicodeError (i + m + 1)) else
     if eqb c noCode then refused (fault nameNotHeld i) else got (stands c) (i + m + 1)
 
 -- after \N, at i: a name in braces
-unfoldable pub unicodeName : List ℕ → ℕ → Read Meaning
-unicodeName s i =
+unfoldable pub unicodeName : Naming → List ℕ → ℕ → Read Meaning
+unicodeName look s i =
     let inner = next s i in
     let m = before (λ b. b is "}") (drop inner s) in
     if not (code s i is "{") then refused (fault stringError i) else
-    if atEnd s (inner + m) then refused (fault stringError (length s)) else named s inner m
+    if atEnd s (inner + m) then refused (fault stringError (length s)) else named look s inner m
 
 -- What the character after a backslash asks for
 pub data EscapeCase : Type 0 where
@@ -142,15 +150,15 @@ escapeCase kind s i =
     if leb 0x80 c && isBytes kind then foreign else other
 
 -- the escape whose backslash was just taken, at i
-unfoldable pub escape : ℕ → List ℕ → ℕ → Read Meaning
-escape kind s i =
+unfoldable pub escape : Naming → ℕ → List ℕ → ℕ → Read Meaning
+escape look kind s i =
     let after = next s i in
     elim (escapeCase kind s i) [
       | ended ↦ refused (fault stringError i)
       | simple c ↦ got (stands c) after
       | octal ↦ octalFrom 2 (octalDigit (code s i)) s after
       | hex n ↦ hexFrom n 0 s after after
-      | name ↦ unicodeName s after
+      | name ↦ unicodeName look s after
       | newline ↦ got vanishes after
       | foreign ↦ refused (fault nonAsciiInBytes after)
       | other ↦ got stays after

@@ -22,3 +22,4 @@ pub mod Listing
 pub mod Complete
 pub mod Names
 pub mod IsIndex
+pub mod NamedReading

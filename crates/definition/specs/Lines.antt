@@ -7,6 +7,7 @@ use lib.Dec.{ltb, eqb}
 use lib.ListN.{length}
 use Rattle.definition.specs.Numbers.{bodiesTooLong}
 use Rattle.definition.specs.Chars.{if_then_else_, ascii, _is_, part}
+use Rattle.definition.specs.Escapes.{heldNames}
 use Rattle.definition.specs.Records.{Record, Answer}
 use Rattle.definition.specs.Entry.{Literal, refusal}
 use Rattle.definition.specs.Reading.{Outcome, accepts, refuses, read}
@@ -82,4 +83,4 @@ oneLiteral size = record { kind = 1; triple = 0; offset = 0; size = size; start 
 -- A BODY'S LINES: more than 1,024 bytes are refused as 5
 unfoldable pub bodyLines : List ℕ → List ℕ
 bodyLines s =
-    if ltb 1024 (length s) then refusalLine bodiesTooLong 0 0 0 else outcomeLines (read s (oneLiteral (length s) ∷ []))
+    if ltb 1024 (length s) then refusalLine bodiesTooLong 0 0 0 else outcomeLines (read heldNames s (oneLiteral (length s) ∷ []))

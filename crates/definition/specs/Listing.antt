@@ -6,6 +6,7 @@ use lib.Dec.{ltb, leb, eqb}
 use lib.ListN.{length}
 use Rattle.definition.specs.Numbers.{isFString, scriptTooLong, tooLittleListRoom, readOtherwise}
 use Rattle.definition.specs.Chars.{if_then_else_, _is_, byte}
+use Rattle.definition.specs.Escapes.{Naming}
 use Rattle.definition.specs.Body.{Signs}
 use Rattle.definition.specs.Entry.{Literal}
 use Rattle.definition.specs.Reading.{accepts, refuses, read, inFront, zeros}
@@ -30,19 +31,19 @@ tens [] = []
 tens (r ∷ rs) = tenOf r ++ tens rs
 
 -- THE ROWS OF A LITERAL, read alone: its fields, or its one refusal. Only f-strings are read
-unfoldable pub readRows : List ℕ → (within : ℕ) → Literal → List ListRow
-readRows s within l =
+unfoldable pub readRows : Naming → List ℕ → (within : ℕ) → Literal → List ListRow
+readRows look s within l =
     elim (isFString (l .kind)) [
-      | true ↦ elim (read s (l ∷ [])) [
-        | accepts x ↦ map (ofField within) (literalRows s l)
+      | true ↦ elim (read look s (l ∷ [])) [
+        | accepts x ↦ map (ofField within) (literalRows look s l)
         | refuses r ↦ ofRefusal within (l .start) (r .place) (r .number) (r .a) (r .b) (r .opened) ∷ []
       ]
       | false ↦ []
     ]
 
-unfoldable pub allRead : List ℕ → (within : ℕ) → List Literal → List ListRow
-allRead s within [] = []
-allRead s within (l ∷ ls) = readRows s within l ++ allRead s within ls
+unfoldable pub allRead : Naming → List ℕ → (within : ℕ) → List Literal → List ListRow
+allRead look s within [] = []
+allRead look s within (l ∷ ls) = readRows look s within l ++ allRead look s within ls
 
 -- of a 50 or 51, where the literal starts
 unfoldable pub brokenRow : (within : ℕ) → Ending → List ListRow
@@ -50,8 +51,8 @@ brokenRow within reachesEnd = []
 brokenRow within (breaksOff number place) = ofRefusal within place place number 0 0 0 ∷ []
 
 -- THE ROWS OF A CUT of a part of the script s
-unfoldable pub cutRows : List ℕ → (within : ℕ) → Cut → List ListRow
-cutRows s within c = allRead s within (c .literals) ++ brokenRow within (c .ending)
+unfoldable pub cutRows : Naming → List ℕ → (within : ℕ) → Cut → List ListRow
+cutRows look s within c = allRead look s within (c .literals) ++ brokenRow within (c .ending)
 
 -- A FIELD'S SOURCE goes from its place up to its first `!`, `:` or `}`
 unfoldable pub sourceEnd : Signs → ℕ
@@ -108,23 +109,23 @@ otherwiseRow s within r c =
     if ltb place (length s) then ofRefusal within (r .start) place readOtherwise 0 0 0 ∷ [] else []
 
 -- THE ROWS OF A ROW'S SOURCE; i is its number
-unfoldable pub sourceRows : List ℕ → (i : ℕ) → ListRow → List ListRow
-sourceRows s i (ofField within r) = let c = cutPart s (r .place) (sourceEnd (r .signs)) in otherwiseRow s i r c ++ cutRows s i c
-sourceRows s i (ofRefusal within start place number a b opened) = []
+unfoldable pub sourceRows : Naming → List ℕ → (i : ℕ) → ListRow → List ListRow
+sourceRows look s i (ofField within r) = let c = cutPart s (r .place) (sourceEnd (r .signs)) in otherwiseRow s i r c ++ cutRows look s i c
+sourceRows look s i (ofRefusal within start place number a b opened) = []
 
 -- of rows in order, whose numbers follow i
-unfoldable pub below : List ℕ → (i : ℕ) → List ListRow → List ListRow
-below s i [] = []
-below s i (r ∷ rs) = sourceRows s (suc i) r ++ below s (suc i) rs
+unfoldable pub below : Naming → List ℕ → (i : ℕ) → List ListRow → List ListRow
+below look s i [] = []
+below look s i (r ∷ rs) = sourceRows look s (suc i) r ++ below look s (suc i) rs
 
 -- a level, whose numbers follow i, and those below it; n bounds the levels
-unfoldable pub levelsN : ℕ → List ℕ → (i : ℕ) → List ListRow → List ListRow
-levelsN zero s i level = []
-levelsN (suc n) s i level = level ++ levelsN n s (i + length level) (below s i level)
+unfoldable pub levelsN : Naming → ℕ → List ℕ → (i : ℕ) → List ListRow → List ListRow
+levelsN look zero s i level = []
+levelsN look (suc n) s i level = level ++ levelsN look n s (i + length level) (below look s i level)
 
 -- EVERY ROW OF A SCRIPT
-unfoldable pub rowsOf : List ℕ → List ListRow
-rowsOf s = levelsN (suc (length s)) s 0 (cutRows s 0 (cut s))
+unfoldable pub rowsOf : Naming → List ℕ → List ListRow
+rowsOf look s = levelsN look (suc (length s)) s 0 (cutRows look s 0 (cut s))
 
 -- how many of some rows are refusals
 unfoldable pub refusalsIn : List ListRow → ℕ
@@ -132,20 +133,22 @@ refusalsIn [] = 0
 refusalsIn (ofField within r ∷ rs) = refusalsIn rs
 refusalsIn (ofRefusal within start place number a b opened ∷ rs) = suc (refusalsIn rs)
 
--- A list: its rows, the literals of the script, and how far it was cut; or that the script is too long, or how many rows a buffer does not hold
+-- A list: its rows, the literals of the script, and how far it was cut; or that the script is too long, the number of what is wrong with a lent file
+-- of names or its index, or how many rows a buffer does not hold
 pub data Fields : Type 0 where
   fields : (rows : List ListRow) (literals cutTo : ℕ) → Fields
   tooLong : Fields
+  wrongNames : (number : ℕ) → Fields
   short : (needed : ℕ) → Fields
 
 -- in a buffer of so many numbers: ten for a row
-unfoldable pub fieldsOf : (script : List ℕ) (room : ℕ) → Fields
-fieldsOf s room =
+unfoldable pub fieldsOf : Naming → (script : List ℕ) (room : ℕ) → Fields
+fieldsOf look s room =
     elim (ltb 1048576 (length s)) [
       | true ↦ tooLong
-      | false ↦ elim (ltb (room / 10) (length (rowsOf s))) [
-        | true ↦ short (length (rowsOf s))
-        | false ↦ fields (rowsOf s) (length (cut s .literals)) (reached (length s) (cut s .ending))
+      | false ↦ elim (ltb (room / 10) (length (rowsOf look s))) [
+        | true ↦ short (length (rowsOf look s))
+        | false ↦ fields (rowsOf look s) (length (cut s .literals)) (reached (length s) (cut s .ending))
       ]
     ]
 
@@ -153,6 +156,7 @@ fieldsOf s room =
 unfoldable pub fieldsAfter : Fields → List ℕ → List ℕ
 fieldsAfter (fields rows literals cutTo) buffer = inFront (tens rows) buffer
 fieldsAfter tooLong buffer = zeros buffer
+fieldsAfter (wrongNames n) buffer = zeros buffer
 fieldsAfter (short n) buffer = zeros buffer
 
 -- WHAT A CALL RETURNS AND LEAVES
@@ -163,11 +167,12 @@ pub record FieldsCall : Type 0 where
 unfoldable pub fieldsCall : Fields → List ℕ → FieldsCall
 fieldsCall x buffer = record { listed = x; rows = fieldsAfter x buffer }
 
-unfoldable pub fieldsInto : (script buffer : List ℕ) → FieldsCall
-fieldsInto s buffer = fieldsCall (fieldsOf s (length buffer)) buffer
+unfoldable pub fieldsInto : Naming → (script buffer : List ℕ) → FieldsCall
+fieldsInto look s buffer = fieldsCall (fieldsOf look s (length buffer)) buffer
 
 -- The numbers of RULES 9.6: 0 first for a list, and with 53 at 9 how many rows there are
 unfoldable pub fieldsNumbers : Fields → List ℕ
 fieldsNumbers (fields rows literals cutTo) = 0 ∷ length rows ∷ refusalsIn rows ∷ literals ∷ cutTo ∷ []
 fieldsNumbers tooLong = scriptTooLong ∷ []
+fieldsNumbers (wrongNames n) = n ∷ []
 fieldsNumbers (short n) = tooLittleListRoom ∷ 0 ∷ 0 ∷ 0 ∷ 0 ∷ 0 ∷ 0 ∷ 0 ∷ 0 ∷ n ∷ []

@@ -7,7 +7,7 @@ use lib.ListN.{length, take, drop, replicate}
 use Rattle.definition.specs.Numbers.{isFString, isBytes, isUnicode, mismatchedDelimiter, notSixes, tooFewRecordPlaces, tooLittleTextRoom}
 use Rattle.definition.specs.Chars.{if_then_else_}
 use Rattle.definition.specs.Counts.{counted}
-use Rattle.definition.specs.Escapes.{Fault, got, refused}
+use Rattle.definition.specs.Escapes.{Naming, Fault, got, refused}
 use Rattle.definition.specs.Body.{readBody}
 use Rattle.definition.specs.Records.{Item, itemOf, Record, wordsOf, Sort, plain, joined, bytesOnly, Answer, answerOf}
 use Rattle.definition.specs.Entry.{Literal, sixes, placeOf, body, Refusal, refusal, moved, anyOf, firstStart, entry}
@@ -43,9 +43,9 @@ refusalIn script i l x =
     }
 
 -- one literal, number i of the list
-unfoldable pub readLiteral : List ℕ → ℕ → Literal → Outcome (List Item)
-readLiteral script i l =
-    elim (readBody (l .kind) (body script l)) [
+unfoldable pub readLiteral : Naming → List ℕ → ℕ → Literal → Outcome (List Item)
+readLiteral look script i l =
+    elim (readBody look (l .kind) (body script l)) [
       | got ps j ↦ accepts (map (itemOf (l .kind) (l .start) (l .end) (placeOf l 0)) ps)
       | refused x ↦ refuses (refusalIn script i l x)
     ]
@@ -57,9 +57,9 @@ andThen (accepts xs) (refuses r) = refuses r
 andThen (accepts xs) (accepts ys) = accepts (xs ++ ys)
 
 -- all literals from number i on, in order: the first refusal wins
-unfoldable pub readFrom : List ℕ → ℕ → List Literal → Outcome (List Item)
-readFrom script i [] = accepts []
-readFrom script i (l ∷ ls) = andThen (readLiteral script i l) (readFrom script (suc i) ls)
+unfoldable pub readFrom : Naming → List ℕ → ℕ → List Literal → Outcome (List Item)
+readFrom look script i [] = accepts []
+readFrom look script i (l ∷ ls) = andThen (readLiteral look script i l) (readFrom look script (suc i) ls)
 
 unfoldable pub sortOf : List Literal → Sort
 sortOf ls = if anyOf isFString ls then joined else if anyOf isBytes ls then bytesOnly else plain
@@ -80,8 +80,8 @@ answered script ls (accepts xs) = accepts (answerOf (sortOf ls) (uMark ls) (firs
 answered script ls (refuses r) = refuses (moved (r .literal) (allChars script (take (r .literal) ls) + r .chars) r)
 
 -- A WHOLE LIST, with room for anything
-unfoldable pub read : List ℕ → List Literal → Outcome Answer
-read script ls = elim (entry script ls) [ some r ↦ refuses r | none ↦ answered script ls (readFrom script 0 ls) ]
+unfoldable pub read : Naming → List ℕ → List Literal → Outcome Answer
+read look script ls = elim (entry script ls) [ some r ↦ refuses r | none ↦ answered script ls (readFrom look script 0 ls) ]
 
 -- x, unless a check refuses
 unfoldable pub outcomeOf : {A : Type 0} → A → Option Refusal → Outcome A
@@ -134,13 +134,13 @@ unfoldable pub called : Outcome Answer → List ℕ → List ℕ → Call
 called o words text = record { outcome = o; words = wordsAfter o words; text = textAfter o text }
 
 -- the entry over descriptors, with both buffers lent
-unfoldable pub readInto : List ℕ → List Literal → List ℕ → List ℕ → Call
-readInto script ls words text = called (roomed (length words) (length text) (read script ls)) words text
+unfoldable pub readInto : Naming → List ℕ → List Literal → List ℕ → List ℕ → Call
+readInto look script ls words text = called (roomed (length words) (length text) (read look script ls)) words text
 
 -- the entry over flat numbers
-unfoldable pub readNumbers : List ℕ → List ℕ → List ℕ → List ℕ → Call
-readNumbers script ns words text =
-    elim (sixes ns) [ none ↦ called (refuses (refusal notSixes 0 0 0 0)) words text | some ls ↦ readInto script ls words text ]
+unfoldable pub readNumbers : Naming → List ℕ → List ℕ → List ℕ → List ℕ → Call
+readNumbers look script ns words text =
+    elim (sixes ns) [ none ↦ called (refuses (refusal notSixes 0 0 0 0)) words text | some ls ↦ readInto look script ls words text ]
 
 -- The numbers of RULES 5.1 and 5.6: of a sort; of an outcome, 0 first for an acceptance
 unfoldable pub sortNumber : Sort → ℕ

@@ -7,7 +7,7 @@ use lib.Dec.{eqb}
 use lib.ListN.{length}
 use Rattle.definition.specs.Numbers.{notSixes}
 use Rattle.definition.specs.Chars.{if_then_else_}
-use Rattle.definition.specs.Escapes.{Read, got, refused}
+use Rattle.definition.specs.Escapes.{Naming, Read, got, refused}
 use Rattle.definition.specs.Body.{Signs, signs, Piece, literal, field, spec, readBody}
 use Rattle.definition.specs.Records.{Record, Answer}
 use Rattle.definition.specs.Entry.{Literal, sixes, placeOf, body, refusal}
@@ -58,12 +58,12 @@ piecesOf (got ps j) = ps
 piecesOf (refused x) = []
 
 -- THE ROWS OF A LITERAL, and of several in order
-unfoldable pub literalRows : (script : List ℕ) → Literal → List Row
-literalRows script l = fieldRows (l .start) (placeOf l 0) (piecesOf (readBody (l .kind) (body script l)))
+unfoldable pub literalRows : Naming → (script : List ℕ) → Literal → List Row
+literalRows look script l = fieldRows (l .start) (placeOf l 0) (piecesOf (readBody look (l .kind) (body script l)))
 
-unfoldable pub allRows : (script : List ℕ) → List Literal → List Row
-allRows script [] = []
-allRows script (l ∷ ls) = literalRows script l ++ allRows script ls
+unfoldable pub allRows : Naming → (script : List ℕ) → List Literal → List Row
+allRows look script [] = []
+allRows look script (l ∷ ls) = literalRows look script l ++ allRows look script ls
 
 -- the numbers of rows whose literals stand in the same source, in order
 unfoldable pub allNumbers : (within : ℕ) → List Row → List ℕ
@@ -98,13 +98,13 @@ unfoldable pub calledRows : Outcome Rowed → List ℕ → SignsCall
 calledRows o buffer = record { outcome = o; rows = rowsAfter o buffer }
 
 -- over descriptors
-unfoldable pub signsInto : (script : List ℕ) → List Literal → (buffer : List ℕ) → SignsCall
-signsInto script ls buffer = calledRows (roomedRows (length buffer) (rowed (allRows script ls) (read script ls))) buffer
+unfoldable pub signsInto : Naming → (script : List ℕ) → List Literal → (buffer : List ℕ) → SignsCall
+signsInto look script ls buffer = calledRows (roomedRows (length buffer) (rowed (allRows look script ls) (read look script ls))) buffer
 
 -- over flat numbers
-unfoldable pub signsNumbers : (script ns buffer : List ℕ) → SignsCall
-signsNumbers script ns buffer =
-    elim (sixes ns) [ none ↦ calledRows (refuses (refusal notSixes 0 0 0 0)) buffer | some ls ↦ signsInto script ls buffer ]
+unfoldable pub signsNumbers : Naming → (script ns buffer : List ℕ) → SignsCall
+signsNumbers look script ns buffer =
+    elim (sixes ns) [ none ↦ calledRows (refuses (refusal notSixes 0 0 0 0)) buffer | some ls ↦ signsInto look script ls buffer ]
 
 -- The numbers of RULES 7.4: an acceptance has the rows in place of the records, and no text
 unfoldable pub rowedNumbers : Outcome Rowed → List ℕ

@@ -6,6 +6,7 @@ use lib.Dec.{ltb, eqb}
 use lib.ListN.{length}
 use Rattle.definition.specs.Numbers.{bodiesTooLong}
 use Rattle.definition.specs.Chars.{if_then_else_, ascii, part}
+use Rattle.definition.specs.Escapes.{heldNames}
 use Rattle.definition.specs.Records.{Record}
 use Rattle.definition.specs.Reading.{Outcome, accepts, refuses, read}
 use Rattle.definition.specs.Rows.{reason, Row, allRows, Rowed, rowed}
@@ -50,4 +51,4 @@ outcomeWhy (refuses r) = refusalLine (r .number) (r .place) (r .a) (r .b)
 unfoldable pub bodyWhy : List ℕ → List ℕ
 bodyWhy s =
     if ltb 1024 (length s) then refusalLine bodiesTooLong 0 0 0 else
-    let one = oneLiteral (length s) ∷ [] in outcomeWhy (rowed (allRows s one) (read s one))
+    let one = oneLiteral (length s) ∷ [] in outcomeWhy (rowed (allRows heldNames s one) (read heldNames s one))

@@ -10,6 +10,7 @@ use borrow.Author.Tests.{lt-ltb}
 use lib.ListN.{length, getD, take, length-map}
 use lib.Seq.{take-suc, take-length, take-append-le, length-take-le}
 use Rattle.definition.specs.Numbers.{tooManyLiterals}
+use Rattle.definition.specs.Escapes.{heldNames}
 use Rattle.definition.specs.Entry.{Literal, sixes, oneMore, refusal, notEmpty, notMany, firstOf, entry}
 use Rattle.definition.specs.Reading.{read, readInto, readNumbers}
 use Rattle.buffers.specs.Over.{over}
@@ -51,12 +52,12 @@ counted ds = min (length ds) 1025
 
 module _ (script : List ℕ) (ds : List Descriptor) (words text : List ℕ) where
   -- THE TWO ENTRIES AGREE: over the numbers of descriptors, and over the descriptors
-  pub agrees : readNumbers script (flattened ds) words text ≡ readInto script (map described ds) words text
+  pub agrees : readNumbers heldNames script (flattened ds) words text ≡ readInto heldNames script (map described ds) words text
   unfolding readNumbers
   agrees = rw (sixes-flattened ds, readNumbers)
 
   -- the descriptors that are copied are read as all are
-  first-enough : readInto script (map described (take (counted ds) ds)) words text ≡ readInto script (map described ds) words text
+  first-enough : readInto heldNames script (map described (take (counted ds) ds)) words text ≡ readInto heldNames script (map described ds) words text
   unfolding read readInto
   first-enough =
       min-cases (length ds) 1025 _ (λ h e. rw (e, take-length ds))
@@ -83,7 +84,7 @@ module _ (z : List ℕ) (ds : List Descriptor) where
       rw (e, over-append z 0, add-one i, take-suc ds i d h, flattened-append, flattened-one)
 
   -- once all that are counted are copied, their numbers are read as all descriptors are
-  pub read-copied : (script words text : List ℕ) → length z ≡ 6150 → readNumbers script (take (counted ds * 6) (copied z ds (counted ds))) words text ≡ readInto script (map described ds) words text
+  pub read-copied : (script words text : List ℕ) → length z ≡ 6150 → readNumbers heldNames script (take (counted ds * 6) (copied z ds (counted ds))) words text ≡ readInto heldNames script (map described ds) words text
   read-copied script words text h =
       let xs = flattened (take (counted ds) ds) in
       let e = length-first (counted ds) (min-le-left (length ds) 1025) in

@@ -6,6 +6,7 @@ ghost use mathlib.Core.Path.{_≡_};
 ghost use mathlib.Core.List.{map};
 ghost use Prim.Native.Nat.{_*_, _<_, _≤_, min};
 ghost use lib.ListN.{take};
+ghost use Rattle.definition.specs.Escapes.{heldNames};
 ghost use Rattle.definition.specs.Reading.{readInto, readNumbers};
 ghost use Rattle.buffers.specs.Over.{over};
 ghost use Rattle.entry.specs.Answers.{described};
@@ -47,7 +48,7 @@ fn read_first(
     text: &mut [u8],
 ) -> Outcome
     requires { ⌜ count ≤ 1025 ⌝ }
-    ensures { λ r. ⌜ CallIs (readNumbers (now (script .entry)) (take (count * 6) (now (numbers .entry))) (now (words .entry)) (now (text .entry))) (now (words .exit)) (now (text .exit)) r ⌝ }
+    ensures { λ r. ⌜ CallIs (readNumbers heldNames (now (script .entry)) (take (count * 6) (now (numbers .entry))) (now (words .entry)) (now (text .entry))) (now (words .exit)) (now (text .exit)) r ⌝ }
 {
     let end = count * 6;
     let all: &[u32] = numbers;
@@ -61,7 +62,7 @@ pub fn parse_descriptors(
     words: &mut [u32],
     text: &mut [u8],
 ) -> Outcome
-    ensures { λ r. ⌜ CallIs (readInto (now (script .entry)) (map described (now (descriptors .entry))) (now (words .entry)) (now (text .entry))) (now (words .exit)) (now (text .exit)) r ⌝ }
+    ensures { λ r. ⌜ CallIs (readInto heldNames (now (script .entry)) (map described (now (descriptors .entry))) (now (words .entry)) (now (text .entry))) (now (words .exit)) (now (text .exit)) r ⌝ }
 {
     let count = taken(descriptors.len());
     let mut numbers = zeros();

@@ -12,6 +12,7 @@ use lib.Dec.{ltb, eqb}
 use lib.ListN.{length, length-take, length-drop}
 use Rattle.definition.specs.Numbers.{notSixes, badDescriptor, tooManyLiterals, bodiesTooLong, notUtf8}
 use Rattle.definition.specs.Chars.{if_then_else_, wellFormed}
+use Rattle.definition.specs.Escapes.{Naming}
 use Rattle.definition.specs.Entry.{Literal, sixes, opening, placeOf, body, Refusal, refusal, notEmpty, notMany, firstBad, bad, allGood, total, notLong, formed, illFormed, allUtf8, notMixed, firstOf, entry}
 use Rattle.definition.specs.Reading.{accepts, refuses, allChars, andThen, readLiteral, readFrom, answered, read, roomed, called, readInto, readNumbers}
 use Rattle.definition.proofs.CharLaws.{cases}
@@ -147,26 +148,27 @@ module _ (script ns : List ℕ) where
       (entered (length ns / 6) six (passes _ _ _ h), passes-all _ _ _ h))
       (λ t. clash (let y = e ∙ checked-not-sixes script ns (eqb-false _ _ t) in cc))
 
+module _ (look : Naming) (script ns : List ℕ) where
   -- what a call gives then: the refusal, or the literals' reading
   module _ (words text : List ℕ) where
-    pub refused-reads : (r : Refusal) → refuses r ≡ checkNumbers script ns → readNumbers script ns words text ≡ called (refuses r) words text
+    pub refused-reads : (r : Refusal) → refuses r ≡ checkNumbers script ns → readNumbers look script ns words text ≡ called (refuses r) words text
     unfolding checkNumbers readNumbers readInto read roomed
     refused-reads r e = go (sixes ns) refl
       where
-        go : (o : Option (List Literal)) → sixes ns ≡ o → readNumbers script ns words text ≡ called (refuses r) words text
+        go : (o : Option (List Literal)) → sixes ns ≡ o → readNumbers look script ns words text ≡ called (refuses r) words text
         go none q = let h : r ≡ refusal notSixes 0 0 0 0 = (let y = rw (q, checkNumbers) at e in cc) in rw (q, readNumbers, h)
         go (some ls) q = rw (q, readNumbers, readInto, refused _ r _ (rw (q, checkNumbers) at e), read, roomed)
 
-    pub passed-reads : (n : ℕ) → Passed script ns n → let ls = literals ns 0 n in readNumbers script ns words text ≡ called (roomed (length words) (length text) (answered script ls (readFrom script 0 ls))) words text
+    pub passed-reads : (n : ℕ) → Passed script ns n → let ls = literals ns 0 n in readNumbers look script ns words text ≡ called (roomed (length words) (length text) (answered script ls (readFrom look script 0 ls))) words text
     unfolding readNumbers readInto read
     passed-reads n p = rw (p .listed, readNumbers, p .enters, read)
 
   -- literal by literal
   module _ (n i : ℕ) where
-    pub read-turn : i < n → readFrom script i (literals ns i (n - i)) ≡ andThen (readLiteral script i (literalAt ns i)) (readFrom script (i + 1) (literals ns (i + 1) (n - (i + 1))))
+    pub read-turn : i < n → readFrom look script i (literals ns i (n - i)) ≡ andThen (readLiteral look script i (literalAt ns i)) (readFrom look script (i + 1) (literals ns (i + 1) (n - (i + 1))))
     unfolding readFrom
     read-turn h = rw (one-left ns n i h, add-one i)
 
-    pub read-end : n ≤ i → readFrom script i (literals ns i (n - i)) ≡ accepts []
+    pub read-end : n ≤ i → readFrom look script i (literals ns i (n - i)) ≡ accepts []
     unfolding readFrom
     read-end h = rw (none-left ns n i h)

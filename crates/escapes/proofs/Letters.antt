@@ -9,7 +9,7 @@ use borrow.Author.Tests.{lt-leb, ne-eqb}
 use lib.Dec.{T, leb, eqb, lit≤}
 use Rattle.definition.specs.Numbers.{isBytes, nonAsciiInBytes}
 use Rattle.definition.specs.Chars.{if_then_else_, ascii, _is_}
-use Rattle.definition.specs.Escapes.{fault, got, refused, stays, octalDigit, octalFrom, octal, foreign, other, escapeCase, escape}
+use Rattle.definition.specs.Escapes.{Naming, fault, got, refused, stays, octalDigit, octalFrom, octal, foreign, other, escapeCase, escape}
 use Rattle.utf8.specs.declared.Cursor.{Cursor}
 use Rattle.definition.proofs.CharLaws.{inside-yes}
 use Rattle.utf8.proofs.Steps.{Stepped}
@@ -64,7 +64,7 @@ abbrev pub keys : List ℕ
 keys = 10 ∷ 78 ∷ 85 ∷ 117 ∷ 120 ∷ 118 ∷ 116 ∷ 114 ∷ 110 ∷ 102 ∷ 98 ∷ 97 ∷ 34 ∷ 39 ∷ 92 ∷ []
 
 -- the escape of the character c, with k after it
-module _ (kind : ℕ) (s : List ℕ) (i c : ℕ) (k : Cursor) (t : Stepped s i c k) where
+module _ (look : Naming) (kind : ℕ) (s : List ℕ) (i c : ℕ) (k : Cursor) (t : Stepped s i c k) where
   octal-case : 48 ≤ c → c ≤ 55 → escapeCase kind s i ≡ octal
   unfolding escapeCase
   octal-case l h =
@@ -108,11 +108,11 @@ module _ (kind : ℕ) (s : List ℕ) (i c : ℕ) (k : Cursor) (t : Stepped s i c
         ne-eqb c 10 q,
       )
 
-  pub octal-escape : 48 ≤ c → c ≤ 55 → escape kind s i ≡ octalFrom 2 (c - 48) s (k .at)
+  pub octal-escape : 48 ≤ c → c ≤ 55 → escape look kind s i ≡ octalFrom 2 (c - 48) s (k .at)
   unfolding escape octalDigit
   octal-escape l h = rw (octal-case l h, escape) (rw (t .code-is, t .next-is, inside-yes 48 55 c l h))
 
-  pub other-escape : Not c keys → NoDigit c → (b : Bool) → (leb 0x80 c && isBytes kind) ≡ b → escape kind s i ≡ (if b then refused (fault nonAsciiInBytes (k .at)) else got stays (k .at))
+  pub other-escape : Not c keys → NoDigit c → (b : Bool) → (leb 0x80 c && isBytes kind) ≡ b → escape look kind s i ≡ (if b then refused (fault nonAsciiInBytes (k .at)) else got stays (k .at))
   unfolding escape
   other-escape n d true e = rw (other-case n d, e, escape) (rw (t .next-is))
   other-escape n d false e = rw (other-case n d, e, escape) (rw (t .next-is))

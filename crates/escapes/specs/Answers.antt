@@ -1,9 +1,11 @@
 -- What an answer says, in the definition's terms.
 use Prim.Native.Nat.{ℕ}
+use mathlib.Core.Bool.{Bool, true, false}
 use mathlib.Core.List.{List}
 use lib.ListN.{getD}
 use Rattle.definition.specs.Chars.{ascii}
-use Rattle.definition.specs.Escapes.{fault, Read, got, refused, Meaning, stands, stays, vanishes, held}
+use Rattle.definition.specs.Escapes.{fault, Read, got, refused, Meaning, stands, stays, vanishes, held, Naming, heldNames}
+use Rattle.definition.specs.Names.{searched}
 use Rattle.escapes.specs.declared.Escaped.{Escaped}
 use Rattle.escapes.specs.declared.Escaped.the-variants.{Code, Kept, Gone, Refused}
 
@@ -17,3 +19,8 @@ says (Refused r) = refused (fault (r .number) (r .at))
 -- the bytes of the k-th held name
 abbrev pub heldName : ℕ → List ℕ
 heldName k = ascii (getD held k ("", 0) .0)
+
+-- the lookup of a reading: by a search of a file if one is lent, with an index beside it, else among the held names
+abbrev pub namesBy : (lent : Bool) (file index : List ℕ) → Naming
+namesBy true file index = searched file index
+namesBy false file index = heldNames

@@ -5,8 +5,8 @@ ghost use mathlib.Core.Path.{_≡_};
 ghost use Prim.Native.Nat.{_<_, _≤_};
 ghost use Rattle.definition.specs.Chars.{same};
 ghost use Rattle.definition.specs.Numbers.{isBytes};
-ghost use Rattle.definition.specs.Escapes.{fault, refused, octalDigit, octalFrom, hexDigit, scalar, hexFrom, held, lookup, unicodeName, escape};
-ghost use Rattle.escapes.specs.Answers.{says, heldName};
+ghost use Rattle.definition.specs.Escapes.{fault, refused, octalDigit, octalFrom, scalar, hexFrom, held, lookup, unicodeName, escape};
+ghost use Rattle.escapes.specs.Answers.{says, heldName, namesBy};
 
 // A refusal's number, and the bytes taken at its place.
 pub struct Refusal {
@@ -93,18 +93,6 @@ pub fn is_any_bytes(kind: u32) -> bool
     }
 }
 
-// The value of a hex digit; 16 if the character is none.
-pub fn hex_digit(c: u32) -> u32
-    ensures { λ r. ⌜ r ≡ hexDigit c ⌝ }
-{
-    match c {
-        48..=57 => c - 48,
-        65..=70 => c - 55,
-        97..=102 => c - 87,
-        _ => 16,
-    }
-}
-
 // The value of an octal digit; 8 if the character is none.
 fn octal_digit(c: u32) -> u32
     ensures { λ r. ⌜ r ≡ octalDigit c ⌝ }
@@ -140,7 +128,7 @@ fn parse_unicode_literal(s: &[u8], from: Cursor, digits: usize) -> Escaped
         let Step::Char(c, next) = cursor.next_char(s) else {
             return refuse(UNICODE_ERROR, letter);
         };
-        let d = hex_digit(c);
+        let d = names::hex_digit(c);
         if 16 <= d {
             return refuse(UNICODE_ERROR, letter);
         }
@@ -199,9 +187,19 @@ fn code_of(name: &[u8]) -> u32
     NO_CODE
 }
 
+// The code of a name: in a file that is lent, by its index, else among the held ones.
+fn code_in(name: &[u8], lent: bool, file: &[u8], index: &[u32]) -> u32
+    ensures { λ r. ⌜ r ≡ namesBy lent (now (file .entry)) (now (index .entry)) (now (name .entry)) ⌝ }
+{
+    if lent {
+        return names::look_up(file, index, name);
+    }
+    code_of(name)
+}
+
 // A name in braces, after the `N`.
-fn parse_unicode_name(s: &[u8], from: Cursor) -> Escaped
-    ensures { λ r. ⌜ says r ≡ unicodeName (now (s .entry)) (from .at) ⌝ }
+fn parse_unicode_name(s: &[u8], from: Cursor, lent: bool, file: &[u8], index: &[u32]) -> Escaped
+    ensures { λ r. ⌜ says r ≡ unicodeName (namesBy lent (now (file .entry)) (now (index .entry))) (now (s .entry)) (from .at) ⌝ }
 {
     let at = from.at;
     let Step::Char(c, inner) = from.next_char(s) else {
@@ -220,16 +218,23 @@ fn parse_unicode_name(s: &[u8], from: Cursor) -> Escaped
     if 88 < end - start {
         return refuse(UNICODE_ERROR, past);
     }
-    let code = code_of(&s[start..end]);
+    let code = code_in(&s[start..end], lent, file, index);
     if code == NO_CODE {
         return refuse(NAME_NOT_HELD, start);
     }
     Escaped::Code(code, Cursor { at: past })
 }
 
-// The escape whose backslash was just taken.
-pub fn parse_escaped_char(s: &[u8], from: Cursor, kind: u32) -> Escaped
-    ensures { λ r. ⌜ says r ≡ escape kind (now (s .entry)) (from .at) ⌝ }
+// The escape whose backslash was just taken; names are looked up in a file if one is lent, with an index beside it.
+pub fn parse_escaped_char(
+    s: &[u8],
+    from: Cursor,
+    kind: u32,
+    lent: bool,
+    file: &[u8],
+    index: &[u32],
+) -> Escaped
+    ensures { λ r. ⌜ says r ≡ escape (namesBy lent (now (file .entry)) (now (index .entry))) kind (now (s .entry)) (from .at) ⌝ }
 {
     let Step::Char(c, next) = from.next_char(s) else {
         return refuse(STRING_ERROR, from.at);
@@ -266,7 +271,7 @@ pub fn parse_escaped_char(s: &[u8], from: Cursor, kind: u32) -> Escaped
             if bytes {
                 Escaped::Kept(next)
             } else {
-                parse_unicode_name(s, next)
+                parse_unicode_name(s, next, lent, file, index)
             }
         }
         10 => Escaped::Gone(next),

@@ -7,6 +7,7 @@ use borrow.Author.Tests.{lt-ltb, le-ltb}
 use lib.ListN.{length, take, getD}
 use lib.Seq.{take-at}
 use Rattle.definition.specs.Numbers.{bodiesTooLong}
+use Rattle.definition.specs.Escapes.{heldNames}
 use Rattle.definition.specs.Records.{Answer}
 use Rattle.definition.specs.Entry.{Literal, sixes, oneMore, total}
 use Rattle.definition.specs.Reading.{Outcome, accepts, refuses, read, numbers, wordsAfter, textAfter, called, readNumbers}
@@ -39,33 +40,33 @@ module _ (s words text W T : List ℕ) (room : Room s words text) where
   one = oneLiteral (length s) ∷ []
 
   abbrev pub Called : Said → Type 0
-  Called r = CallIs (readNumbers s (1 ∷ 0 ∷ 0 ∷ length s ∷ 0 ∷ (length s + 3) ∷ []) words text) W T r
+  Called r = CallIs (readNumbers heldNames s (1 ∷ 0 ∷ 0 ∷ length s ∷ 0 ∷ (length s + 3) ∷ []) words text) W T r
 
   -- there is room
-  pub there : (r : Said) → Called r → CallIs (called (read s one) words text) W T r
+  pub there : (r : Said) → Called r → CallIs (called (read heldNames s one) words text) W T r
   unfolding sixes oneMore total
-  there r p = rw (numbers-lent s words text (1 ∷ 0 ∷ 0 ∷ length s ∷ 0 ∷ (length s + 3) ∷ []) one refl (omega (arith, room .words-room), omega (arith, room .text-room))) at p
+  there r p = rw (numbers-lent heldNames s words text (1 ∷ 0 ∷ 0 ∷ length s ∷ 0 ∷ (length s + 3) ∷ []) one refl (omega (arith, room .words-room), omega (arith, room .text-room))) at p
 
-  short-lines : bodyLines s ≡ outcomeLines (read s one)
+  short-lines : bodyLines s ≡ outcomeLines (read heldNames s one)
   unfolding bodyLines
   short-lines = rw (le-ltb 1024 (length s) (room .few))
 
   pub refused-lines : (x : Why) → Called (Refused x) → refusalLine (x .number) (x .place) (x .a) (x .b) ≡ bodyLines s
   unfolding outcomeLines called numbers
-  refused-lines x p = go (read s one) refl (there (Refused x) p)
+  refused-lines x p = go (read heldNames s one) refl (there (Refused x) p)
     where
-      go : (o : Outcome Answer) → read s one ≡ o → CallIs (called o words text) W T (Refused x) → refusalLine (x .number) (x .place) (x .a) (x .b) ≡ bodyLines s
+      go : (o : Outcome Answer) → read heldNames s one ≡ o → CallIs (called o words text) W T (Refused x) → refusalLine (x .number) (x .place) (x .a) (x .b) ≡ bodyLines s
       go (accepts y) e q = clash (let z = q .answer in cc)
       go (refuses r) e q = let z = q .answer in let y = short-lines ∙ ap outcomeLines e in cc
 
   pub accepted-shows : (x : Given) → length W ≡ length words → length T ≡ length text → ((i : ℕ) → Small (getD W i 0)) → Called (Accepted x) → Shows s W T x
   unfolding outcomeLines called numbers wordsAfter textAfter total
-  accepted-shows x w t small p = go (read s one) refl (read-sane s one) (there (Accepted x) p)
+  accepted-shows x w t small p = go (read heldNames s one) refl (read-sane heldNames s one) (there (Accepted x) p)
     where
-      go : (o : Outcome Answer) → read s one ≡ o → Sane o → CallIs (called o words text) W T (Accepted x) → Shows s W T x
+      go : (o : Outcome Answer) → read heldNames s one ≡ o → Sane o → CallIs (called o words text) W T (Accepted x) → Shows s W T x
       go (refuses r) e g q = clash (let z = q .answer in cc)
       go (accepts y) e g q =
-          let n = read-needs s one y e in
+          let n = read-needs heldNames s one y e in
           let z = q .answer in
           let count : x .records ≡ length (y .records) = cc in
           let used : x .text ≡ length (y .text) = cc in

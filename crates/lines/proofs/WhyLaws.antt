@@ -13,6 +13,7 @@ use lib.ListN.{length, take, drop, getD, length-append, length-drop}
 use lib.Seq.{getD-drop, drop-drop, drop-append-seam, take-at}
 use Rattle.definition.specs.Numbers.{bodiesTooLong}
 use Rattle.definition.specs.Chars.{if_then_else_, ascii, part}
+use Rattle.definition.specs.Escapes.{heldNames}
 use Rattle.definition.specs.Records.{Record, Answer, wordsOf}
 use Rattle.definition.specs.Entry.{Literal, sixes, oneMore, total}
 use Rattle.definition.specs.Reading.{Outcome, accepts, refuses, outcomeOf, roomFor, allWords, read, numbers, wordsAfter, textAfter, called}
@@ -246,27 +247,27 @@ module _ (s words text rows W T R : List ℕ) (room : Room s words text) (more :
   one = oneLiteral (length s) ∷ []
 
   abbrev Signs : Said → Type 0
-  Signs o = SignsIs (signsNumbers s (1 ∷ 0 ∷ 0 ∷ length s ∷ 0 ∷ (length s + 3) ∷ []) rows) R o
+  Signs o = SignsIs (signsNumbers heldNames s (1 ∷ 0 ∷ 0 ∷ length s ∷ 0 ∷ (length s + 3) ∷ []) rows) R o
 
-  short-whys : bodyWhy s ≡ outcomeWhy (rowed (allRows s one) (read s one))
+  short-whys : bodyWhy s ≡ outcomeWhy (rowed (allRows heldNames s one) (read heldNames s one))
   unfolding bodyWhy
   short-whys = rw (le-ltb 1024 (length s) (room .few))
 
   pub refused-whys : (x : Why) → Called s words text W T room (Refused x) → refusalLine (x .number) (x .place) (x .a) (x .b) ≡ bodyWhy s
   unfolding outcomeWhy rowed called numbers
-  refused-whys x p = go (read s one) refl (there s words text W T room (Refused x) p)
+  refused-whys x p = go (read heldNames s one) refl (there s words text W T room (Refused x) p)
     where
-      go : (o : Outcome Answer) → read s one ≡ o → CallIs (called o words text) W T (Refused x) → refusalLine (x .number) (x .place) (x .a) (x .b) ≡ bodyWhy s
+      go : (o : Outcome Answer) → read heldNames s one ≡ o → CallIs (called o words text) W T (Refused x) → refusalLine (x .number) (x .place) (x .a) (x .b) ≡ bodyWhy s
       go (accepts y) e q = clash (let z = q .answer in cc)
-      go (refuses r) e q = let z = q .answer in let y = short-whys ∙ ap (λ o. outcomeWhy (rowed (allRows s one) o)) e in cc
+      go (refuses r) e q = let z = q .answer in let y = short-whys ∙ ap (λ o. outcomeWhy (rowed (allRows heldNames s one) o)) e in cc
 
   -- rows of an accepted body stand in front
-  rows-front : (y : Answer) (o : Said) → read s one ≡ accepts y → Signs o → R ≡ allNumbers 0 (allRows s one) ++ drop (length (allNumbers 0 (allRows s one))) rows
+  rows-front : (y : Answer) (o : Said) → read heldNames s one ≡ accepts y → Signs o → R ≡ allNumbers 0 (allRows heldNames s one) ++ drop (length (allNumbers 0 (allRows heldNames s one))) rows
   unfolding signsNumbers signsInto calledRows rowsAfter rowed roomedRows roomFor outcomeOf sixes oneMore total
   rows-front y o e p =
-      let ws = allRows s one in
-      let f : length ws ≡ length (recordFields (y .records)) = sym (length-map ws) ∙ ap length (sym (list-fields s one y e)) in
-      let n = read-needs s one y e in
+      let ws = allRows heldNames s one in
+      let f : length ws ≡ length (recordFields (y .records)) = sym (length-map ws) ∙ ap length (sym (list-fields heldNames s one y e)) in
+      let n = read-needs heldNames s one y e in
       let k = fields-few (y .records) in
       let room : roomFor (length rows / 10) 0 (length ws) 0 (y .chars) ≡ none = rw (le-ltb (length rows / 10) (length ws) (omega arith)) refl in
       p .rows
@@ -275,19 +276,19 @@ module _ (s words text rows W T R : List ℕ) (room : Room s words text) (more :
 
   pub accepted-whys : (x : Given) (o : Said) → length W ≡ length words → length T ≡ length text → length R ≡ length rows → ((i : ℕ) → Small (getD R i 0)) → Called s words text W T room (Accepted x) → Signs o → Told s W T R x
   unfolding outcomeWhy rowed called numbers wordsAfter textAfter total fieldsIn whyPlaces
-  accepted-whys x o w t l small p sg = go (read s one) refl (read-sane s one) (there s words text W T room (Accepted x) p)
+  accepted-whys x o w t l small p sg = go (read heldNames s one) refl (read-sane heldNames s one) (there s words text W T room (Accepted x) p)
     where
-      go : (o : Outcome Answer) → read s one ≡ o → Sane o → CallIs (called o words text) W T (Accepted x) → Told s W T R x
+      go : (o : Outcome Answer) → read heldNames s one ≡ o → Sane o → CallIs (called o words text) W T (Accepted x) → Told s W T R x
       go (refuses r) e g q = clash (let z = q .answer in cc)
       go (accepts y) e g q =
-          let n = read-needs s one y e in
+          let n = read-needs heldNames s one y e in
           let z = q .answer in
           let count : x .records ≡ length (y .records) = cc in
           let used : x .text ≡ length (y .text) = cc in
           let text-is : take (x .text) T ≡ y .text = rw (q .text) (take-at (y .text) _ (x .text) (sym used)) in
-          let ws = allRows s one in
+          let ws = allRows heldNames s one in
           let front = rows-front y _ e sg in
-          let f : length (recordFields (y .records)) ≡ length ws = ap length (list-fields s one y e) ∙ length-map ws in
+          let f : length (recordFields (y .records)) ≡ length ws = ap length (list-fields heldNames s one y e) ∙ length-map ws in
           let lines-are : bodyWhy s ≡ whyLines (y .text) (y .records) ws = short-whys ∙ ap (λ o. outcomeWhy (rowed ws o)) e in
           let none : 0 + length (y .records) ≡ length (y .records) = omega arith in
           let all = rw none at (all-whys W (y .text) R _ _ (y .records) ws 0 (q .words) front (omega arith)) in

@@ -6,6 +6,7 @@ use mathlib.Core.Option.{some}
 use Prim.Native.Nat.{ℕ, suc, _*_, _<_}
 use lib.ListN.{length, take, drop}
 use Rattle.definition.specs.Numbers.{isFString}
+use Rattle.definition.specs.Escapes.{Naming}
 use Rattle.definition.specs.Entry as d
 use Rattle.definition.specs.Entry.{sixes, oneMore}
 use Rattle.definition.specs.Records as answers
@@ -38,26 +39,26 @@ field-count : (w : ℕ) (rs : List Row) → length (map (ofField w) rs) ≡ leng
 field-count w [] = refl
 field-count w (r ∷ rs) = ap suc (field-count w rs)
 
-module _ (s : List ℕ) (l : Literal) (w k : ℕ) (rows rows′ : List ℕ) (f : isFString (l .kind) ≡ true) where
+module _ (look : Naming) (s : List ℕ) (l : Literal) (w k : ℕ) (rows rows′ : List ℕ) (f : isFString (l .kind) ≡ true) where
   abbrev o : reading.Outcome answers.Answer
-  o = read s (literalOf l ∷ [])
+  o = read look s (literalOf l ∷ [])
 
-  one : windowNumbers w k s (numbersOf l) rows ≡ windowInto w k s (literalOf l ∷ []) rows
+  one : windowNumbers look w k s (numbersOf l) rows ≡ windowInto look w k s (literalOf l ∷ []) rows
   unfolding windowNumbers sixes oneMore
   one = refl
 
-  own : allRows s (literalOf l ∷ []) ≡ literalRows s (literalOf l)
+  own : allRows look s (literalOf l ∷ []) ≡ literalRows look s (literalOf l)
   unfolding allRows
-  own = append-nil (literalRows s (literalOf l))
+  own = append-nil (literalRows look s (literalOf l))
 
-  pub alone-fields : (y : Answer) → SignsIs (windowNumbers w k s (numbersOf l) rows) rows′ (Accepted y) → y .records < 4294967296 → Reads (readRows s w (literalOf l)) k rows rows′ (y .records)
+  pub alone-fields : (y : Answer) → SignsIs (windowNumbers look w k s (numbersOf l) rows) rows′ (Accepted y) → y .records < 4294967296 → Reads (readRows look s w (literalOf l)) k rows rows′ (y .records)
   unfolding windowInto windowAfter rowed rowedNumbers numbers readRows
   alone-fields y p few = go o refl (rw one at p)
     where
-      go : (x : reading.Outcome answers.Answer) → o ≡ x → SignsIs (windowInto w k s (literalOf l ∷ []) rows) rows′ (Accepted y) → Reads (readRows s w (literalOf l)) k rows rows′ (y .records)
+      go : (x : reading.Outcome answers.Answer) → o ≡ x → SignsIs (windowInto look w k s (literalOf l ∷ []) rows) rows′ (Accepted y) → Reads (readRows look s w (literalOf l)) k rows rows′ (y .records)
       go (refuses r) e q = let h = q .accepted in absurd (false≢true (sym (rw e at h)))
       go (accepts x) e q =
-          let rs = literalRows s (literalOf l) in
+          let rs = literalRows look s (literalOf l) in
           let a = rw (e, own) at (q .answer) in
           let b : y .records ≡ length rs = cc in
           let n : rows′ ≡ inFront (take (length rows) (drop (k * 10) (allNumbers w rs))) rows = rw (e, own) at (q .rows) in
@@ -69,12 +70,12 @@ module _ (s : List ℕ) (l : Literal) (w k : ℕ) (rows rows′ : List ℕ) (f :
             wrote = rw (field-tens w rs) n;
           })
 
-  pub alone-refused : (y : why.Refusal) → SignsIs (windowNumbers w k s (numbersOf l) rows) rows′ (Refused y)
-      → readRows s w (literalOf l) ≡ ofRefusal w (l .start) (y .place) (y .number) (y .a) (y .b) (y .opened) ∷ []
+  pub alone-refused : (y : why.Refusal) → SignsIs (windowNumbers look w k s (numbersOf l) rows) rows′ (Refused y)
+      → readRows look s w (literalOf l) ≡ ofRefusal w (l .start) (y .place) (y .number) (y .a) (y .b) (y .opened) ∷ []
   unfolding windowInto windowAfter rowed rowedNumbers numbers readRows
   alone-refused y p = go o refl (rw one at p)
     where
-      go : (x : reading.Outcome answers.Answer) → o ≡ x → SignsIs (windowInto w k s (literalOf l ∷ []) rows) rows′ (Refused y) → readRows s w (literalOf l) ≡ ofRefusal w (l .start) (y .place) (y .number) (y .a) (y .b) (y .opened) ∷ []
+      go : (x : reading.Outcome answers.Answer) → o ≡ x → SignsIs (windowInto look w k s (literalOf l ∷ []) rows) rows′ (Refused y) → readRows look s w (literalOf l) ≡ ofRefusal w (l .start) (y .place) (y .number) (y .a) (y .b) (y .opened) ∷ []
       go (accepts x) e q = let h = q .accepted in absurd (false≢true (rw e at h))
       go (refuses r) e q =
           let a = rw e at (q .answer) in

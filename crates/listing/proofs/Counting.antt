@@ -12,6 +12,7 @@ use lib.ListN.{length, take, drop, getD, length-append, length-take, length-drop
 use lib.Seq.{take-nil, drop-nil, drop-drop}
 use Rattle.definition.specs.Numbers.{isFString, readOtherwise}
 use Rattle.definition.specs.Chars.{if_then_else_}
+use Rattle.definition.specs.Escapes.{Naming}
 use Rattle.definition.specs.Entry as d
 use Rattle.definition.specs.Reading.{inFront}
 use Rattle.definition.specs.Rows.{Row}
@@ -35,144 +36,144 @@ use Rattle.listing.proofs.Written.{not-read, rows-back}
 use Rattle.listing.proofs.Cutting.{found-in, count-flat}
 use Rattle.listing.proofs.Filling.{source-lies, source-field}
 
-module _ (s : List ℕ) where
+module _ (look : Naming) (s : List ℕ) where
   -- IN PARTS, and row by row
-  pub total-append : (xs ys : List ListRow) → total s (xs ++ ys) ≡ total s xs + total s ys
-  total-append xs ys = count-append (suc (length s)) s xs ys
+  pub total-append : (xs ys : List ListRow) → total look s (xs ++ ys) ≡ total look s xs + total look s ys
+  total-append xs ys = count-append look (suc (length s)) s xs ys
 
-  total-row : (r : ListRow) (rs : List ListRow) → Fits s (suc (length s)) r → total s (r ∷ rs) ≡ suc (total s (sourceRows s 0 r)) + total s rs
+  total-row : (r : ListRow) (rs : List ListRow) → Fits s (suc (length s)) r → total look s (r ∷ rs) ≡ suc (total look s (sourceRows look s 0 r)) + total look s rs
   unfolding countRows
   total-row r rs p =
-      let a = source-fit s (length s) 0 r p in
-      ap (λ n. suc n + total s rs) (count-enough (length s) (suc (length s)) s (sourceRows s 0 r) a (fit-more s (length s) (sourceRows s 0 r) a))
+      let a = source-fit look s (length s) 0 r p in
+      ap (λ n. suc n + total look s rs) (count-enough look (length s) (suc (length s)) s (sourceRows look s 0 r) a (fit-more s (length s) (sourceRows look s 0 r) a))
 
-  total-refusal : (w start place number a b o : ℕ) → total s (ofRefusal w start place number a b o ∷ []) ≡ 1
+  total-refusal : (w start place number a b o : ℕ) → total look s (ofRefusal w start place number a b o ∷ []) ≡ 1
   unfolding countRows sourceRows
-  total-refusal w start place number a b o = rw (count-none (length s) s)
+  total-refusal w start place number a b o = rw (count-none look (length s) s)
 
-  total-otherwise : (w : ℕ) (r : Row) (c : Cut) → total s (otherwiseRow s w r c) ≡ length (otherwiseRow s w r c)
+  total-otherwise : (w : ℕ) (r : Row) (c : Cut) → total look s (otherwiseRow s w r c) ≡ length (otherwiseRow s w r c)
   unfolding otherwiseRow
   total-otherwise w r c = go (ltb (otherwise s r c) (length s))
     where
-      go : (t : Bool) → total s (if t then ofRefusal w (r .start) (otherwise s r c) readOtherwise 0 0 0 ∷ [] else []) ≡ length (if t then ofRefusal w (r .start) (otherwise s r c) readOtherwise 0 0 0 ∷ [] else [])
+      go : (t : Bool) → total look s (if t then ofRefusal w (r .start) (otherwise s r c) readOtherwise 0 0 0 ∷ [] else []) ≡ length (if t then ofRefusal w (r .start) (otherwise s r c) readOtherwise 0 0 0 ∷ [] else [])
       go true = total-refusal w (r .start) (otherwise s r c) readOtherwise 0 0 0
-      go false = count-none (suc (length s)) s
+      go false = count-none look (suc (length s)) s
 
   -- of a part: its first literal and the rest
-  total-first : (l : d.Literal) (c : Cut) → total s (cutRows s 0 (firstCut l c)) ≡ total s (readRows s 0 l) + total s (cutRows s 0 c)
+  total-first : (l : d.Literal) (c : Cut) → total look s (cutRows look s 0 (firstCut l c)) ≡ total look s (readRows look s 0 l) + total look s (cutRows look s 0 c)
   unfolding cutRows firstCut allRead
   total-first l c =
-      ap (total s) (append-assoc (readRows s 0 l) (allRead s 0 (c .literals)) (brokenRow 0 (c .ending))) ∙ total-append (readRows s 0 l) (allRead s 0 (c .literals) ++ brokenRow 0 (c .ending))
+      ap (total look s) (append-assoc (readRows look s 0 l) (allRead look s 0 (c .literals)) (brokenRow 0 (c .ending))) ∙ total-append (readRows look s 0 l) (allRead look s 0 (c .literals) ++ brokenRow 0 (c .ending))
 
-  total-over : total s (cutRows s 0 (record { literals = []; ending = reachesEnd })) ≡ 0
+  total-over : total look s (cutRows look s 0 (record { literals = []; ending = reachesEnd })) ≡ 0
   unfolding cutRows allRead brokenRow
-  total-over = count-none (suc (length s)) s
+  total-over = count-none look (suc (length s)) s
 
-  total-breaks : (number place : ℕ) → total s (cutRows s 0 (record { literals = []; ending = breaksOff number place })) ≡ 1
+  total-breaks : (number place : ℕ) → total look s (cutRows look s 0 (record { literals = []; ending = breaksOff number place })) ≡ 1
   unfolding cutRows allRead brokenRow
   total-breaks number place = total-refusal 0 place place number 0 0 0
 
 -- A PART, counted up to a place
-pub record Counting (s : List ℕ) (from end at rows : ℕ) : Type 0 where
+pub record Counting (look : Naming) (s : List ℕ) (from end at rows : ℕ) : Type 0 where
   pub ahead : at ≤ end
-  pub same : rows + total s (cutRows s 0 (cutPart s at end)) ≡ total s (cutRows s 0 (cutPart s from end))
+  pub same : rows + total look s (cutRows look s 0 (cutPart s at end)) ≡ total look s (cutRows look s 0 (cutPart s from end))
 
-module _ (s : List ℕ) (from end : ℕ) (b : Bounded s from end 0) where
-  pub part-most : total s (cutRows s 0 (cutPart s from end)) ≤ 1048576
-  part-most = let w = b .within in let n = b .not-long in omega (arith, part-few (suc (length s)) s 0 from end (b .ahead) (b .within))
+module _ (look : Naming) (s : List ℕ) (from end : ℕ) (b : Bounded s from end 0) where
+  pub part-most : total look s (cutRows look s 0 (cutPart s from end)) ≤ 1048576
+  part-most = let w = b .within in let n = b .not-long in omega (arith, part-few look (suc (length s)) s 0 from end (b .ahead) (b .within))
 
-  pub counting-start : Counting s from end from 0
+  pub counting-start : Counting look s from end from 0
   counting-start = record { ahead = b .ahead; same = zero-add _ }
 
-  module _ (at rows : ℕ) (p : Counting s from end at rows) where
+  module _ (at rows : ℕ) (p : Counting look s from end at rows) where
     abbrev t : List ℕ
     t = take end s
 
-    pub counting-over : cutFrom t at ≡ record { literals = []; ending = reachesEnd } → rows ≡ total s (cutRows s 0 (cutPart s from end))
+    pub counting-over : cutFrom t at ≡ record { literals = []; ending = reachesEnd } → rows ≡ total look s (cutRows look s 0 (cutPart s from end))
     unfolding cutPart
-    counting-over e = let q = rw (e, total-over s) at (p .same) in omega (arith, q)
+    counting-over e = let q = rw (e, total-over look s) at (p .same) in omega (arith, q)
 
-    pub counting-breaks : (number place : ℕ) → cutFrom t at ≡ record { literals = []; ending = breaksOff number place } → rows + 1 ≡ total s (cutRows s 0 (cutPart s from end))
+    pub counting-breaks : (number place : ℕ) → cutFrom t at ≡ record { literals = []; ending = breaksOff number place } → rows + 1 ≡ total look s (cutRows look s 0 (cutPart s from end))
     unfolding cutPart
-    counting-breaks number place e = rw (e, total-breaks s number place) at (p .same)
+    counting-breaks number place e = rw (e, total-breaks look s number place) at (p .same)
 
     pub counting-most : rows ≤ 1048576
     counting-most = let q = p .same in omega (arith, part-most)
 
     module _ (l : Literal) (e : cutFrom t at ≡ firstCut (literalOf l) (cutFrom t (l .end))) where
-      split : rows + (total s (readRows s 0 (literalOf l)) + total s (cutRows s 0 (cutPart s (l .end) end))) ≡ total s (cutRows s 0 (cutPart s from end))
+      split : rows + (total look s (readRows look s 0 (literalOf l)) + total look s (cutRows look s 0 (cutPart s (l .end) end))) ≡ total look s (cutRows look s 0 (cutPart s from end))
       unfolding cutPart
-      split = rw (e, total-first s (literalOf l) (cutFrom t (l .end))) at (p .same)
+      split = rw (e, total-first look s (literalOf l) (cutFrom t (l .end))) at (p .same)
 
       pub counting-found : Found s (literalOf l)
       counting-found = record { from = at; end = end; within = b .within; in-part = found-in s at end l (p .ahead) (b .within) e; not-long = b .not-long }
 
-      pub counting-less : (end - l .end < end - at) × (total s (readRows s 0 (literalOf l)) ≤ total s (cutRows s 0 (cutPart s from end)))
+      pub counting-less : (end - l .end < end - at) × (total look s (readRows look s 0 (literalOf l)) ≤ total look s (cutRows look s 0 (cutPart s from end)))
       counting-less = let i = found-in s at end l (p .ahead) (b .within) e in (omega arith, omega (arith, split))
 
-      pub counting-next : (n : ℕ) → n ≡ total s (readRows s 0 (literalOf l)) → Counting s from end (l .end) (rows + n)
+      pub counting-next : (n : ℕ) → n ≡ total look s (readRows look s 0 (literalOf l)) → Counting look s from end (l .end) (rows + n)
       counting-next n q =
           let i = found-in s at end l (p .ahead) (b .within) e in
           record { ahead = i .ends; same = omega (arith, split) }
 
 -- A LITERAL, counted in windows
-module _ (s : List ℕ) (l : d.Literal) (f : Found s l) where
+module _ (look : Naming) (s : List ℕ) (l : d.Literal) (f : Found s l) where
   abbrev xs : List ListRow
-  xs = readRows s 0 l
+  xs = readRows look s 0 l
 
-  pub literal-most : (total s xs ≤ 1048576) × (length xs ≤ 1048576)
+  pub literal-most : (total look s xs ≤ 1048576) × (length xs ≤ 1048576)
   literal-most =
       let w = f .within in
       let n = f .not-long in
       let i = f .in-part in
       let y = i .ends in
-      let a = literal-few (suc (length s)) s 0 (f .from) (f .end) (f .within) l (f .in-part) in
-      let c : length xs ≤ l .end - l .start = rw (count-flat s xs) at (literal-few 1 s 0 (f .from) (f .end) (f .within) l (f .in-part)) in
+      let a = literal-few look (suc (length s)) s 0 (f .from) (f .end) (f .within) l (f .in-part) in
+      let c : length xs ≤ l .end - l .start = rw (count-flat look s xs) at (literal-few look 1 s 0 (f .from) (f .end) (f .within) l (f .in-part)) in
       (omega arith, omega arith)
 
   pub literal-fits : AllFit s (suc (length s)) xs
-  literal-fits = let w = f .within in literal-fit s (suc (length s)) (f .from) (f .end) (f .within) (omega arith) 0 l (f .in-part)
+  literal-fits = let w = f .within in literal-fit look s (suc (length s)) (f .from) (f .end) (f .within) (omega arith) 0 l (f .in-part)
 
-  pub not-counted : isFString (l .kind) ≡ false → 0 ≡ total s xs
-  not-counted e = sym (rw (not-read s 0 l e) (count-none (suc (length s)) s))
+  pub not-counted : isFString (l .kind) ≡ false → 0 ≡ total look s xs
+  not-counted e = sym (rw (not-read look s 0 l e) (count-none look (suc (length s)) s))
 
 -- so many rows seen
-pub record Windows (s : List ℕ) (xs : List ListRow) (rows seen : ℕ) : Type 0 where
-  pub same : rows + total s (drop seen xs) ≡ total s xs
+pub record Windows (look : Naming) (s : List ℕ) (xs : List ListRow) (rows seen : ℕ) : Type 0 where
+  pub same : rows + total look s (drop seen xs) ≡ total look s xs
   pub some : 1 ≤ seen → seen < length xs
 
-module _ (s : List ℕ) (xs : List ListRow) where
-  pub windows-start : Windows s xs 0 0
+module _ (look : Naming) (s : List ℕ) (xs : List ListRow) where
+  pub windows-start : Windows look s xs 0 0
   windows-start = record { same = zero-add _; some = λ h. absurd (omega arith) }
 
-  in-two : (seen : ℕ) → total s (drop seen xs) ≡ total s (take 128 (drop seen xs)) + total s (drop (seen + 128) xs)
+  in-two : (seen : ℕ) → total look s (drop seen xs) ≡ total look s (take 128 (drop seen xs)) + total look s (drop (seen + 128) xs)
   in-two seen =
-      ap (total s) (sym (take-append-drop 128 (drop seen xs))) ∙ total-append s (take 128 (drop seen xs)) (drop 128 (drop seen xs)) ∙ ap (λ y. total s (take 128 (drop seen xs)) + total s y) (drop-drop 128 seen xs)
+      ap (total look s) (sym (take-append-drop 128 (drop seen xs))) ∙ total-append look s (take 128 (drop seen xs)) (drop 128 (drop seen xs)) ∙ ap (λ y. total look s (take 128 (drop seen xs)) + total look s y) (drop-drop 128 seen xs)
 
-  before : (seen : ℕ) → total s xs ≡ total s (take seen xs) + total s (drop seen xs)
-  before seen = ap (total s) (sym (take-append-drop seen xs)) ∙ total-append s (take seen xs) (drop seen xs)
+  before : (seen : ℕ) → total look s xs ≡ total look s (take seen xs) + total look s (drop seen xs)
+  before seen = ap (total look s) (sym (take-append-drop seen xs)) ∙ total-append look s (take seen xs) (drop seen xs)
 
-  pub window-most : (seen : ℕ) → total s (take 128 (drop seen xs)) ≤ total s xs
+  pub window-most : (seen : ℕ) → total look s (take 128 (drop seen xs)) ≤ total look s xs
   window-most seen = omega (arith, in-two seen, before seen)
 
-  none-left : (ys : List ListRow) (n : ℕ) → length ys ≤ n → total s (drop n ys) ≡ 0
-  none-left [] zero h = count-none (suc (length s)) s
-  none-left [] (suc n) h = count-none (suc (length s)) s
+  none-left : (ys : List ListRow) (n : ℕ) → length ys ≤ n → total look s (drop n ys) ≡ 0
+  none-left [] zero h = count-none look (suc (length s)) s
+  none-left [] (suc n) h = count-none look (suc (length s)) s
   none-left (y ∷ ys) zero h = absurd (omega arith)
   none-left (y ∷ ys) (suc n) h = none-left ys n (omega arith)
 
-  pub windows-few : (rows seen : ℕ) → Windows s xs rows seen → length xs ≤ 1048576 → seen ≤ 1048576
+  pub windows-few : (rows seen : ℕ) → Windows look s xs rows seen → length xs ≤ 1048576 → seen ≤ 1048576
   windows-few rows zero p h = omega arith
   windows-few rows (suc k) p h = let q = p .some (omega arith) in omega arith
 
-  module _ (rows seen : ℕ) (p : Windows s xs rows seen) (w : Window) (q : Seen s xs seen w) where
-    pub windows-most : rows + w .rows ≤ total s xs
+  module _ (rows seen : ℕ) (p : Windows look s xs rows seen) (w : Window) (q : Seen look s xs seen w) where
+    pub windows-most : rows + w .rows ≤ total look s xs
     windows-most = omega (arith, p .same, q .counted, in-two seen)
 
-    pub windows-done : w .all ≤ seen + 128 → rows + w .rows ≡ total s xs
+    pub windows-done : w .all ≤ seen + 128 → rows + w .rows ≡ total look s xs
     windows-done h = omega (arith, p .same, q .counted, in-two seen, none-left xs (seen + 128) (omega (arith, q .all)))
 
-    pub windows-next : seen + 128 < w .all → Windows s xs (rows + w .rows) (seen + 128)
+    pub windows-next : seen + 128 < w .all → Windows look s xs (rows + w .rows) (seen + 128)
     windows-next h = record { same = omega (arith, p .same, q .counted, in-two seen); some = λ k. omega (arith, q .all) }
 
 -- THE ROWS IN A WINDOW
@@ -210,9 +211,9 @@ fit-parts : (s : List ℕ) (n : ℕ) (xs ys : List ListRow) → AllFit s n (xs +
 fit-parts s n [] ys p = (tt, p)
 fit-parts s n (x ∷ xs) ys p = let q = fit-parts s n xs ys (p .1) in ((p .0, q .0), q .1)
 
-module _ (s : List ℕ) (l : d.Literal) (f : Found s l) (seen : ℕ) (some : 1 ≤ seen → seen < length (readRows s 0 l)) where
+module _ (look : Naming) (s : List ℕ) (l : d.Literal) (f : Found s l) (seen : ℕ) (some : 1 ≤ seen → seen < length (readRows look s 0 l)) where
   abbrev rs : List ListRow
-  rs = readRows s 0 l
+  rs = readRows look s 0 l
 
   abbrev window : List ListRow
   window = take 128 (drop seen rs)
@@ -220,11 +221,11 @@ module _ (s : List ℕ) (l : d.Literal) (f : Found s l) (seen : ℕ) (some : 1 �
   three : take seen rs ++ (window ++ drop 128 (drop seen rs)) ≡ rs
   three = ap (λ ys. take seen rs ++ ys) (take-append-drop 128 (drop seen rs)) ∙ take-append-drop seen rs
 
-  pub window-refused : (t : Told) → rs ≡ refusalRow 0 t ∷ [] → Seen s rs seen (record { all = 1; rows = 1 })
+  pub window-refused : (t : Told) → rs ≡ refusalRow 0 t ∷ [] → Seen look s rs seen (record { all = 1; rows = 1 })
   window-refused t e = go seen refl
     where
-      go : (k : ℕ) → seen ≡ k → Seen s rs seen (record { all = 1; rows = 1 })
-      go zero q = rw (q, e) (record { all = refl; counted = sym (total-refusal s 0 (t .start) (t .place) (t .number) (t .a) (t .b) (t .opened)) })
+      go : (k : ℕ) → seen ≡ k → Seen look s rs seen (record { all = 1; rows = 1 })
+      go zero q = rw (q, e) (record { all = refl; counted = sym (total-refusal look s 0 (t .start) (t .place) (t .number) (t .a) (t .b) (t .opened)) })
       go (suc k) q = absurd (omega (arith, some (omega (arith, q)), ap length e, q))
 
   pub window-among : (n : ℕ) → n ≡ length rs → seen ≤ n
@@ -250,39 +251,39 @@ module _ (s : List ℕ) (l : d.Literal) (f : Found s l) (seen : ℕ) (some : 1 �
     stands : rowsIn block′ 0 (least (n - seen) 128) ≡ window
     stands = rw (holds, ← size) (rows-back [] 0 window (drop (length (tens window)) block) refl)
 
-    pub window-block : Block s block′ (least (n - seen) 128)
+    pub window-block : Block look s block′ (least (n - seen) 128)
     window-block =
         let m = length-take 128 (drop seen rs) in
-        let parts = fit-parts s (suc (length s)) (take seen rs) (window ++ drop 128 (drop seen rs)) (rw (sym three) at (literal-fits s l f)) in
+        let parts = fit-parts s (suc (length s)) (take seen rs) (window ++ drop 128 (drop seen rs)) (rw (sym three) at (literal-fits look s l f)) in
         record {
           room = rw (← size) (omega (arith, ap length holds, length-append (tens window) (drop (length (tens window)) block), length-drop (length (tens window)) block, tens-length window));
           fields = rw stands (omega (arith, p .fields, ap refusalsIn three, refusals-append (take seen rs) (window ++ drop 128 (drop seen rs)), refusals-append window (drop 128 (drop seen rs))));
           fit = rw stands (fit-parts s (suc (length s)) window (drop 128 (drop seen rs)) (parts .1) .0);
-          few = rw stands (omega (arith, window-most s rs seen, literal-most s l f .0));
+          few = rw stands (omega (arith, window-most look s rs seen, literal-most look s l f .0));
           not-long = f .not-long;
         }
 
-    pub window-less : total s (rowsIn block′ 0 (least (n - seen) 128)) ≤ total s rs
-    window-less = rw stands (window-most s rs seen)
+    pub window-less : total look s (rowsIn block′ 0 (least (n - seen) 128)) ≤ total look s rs
+    window-less = rw stands (window-most look s rs seen)
 
-    pub window-seen : (rows : ℕ) → rows ≡ total s (rowsIn block′ 0 (least (n - seen) 128)) → Seen s rs seen (record { all = n; rows = rows })
-    window-seen rows e = record { all = p .counted; counted = e ∙ ap (total s) stands }
+    pub window-seen : (rows : ℕ) → rows ≡ total look s (rowsIn block′ 0 (least (n - seen) 128)) → Seen look s rs seen (record { all = n; rows = rows })
+    window-seen rows e = record { all = p .counted; counted = e ∙ ap (total look s) stands }
 
 -- A BLOCK, row by row
-pub record Blocks (s block : List ℕ) (n rows i : ℕ) : Type 0 where
+pub record Blocks (look : Naming) (s block : List ℕ) (n rows i : ℕ) : Type 0 where
   pub ahead : i ≤ n
-  pub same : rows + total s (rowsIn block i (n - i)) ≡ total s (rowsIn block 0 n)
+  pub same : rows + total look s (rowsIn block i (n - i)) ≡ total look s (rowsIn block 0 n)
   pub fields : refusalsIn (rowsIn block i (n - i)) ≡ 0
   pub fit : AllFit s (suc (length s)) (rowsIn block i (n - i))
 
-module _ (s block : List ℕ) (n : ℕ) (b : Block s block n) where
-  pub blocks-start : Blocks s block n 0 0
+module _ (look : Naming) (s block : List ℕ) (n : ℕ) (b : Block look s block n) where
+  pub blocks-start : Blocks look s block n 0 0
   blocks-start = record { ahead = omega arith; same = rw (sub-zero, zero-add); fields = rw sub-zero (b .fields); fit = rw sub-zero (b .fit) }
 
-  module _ (rows i : ℕ) (p : Blocks s block n rows i) where
-    pub blocks-done : n ≤ i → rows ≡ total s (rowsIn block 0 n)
+  module _ (rows i : ℕ) (p : Blocks look s block n rows i) where
+    pub blocks-done : n ≤ i → rows ≡ total look s (rowsIn block 0 n)
     unfolding rowsIn
-    blocks-done h = let z : n - i ≡ 0 = omega arith in let q = rw (z, count-none (suc (length s)) s) at (p .same) in omega (arith, q)
+    blocks-done h = let z : n - i ≡ 0 = omega arith in let q = rw (z, count-none look (suc (length s)) s) at (p .same) in omega (arith, q)
 
     module _ (h : i < n) where
       abbrev rest : List ListRow
@@ -317,31 +318,31 @@ module _ (s block : List ℕ) (n : ℕ) (b : Block s block n) where
       source = cutPart s (field .place) (sourceEnd (signsOf field))
 
       pub block-source : Source s field
-      block-source = source-lies s block i no-refusal (here .0) (b .not-long)
+      block-source = source-lies look s block i no-refusal (here .0) (b .not-long)
 
       pub block-bounded : Bounded s (field .place) (sourceEnd (signsOf field)) 0
       block-bounded = let z = block-source in record { ahead = z .ahead; within = z .within; not-long = z .not-long; few = omega arith }
 
-      opened-total : total s (rowsIn block i (n - i)) ≡ 1 + length (otherwiseRow s 0 (rowOf field) source) + total s (cutRows s 0 source) + total s rest
+      opened-total : total look s (rowsIn block i (n - i)) ≡ 1 + length (otherwiseRow s 0 (rowOf field) source) + total look s (cutRows look s 0 source) + total look s rest
       opened-total =
-          ap (total s) opened
-          ∙ total-row s (rowAt block i) rest (here .0)
-          ∙ omega (arith, ap (total s) (source-field s block i no-refusal 0), total-append s (otherwiseRow s 0 (rowOf field) source) (cutRows s 0 source), total-otherwise s 0 (rowOf field) source)
+          ap (total look s) opened
+          ∙ total-row look s (rowAt block i) rest (here .0)
+          ∙ omega (arith, ap (total look s) (source-field look s block i no-refusal 0), total-append look s (otherwiseRow s 0 (rowOf field) source) (cutRows look s 0 source), total-otherwise look s 0 (rowOf field) source)
 
-      pub block-less : total s (cutRows s 0 source) + 1 ≤ total s (rowsIn block 0 n)
+      pub block-less : total look s (cutRows look s 0 source) + 1 ≤ total look s (rowsIn block 0 n)
       block-less = omega (arith, opened-total, p .same)
 
-      module _ (own below : ℕ) (e : own ≡ 1 + length (otherwiseRow s 0 (rowOf field) source)) (g : below ≡ total s (cutRows s 0 source)) where
+      module _ (own below : ℕ) (e : own ≡ 1 + length (otherwiseRow s 0 (rowOf field) source)) (g : below ≡ total look s (cutRows look s 0 source)) where
         pub block-most : rows + (own + below) ≤ 1048576
         block-most = let m = b .few in omega (arith, opened-total, p .same)
 
-        pub blocks-next : Blocks s block n (rows + (own + below)) (i + 1)
+        pub blocks-next : Blocks look s block n (rows + (own + below)) (i + 1)
         blocks-next =
             record { ahead = omega arith; same = omega (arith, opened-total, p .same); fields = rest-none; fit = here .1 }
 
 -- A WHOLE SCRIPT
-pub count-script : (s : List ℕ) → total s (cutRows s 0 (cutPart s 0 (length s))) ≡ length (rowsOf s)
-count-script s = sym (count-whole s ∙ ap (λ c. total s (cutRows s 0 c)) (cut-is-part s))
+pub count-script : (look : Naming) → (s : List ℕ) → total look s (cutRows look s 0 (cutPart s 0 (length s))) ≡ length (rowsOf look s)
+count-script look s = sym (count-whole look s ∙ ap (λ c. total look s (cutRows look s 0 c)) (cut-is-part s))
 
-pub script-most : (s : List ℕ) (n : ℕ) → length s ≤ 1048576 → n ≡ total s (cutRows s 0 (cutPart s 0 (length s))) → n ≤ 1048576
-script-most s n h e = omega (arith, part-few (suc (length s)) s 0 0 (length s) (omega arith) (omega arith))
+pub script-most : (look : Naming) → (s : List ℕ) (n : ℕ) → length s ≤ 1048576 → n ≡ total look s (cutRows look s 0 (cutPart s 0 (length s))) → n ≤ 1048576
+script-most look s n h e = omega (arith, part-few look (suc (length s)) s 0 0 (length s) (omega arith) (omega arith))

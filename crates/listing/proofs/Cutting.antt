@@ -4,6 +4,7 @@ use mathlib.Core.List.{List, [], _∷_, _++_, append-assoc, append-nil}
 use Prim.Native.Nat.{ℕ, _+_, _-_, _*_, _≤_, _<_}
 use native.Mathlib.Omega.{arith}
 use lib.ListN.{length, take, length-append, length-take}
+use Rattle.definition.specs.Escapes.{Naming}
 use Rattle.definition.specs.Entry as d
 use Rattle.definition.specs.IsCut.{Ending, reachesEnd, breaksOff, EachLiteral}
 use Rattle.definition.specs.Cut.{Cut, firstCut, cutFrom, cutPart}
@@ -20,15 +21,15 @@ use Rattle.listing.specs.Put.{Puts, Bounded, PartIs}
 use Rattle.listing.proofs.Written.{puts-none, puts-one, puts-append}
 
 -- rows without those below them
-pub count-flat : (s : List ℕ) (rs : List ListRow) → countRows 1 s rs ≡ length rs
+pub count-flat : (look : Naming) → (s : List ℕ) (rs : List ListRow) → countRows look 1 s rs ≡ length rs
 unfolding countRows
-count-flat s [] = refl
-count-flat s (r ∷ rs) = omega (arith, count-flat s rs)
+count-flat look s [] = refl
+count-flat look s (r ∷ rs) = omega (arith, count-flat look s rs)
 
-all-append : (s : List ℕ) (w : ℕ) (ls ms : List d.Literal) → allRead s w (ls ++ ms) ≡ allRead s w ls ++ allRead s w ms
+all-append : (look : Naming) → (s : List ℕ) (w : ℕ) (ls ms : List d.Literal) → allRead look s w (ls ++ ms) ≡ allRead look s w ls ++ allRead look s w ms
 unfolding allRead
-all-append s w [] ms = refl
-all-append s w (l ∷ ls) ms = ap (λ r. readRows s w l ++ r) (all-append s w ls ms) ∙ sym (append-assoc (readRows s w l) (allRead s w ls) (allRead s w ms))
+all-append look s w [] ms = refl
+all-append look s w (l ∷ ls) ms = ap (λ r. readRows look s w l ++ r) (all-append look s w ls ms) ∙ sym (append-assoc (readRows look s w l) (allRead look s w ls) (allRead look s w ms))
 
 -- a part of a script that is not too long is not too long
 pub short-part : (s : List ℕ) (from end count : ℕ) → Bounded s from end count → 1048576 < length (take end s) → ⊥
@@ -42,21 +43,21 @@ found-in s at end l a h e =
     q .0
 
 -- A CUT that has come to a place, the rows of the literals before it written
-pub record Cutting (s : List ℕ) (from end w : ℕ) (rows rows′ : List ℕ) (count at done literals : ℕ) : Type 0 where
+pub record Cutting (look : Naming) (s : List ℕ) (from end w : ℕ) (rows rows′ : List ℕ) (count at done literals : ℕ) : Type 0 where
   pub before : List d.Literal
   pub ahead : at ≤ end
   pub same : cutPart s from end ≡ cutAfter before (cutFrom (take end s) at)
   pub counted : literals ≡ length before
-  pub puts : Puts (allRead s w before) rows rows′ count done
+  pub puts : Puts (allRead look s w before) rows rows′ count done
   pub few : done + (end - at) ≤ count + (end - from)
   pub fewer : literals + (end - at) ≤ end - from
 
-module _ (s : List ℕ) (from end w : ℕ) (rows : List ℕ) (count : ℕ) (b : Bounded s from end count) where
-  pub cutting-start : Cutting s from end w rows rows count from count 0
+module _ (look : Naming) (s : List ℕ) (from end w : ℕ) (rows : List ℕ) (count : ℕ) (b : Bounded s from end count) where
+  pub cutting-start : Cutting look s from end w rows rows count from count 0
   unfolding cutPart cutAfter allRead
   cutting-start = record { before = []; ahead = b .ahead; same = refl; counted = refl; puts = puts-none rows count; few = omega arith; fewer = omega arith }
 
-  module _ (rows′ : List ℕ) (at done literals : ℕ) (p : Cutting s from end w rows rows′ count at done literals) where
+  module _ (rows′ : List ℕ) (at done literals : ℕ) (p : Cutting look s from end w rows rows′ count at done literals) where
     abbrev t : List ℕ
     t = take end s
 
@@ -66,21 +67,21 @@ module _ (s : List ℕ) (from end w : ℕ) (rows : List ℕ) (count : ℕ) (b : 
       unfolding cutAfter
       whole = p .same ∙ rw e (ap (λ ls. record { literals = ls; ending = ending }) (append-nil (p .before)))
 
-      cutting-ends : (rows″ : List ℕ) (n : ℕ) → Puts (brokenRow w ending) rows′ rows″ done n → PartIs s from end w rows rows″ count (record { count = n; literals = literals; to = reached end ending })
+      cutting-ends : (rows″ : List ℕ) (n : ℕ) → Puts (brokenRow w ending) rows′ rows″ done n → PartIs look s from end w rows rows″ count (record { count = n; literals = literals; to = reached end ending })
       unfolding cutRows
       cutting-ends rows″ n q =
           record {
-            puts = rw whole (puts-append (allRead s w (p .before)) (brokenRow w ending) rows rows′ rows″ count done n (p .puts) q);
+            puts = rw whole (puts-append (allRead look s w (p .before)) (brokenRow w ending) rows rows′ rows″ count done n (p .puts) q);
             literals = rw whole (p .counted);
             to = rw whole refl;
           }
 
-    pub cutting-over : cutFrom t at ≡ record { literals = []; ending = reachesEnd } → PartIs s from end w rows rows′ count (record { count = done; literals = literals; to = end })
+    pub cutting-over : cutFrom t at ≡ record { literals = []; ending = reachesEnd } → PartIs look s from end w rows rows′ count (record { count = done; literals = literals; to = end })
     unfolding brokenRow reached
     cutting-over e = cutting-ends reachesEnd e rows′ done (puts-none rows′ done)
 
     pub cutting-breaks : (number place : ℕ) → cutFrom t at ≡ record { literals = []; ending = breaksOff number place } → (rows″ : List ℕ) → rows″ ≡ over rows′ (done * 10) (tenOf (ofRefusal w place place number 0 0 0))
-        → PartIs s from end w rows rows″ count (record { count = done + 1; literals = literals; to = place })
+        → PartIs look s from end w rows rows″ count (record { count = done + 1; literals = literals; to = place })
     unfolding brokenRow reached
     cutting-breaks number place e rows″ q = cutting-ends (breaksOff number place) e rows″ (done + 1) (puts-one (ofRefusal w place place number 0 0 0) rows′ rows″ done q)
 
@@ -101,14 +102,14 @@ module _ (s : List ℕ) (from end w : ℕ) (rows : List ℕ) (count : ℕ) (b : 
       pub cutting-less : end - l .end < end - at
       cutting-less = let i = cut-in in omega arith
 
-      pub cutting-next : (rows″ : List ℕ) (n : ℕ) → Puts (readRows s w (literalOf l)) rows′ rows″ done n → Cutting s from end w rows rows″ count (l .end) n (literals + 1)
+      pub cutting-next : (rows″ : List ℕ) (n : ℕ) → Puts (readRows look s w (literalOf l)) rows′ rows″ done n → Cutting look s from end w rows rows″ count (l .end) n (literals + 1)
       unfolding allRead
       cutting-next rows″ n q =
           let i = cut-in in
           let x = i .starts in
           let y = i .ends in
           let k = q .counted in
-          let m : length (readRows s w (literalOf l)) ≤ l .end - l .start = rw (count-flat s (readRows s w (literalOf l))) at (literal-few 1 s w at end (b .within) (literalOf l) i) in
+          let m : length (readRows look s w (literalOf l)) ≤ l .end - l .start = rw (count-flat look s (readRows look s w (literalOf l))) at (literal-few look 1 s w at end (b .within) (literalOf l) i) in
           let f = p .few in
           let g = p .fewer in
           record {
@@ -116,7 +117,7 @@ module _ (s : List ℕ) (from end w : ℕ) (rows : List ℕ) (count : ℕ) (b : 
             ahead = y;
             same = p .same ∙ ap (cutAfter (p .before)) e ∙ cut-after (p .before) (literalOf l) (cutFrom t (l .end));
             counted = omega (arith, p .counted, length-append (p .before) (literalOf l ∷ []));
-            puts = rw (all-append s w (p .before) (literalOf l ∷ []), append-nil (readRows s w (literalOf l))) (puts-append (allRead s w (p .before)) (readRows s w (literalOf l)) rows rows′ rows″ count done n (p .puts) q);
+            puts = rw (all-append look s w (p .before) (literalOf l ∷ []), append-nil (readRows look s w (literalOf l))) (puts-append (allRead look s w (p .before)) (readRows look s w (literalOf l)) rows rows′ rows″ count done n (p .puts) q);
             few = omega arith;
             fewer = omega arith;
           }

@@ -10,6 +10,7 @@ use lib.Dec.{ltb, eqb}
 use lib.ListN.{length, drop, getD, length-append}
 use Rattle.definition.specs.Numbers.{readOtherwise}
 use Rattle.definition.specs.Chars.{if_then_else_}
+use Rattle.definition.specs.Escapes.{Naming}
 use Rattle.definition.specs.Cut.{Cut, cut, cutPart}
 use Rattle.definition.specs.Reading.{zeros}
 use Rattle.definition.specs.Listing.{ListRow, ofRefusal, tenOf, tens, cutRows, sourceEnd, otherwise, otherwiseRow, sourceRows, rowsOf, refusalsIn, fieldsAfter, fieldsCall, fieldsInto, fieldsNumbers}
@@ -30,8 +31,8 @@ use Rattle.listing.specs.Answers.{Filled, CallIs}
 use Rattle.listing.proofs.Written.{puts-none, puts-append, row-back, rows-back}
 
 -- THE SOURCE OF A ROW that stands in a buffer
-module _ (s rows : List ℕ) (i : ℕ) where
-  pub source-told : (count : ℕ) → getD rows (i * 10) 0 ≡ 5 → Puts (sourceRows s (i + 1) (rowAt rows i)) rows rows count count
+module _ (look : Naming) (s rows : List ℕ) (i : ℕ) where
+  pub source-told : (count : ℕ) → getD rows (i * 10) 0 ≡ 5 → Puts (sourceRows look s (i + 1) (rowAt rows i)) rows rows count count
   unfolding rowAt sourceRows
   source-told count e = rw (eq-eqb _ 5 e) (puts-none rows count)
 
@@ -49,7 +50,7 @@ module _ (s rows : List ℕ) (i : ℕ) where
         let k = r .placed .close-at .0 in
         record { closed = omega arith; ahead = r .ahead; within = r .within; not-long = long }
 
-    pub source-field : (n : ℕ) → sourceRows s n (rowAt rows i) ≡ otherwiseRow s n (rowOf f) c ++ cutRows s n c
+    pub source-field : (n : ℕ) → sourceRows look s n (rowAt rows i) ≡ otherwiseRow s n (rowOf f) c ++ cutRows look s n c
     unfolding rowAt sourceRows otherwiseRow otherwise
     source-field n = rw (ne-eqb (getD rows (i * 10) 0) 5 e)
 
@@ -69,34 +70,34 @@ module _ (s rows : List ℕ) (i : ℕ) where
           let x = a .counted in
           record { ahead = z .ahead; within = z .within; not-long = p .not-long; few = omega (arith, otherwise-most (i + 1)) }
 
-      pub source-puts : (rows₂ : List ℕ) (r : Part) → PartIs s (f .place) (sourceEnd (signsOf f)) (i + 1) rows₁ rows₂ m r → Puts (sourceRows s (i + 1) (rowAt rows i)) rows rows₂ count (r .count)
+      pub source-puts : (rows₂ : List ℕ) (r : Part) → PartIs look s (f .place) (sourceEnd (signsOf f)) (i + 1) rows₁ rows₂ m r → Puts (sourceRows look s (i + 1) (rowAt rows i)) rows rows₂ count (r .count)
       source-puts rows₂ r b = rw (source-field (i + 1)) (puts-append _ _ rows rows₁ rows₂ count m (r .count) a (b .puts))
 
 -- buffers of one length have the same room
-pub same-room : (s rows b rows₁ : List ℕ) (count : ℕ) (r : Part) → PartIs s 0 (length s) 0 b rows₁ 0 r → PartIs s 0 (length s) 0 rows rows₁ 0 r → count ≤ length rows / 10 → count ≤ length b / 10
-same-room s rows b rows₁ count r p q h = rw (← p .puts .kept, q .puts .kept) h
+pub same-room : (look : Naming) → (s rows b rows₁ : List ℕ) (count : ℕ) (r : Part) → PartIs look s 0 (length s) 0 b rows₁ 0 r → PartIs look s 0 (length s) 0 rows rows₁ 0 r → count ≤ length rows / 10 → count ≤ length b / 10
+same-room look s rows b rows₁ count r p q h = rw (← p .puts .kept, q .puts .kept) h
 
 -- ROWS WRITTEN SO FAR: those whose sources are written, i of them, and those whose sources are not yet
-pub record Filling (s rows rows′ : List ℕ) (i count : ℕ) : Type 0 where
+pub record Filling (look : Naming) (s rows rows′ : List ℕ) (i count : ℕ) : Type 0 where
   pub done : List ListRow
   pub todo : List ListRow
-  pub listing : Listing s done todo
+  pub listing : Listing look s done todo
   pub at : i ≡ length done
   pub puts : Puts (done ++ todo) rows rows′ 0 count
 
-module _ (s rows : List ℕ) (long : length s ≤ 1048576) where
-  pub filling-start : (rows′ : List ℕ) (r : Part) → PartIs s 0 (length s) 0 rows rows′ 0 r → Filling s rows rows′ 0 (r .count)
-  filling-start rows′ r p = record { done = []; todo = cutRows s 0 (cut s); listing = listing-start s; at = refl; puts = rw (cut-is-part s) (p .puts) }
+module _ (look : Naming) (s rows : List ℕ) (long : length s ≤ 1048576) where
+  pub filling-start : (rows′ : List ℕ) (r : Part) → PartIs look s 0 (length s) 0 rows rows′ 0 r → Filling look s rows rows′ 0 (r .count)
+  filling-start rows′ r p = record { done = []; todo = cutRows look s 0 (cut s); listing = listing-start look s; at = refl; puts = rw (cut-is-part s) (p .puts) }
 
-  module _ (rows′ : List ℕ) (i count : ℕ) (p : Filling s rows rows′ i count) where
-    pub filling-among : count ≤ length (rowsOf s)
+  module _ (rows′ : List ℕ) (i count : ℕ) (p : Filling look s rows rows′ i count) where
+    pub filling-among : count ≤ length (rowsOf look s)
     filling-among =
         let e = p .puts .counted in
         let w = p .listing .whole in
         omega (arith, ap length w, length-append (p .done) (p .todo ++ p .listing .rest), length-append (p .todo) (p .listing .rest), length-append (p .done) (p .todo))
 
     pub filling-few : count ≤ 1048576
-    filling-few = omega (arith, filling-among, rows-few s)
+    filling-few = omega (arith, filling-among, rows-few look s)
 
     fit-at : (n : ℕ) (xs : List ListRow) (r : ListRow) (ys : List ListRow) → AllFit s n (xs ++ r ∷ ys) → Fits s n r
     fit-at n [] r ys q = q .0
@@ -116,7 +117,7 @@ module _ (s rows : List ℕ) (long : length s ≤ 1048576) where
 
       lies-so : Lies s rows′ i count
       lies-so =
-          let q : AllFit s (suc (length s)) (p .done ++ r ∷ (todo ++ p .listing .rest)) = subst (λ (x : List ListRow). AllFit s (suc (length s)) x) (p .listing .whole ∙ ap (λ x. p .done ++ (x ++ p .listing .rest)) e) (rows-fit s) in
+          let q : AllFit s (suc (length s)) (p .done ++ r ∷ (todo ++ p .listing .rest)) = subst (λ (x : List ListRow). AllFit s (suc (length s)) x) (p .listing .whole ∙ ap (λ x. p .done ++ (x ++ p .listing .rest)) e) (rows-fit look s) in
           let l = p .puts .kept in
           record {
             placed = omega arith;
@@ -125,16 +126,16 @@ module _ (s rows : List ℕ) (long : length s ≤ 1048576) where
             few = (h, filling-few);
           }
 
-      next-so : (rows″ : List ℕ) (n : ℕ) → Puts (sourceRows s (i + 1) (rowAt rows′ i)) rows′ rows″ count n → Filling s rows rows″ (i + 1) n
+      next-so : (rows″ : List ℕ) (n : ℕ) → Puts (sourceRows look s (i + 1) (rowAt rows′ i)) rows′ rows″ count n → Filling look s rows rows″ (i + 1) n
       next-so rows″ n q =
-          let sr = sourceRows s (suc (length (p .done))) r in
+          let sr = sourceRows look s (suc (length (p .done))) r in
           let f : i + 1 ≡ suc (length (p .done)) = add-one i ∙ ap suc (p .at) in
           let q′ : Puts sr rows′ rows″ count n = rw (here, f) at q in
           let g : (p .done ++ p .todo) ++ sr ≡ (p .done ++ r ∷ []) ++ (todo ++ sr) = ap (λ x. (p .done ++ x) ++ sr) e ∙ append-assoc (p .done) (r ∷ todo) sr ∙ sym (append-assoc (p .done) (r ∷ []) (todo ++ sr)) in
           record {
             done = p .done ++ r ∷ [];
             todo = todo ++ sr;
-            listing = listing-step s (p .done) r todo (rw e at (p .listing));
+            listing = listing-step look s (p .done) r todo (rw e at (p .listing));
             at = f ∙ sym (length-append (p .done) (r ∷ []) ∙ add-one (length (p .done)));
             puts = rw (← g) (puts-append (p .done ++ p .todo) sr rows rows′ rows″ 0 count n (p .puts) q′);
           }
@@ -153,19 +154,19 @@ module _ (s rows : List ℕ) (long : length s ≤ 1048576) where
           go [] e = absurd (none-not e)
           go (r ∷ todo) e = lies-so h k r todo e
 
-      pub filling-next : (rows″ : List ℕ) (n : ℕ) → Puts (sourceRows s (i + 1) (rowAt rows′ i)) rows′ rows″ count n → Filling s rows rows″ (i + 1) n
+      pub filling-next : (rows″ : List ℕ) (n : ℕ) → Puts (sourceRows look s (i + 1) (rowAt rows′ i)) rows′ rows″ count n → Filling look s rows rows″ (i + 1) n
       filling-next rows″ n q = go (p .todo) refl
         where
-          go : (todo : List ListRow) → p .todo ≡ todo → Filling s rows rows″ (i + 1) n
+          go : (todo : List ListRow) → p .todo ≡ todo → Filling look s rows rows″ (i + 1) n
           go [] e = absurd (none-not e)
           go (r ∷ todo) e = next-so h k r todo e rows″ n q
 
     -- none is left, or there is no room
-    module _ (first : Part) (rows₁ : List ℕ) (q : PartIs s 0 (length s) 0 rows rows₁ 0 first) where
+    module _ (first : Part) (rows₁ : List ℕ) (q : PartIs look s 0 (length s) 0 rows rows₁ 0 first) where
       part : Part
       part = record { count = count; literals = first .literals; to = first .to }
 
-      filled-so : (count * 10 ≤ length rows → (count ≡ length (rowsOf s)) × (rows′ ≡ over rows 0 (tens (rowsOf s)))) → Filled s rows rows′ part
+      filled-so : (count * 10 ≤ length rows → (count ≡ length (rowsOf look s)) × (rows′ ≡ over rows 0 (tens (rowsOf look s)))) → Filled look s rows rows′ part
       unfolding part
       filled-so w =
           record {
@@ -176,52 +177,52 @@ module _ (s rows : List ℕ) (long : length s ≤ 1048576) where
             to = rw (cut-is-part s) (q .to);
           }
 
-      pub filled-short : length rows / 10 < count → Filled s rows rows′ (record { count = count; literals = first .literals; to = first .to })
+      pub filled-short : length rows / 10 < count → Filled look s rows rows′ (record { count = count; literals = first .literals; to = first .to })
       unfolding part
       filled-short h = filled-so (λ k. absurd (omega arith))
 
-      pub filled-whole : count ≤ i → Filled s rows rows′ (record { count = count; literals = first .literals; to = first .to })
+      pub filled-whole : count ≤ i → Filled look s rows rows′ (record { count = count; literals = first .literals; to = first .to })
       unfolding part
       filled-whole h = filled-so (λ k. go (p .todo) refl k)
         where
-          go : (todo : List ListRow) → p .todo ≡ todo → count * 10 ≤ length rows → (count ≡ length (rowsOf s)) × (rows′ ≡ over rows 0 (tens (rowsOf s)))
+          go : (todo : List ListRow) → p .todo ≡ todo → count * 10 ≤ length rows → (count ≡ length (rowsOf look s)) × (rows′ ≡ over rows 0 (tens (rowsOf look s)))
           go [] e k =
-              let f : rowsOf s ≡ p .done = listing-end s (p .done) (rw e at (p .listing)) in
-              let g : p .done ++ p .todo ≡ rowsOf s = ap (λ x. p .done ++ x) e ∙ append-nil (p .done) ∙ sym f in
+              let f : rowsOf look s ≡ p .done = listing-end look s (p .done) (rw e at (p .listing)) in
+              let g : p .done ++ p .todo ≡ rowsOf look s = ap (λ x. p .done ++ x) e ∙ append-nil (p .done) ∙ sym f in
               (p .puts .counted ∙ omega (arith, ap length g), rw g at (p .puts .wrote k))
           go (r ∷ todo) e k = let n = p .puts .counted in absurd (omega (arith, p .at, ap (λ x. length (p .done ++ x)) e, length-append (p .done) (r ∷ todo)))
 
 -- THE CALL
-module _ (s rows : List ℕ) where
-  pub call-long : (rows′ : List ℕ) → 1048576 < length s → rows′ ≡ zeros rows → CallIs (fieldsInto s rows) rows′ TooLong
+module _ (look : Naming) (s rows : List ℕ) where
+  pub call-long : (rows′ : List ℕ) → 1048576 < length s → rows′ ≡ zeros rows → CallIs (fieldsInto look s rows) rows′ TooLong
   unfolding fieldsInto fieldsCall fieldsAfter fieldsNumbers
-  call-long rows′ h e = rw (fields-long s (length rows) h) (record { answer = refl; rows = e })
+  call-long rows′ h e = rw (fields-long look s (length rows) h) (record { answer = refl; rows = e })
 
-  module _ (long : length s ≤ 1048576) (rows₁ : List ℕ) (r : Part) (p : Filled s rows rows₁ r) where
+  module _ (long : length s ≤ 1048576) (rows₁ : List ℕ) (r : Part) (p : Filled look s rows rows₁ r) where
     pub filled-few : r .count ≤ 1048576
-    filled-few = let a = p .among in omega (arith, rows-few s)
+    filled-few = let a = p .among in omega (arith, rows-few look s)
 
-    pub call-short : (rows′ : List ℕ) (n : ℕ) → length rows₁ / 10 < r .count → n ≡ length (rowsOf s) → rows′ ≡ zeros rows₁ → CallIs (fieldsInto s rows) rows′ (Short n)
+    pub call-short : (rows′ : List ℕ) (n : ℕ) → length rows₁ / 10 < r .count → n ≡ length (rowsOf look s) → rows′ ≡ zeros rows₁ → CallIs (fieldsInto look s rows) rows′ (Short n)
     unfolding fieldsInto fieldsCall fieldsAfter fieldsNumbers
     call-short rows′ n h e z =
         let a = p .among in
         let k = p .kept in
-        rw (fields-short s (length rows) long (omega arith), ← e) (record { answer = refl; rows = z ∙ ap (λ m. lib.ListN.replicate m 0) k })
+        rw (fields-short look s (length rows) long (omega arith), ← e) (record { answer = refl; rows = z ∙ ap (λ m. lib.ListN.replicate m 0) k })
 
     module _ (h : r .count ≤ length rows₁ / 10) where
-      whole : (r .count ≡ length (rowsOf s)) × (rows₁ ≡ over rows 0 (tens (rowsOf s)))
+      whole : (r .count ≡ length (rowsOf look s)) × (rows₁ ≡ over rows 0 (tens (rowsOf look s)))
       whole = let k = p .kept in p .whole (omega arith)
 
       pub filled-in : r .count * 10 ≤ length rows₁
       filled-in = omega arith
 
-      pub call-listed : (n : ℕ) → n ≡ refusalsIn (rowsIn rows₁ 0 (r .count)) → CallIs (fieldsInto s rows) rows₁ (Listed (record { rows = r .count; refusals = n; literals = r .literals; to = r .to }))
+      pub call-listed : (n : ℕ) → n ≡ refusalsIn (rowsIn rows₁ 0 (r .count)) → CallIs (fieldsInto look s rows) rows₁ (Listed (record { rows = r .count; refusals = n; literals = r .literals; to = r .to }))
       unfolding fieldsInto fieldsCall fieldsAfter fieldsNumbers
       call-listed n e =
           let k = p .kept in
           let w = whole in
-          let m : length (tens (rowsOf s)) ≤ length rows = omega (arith, tens-length (rowsOf s), w .0) in
-          let f : rows₁ ≡ tens (rowsOf s) ++ drop (length (tens (rowsOf s))) rows = w .1 ∙ over-front rows (tens (rowsOf s)) m in
-          let g : n ≡ refusalsIn (rowsOf s) = e ∙ rw (f, w .0) (ap refusalsIn (rows-back [] 0 (rowsOf s) (drop (length (tens (rowsOf s))) rows) refl)) in
-          rw (fields-given s (length rows) long (omega (arith, w .0)))
+          let m : length (tens (rowsOf look s)) ≤ length rows = omega (arith, tens-length (rowsOf look s), w .0) in
+          let f : rows₁ ≡ tens (rowsOf look s) ++ drop (length (tens (rowsOf look s))) rows = w .1 ∙ over-front rows (tens (rowsOf look s)) m in
+          let g : n ≡ refusalsIn (rowsOf look s) = e ∙ rw (f, w .0) (ap refusalsIn (rows-back [] 0 (rowsOf look s) (drop (length (tens (rowsOf look s))) rows) refl)) in
+          rw (fields-given look s (length rows) long (omega (arith, w .0)))
           (record { answer = (λ j. 0 ∷ w .0 j ∷ g j ∷ p .literals j ∷ p .to j ∷ []); rows = f })

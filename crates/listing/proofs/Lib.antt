@@ -4,3 +4,4 @@ pub mod Written
 pub mod Cutting
 pub mod Filling
 pub mod Counting
+pub mod NamedList

@@ -12,6 +12,7 @@ use lib.Seq.{take-length}
 use borrow.Rule.Slice.PartMut.{putMid, midOf}
 use Rattle.definition.specs.Numbers.{isFString}
 use Rattle.definition.specs.Chars.{if_then_else_}
+use Rattle.definition.specs.Escapes.{Naming}
 use Rattle.definition.specs.Entry.{Literal}
 use Rattle.definition.specs.Rows.{reason, Row, rowNumbers}
 use Rattle.definition.specs.Listing.{ListRow, ofField, ofRefusal, tenOf, tens, readRows, refusalsIn}
@@ -49,9 +50,9 @@ puts-append xs ys rows rows₁ rows₂ count m n a b =
     }
 
 -- THE ROWS OF A LITERAL: of one that is not read; of fields without room, and in a part that is lent for them
-pub not-read : (s : List ℕ) (within : ℕ) (l : Literal) → isFString (l .kind) ≡ false → readRows s within l ≡ []
+pub not-read : (look : Naming) → (s : List ℕ) (within : ℕ) (l : Literal) → isFString (l .kind) ≡ false → readRows look s within l ≡ []
 unfolding readRows
-not-read s within l e = rw (e, readRows)
+not-read look s within l e = rw (e, readRows)
 
 pub puts-short : (xs : List ListRow) (rows : List ℕ) (count n : ℕ) → n ≡ count + length xs → length rows / 10 < n → Puts xs rows rows count n
 puts-short xs rows count n e h = record { counted = e; wrote = λ k. absurd (omega arith); kept = refl }
@@ -110,12 +111,12 @@ pub refusals-done : (rows : List ℕ) (count i n : ℕ) → count ≤ i → refu
 unfolding rowsIn refusalsIn
 refusals-done rows count i n h e = let z : count - i ≡ 0 = omega arith in sym (e ∙ rw (z, add-zero))
 
-pub puts-lent : (s : List ℕ) (w : ℕ) (l : Literal) (rows none none′ : List ℕ) (count n : ℕ) (mid′ : List ℕ) (r : Alone) → Reads (readRows s w l) 0 none none′ n → count + n ≤ length rows / 10
-    → AloneIs s l w 0 (midOf (count * 10) ((count + n) * 10 - count * 10) rows) mid′ r → Puts (readRows s w l) rows (putMid (count * 10) ((count + n) * 10 - count * 10) rows mid′) count (count + n)
+pub puts-lent : (look : Naming) → (s : List ℕ) (w : ℕ) (l : Literal) (rows none none′ : List ℕ) (count n : ℕ) (mid′ : List ℕ) (r : Alone) → Reads (readRows look s w l) 0 none none′ n → count + n ≤ length rows / 10
+    → AloneIs look s l w 0 (midOf (count * 10) ((count + n) * 10 - count * 10) rows) mid′ r → Puts (readRows look s w l) rows (putMid (count * 10) ((count + n) * 10 - count * 10) rows mid′) count (count + n)
 unfolding refusalsIn
-puts-lent s w l rows none none′ count n mid′ (Refused t) a h q = let z : _≡_ {A = ℕ} 1 0 = rw q at (a .fields) in absurd (omega arith)
-puts-lent s w l rows none none′ count n mid′ (Fields m) a h q =
-    let xs = readRows s w l in
+puts-lent look s w l rows none none′ count n mid′ (Refused t) a h q = let z : _≡_ {A = ℕ} 1 0 = rw q at (a .fields) in absurd (omega arith)
+puts-lent look s w l rows none none′ count n mid′ (Fields m) a h q =
+    let xs = readRows look s w l in
     let k = (count + n) * 10 - count * 10 in
     let mid = midOf (count * 10) k rows in
     let e = a .counted in

@@ -4,17 +4,18 @@ use mathlib.Core.Path.{_≡_}
 use mathlib.Core.List.{List, [], _∷_}
 use lib.ListN.{length}
 use Rattle.definition.specs.Numbers.{scriptTooLong, tooLittleListRoom}
+use Rattle.definition.specs.Escapes.{Naming}
 use Rattle.definition.specs.Cut.{cut}
 use Rattle.definition.specs.Listing.{tens, reached, rowsOf, FieldsCall, fieldsNumbers}
 use Rattle.buffers.specs.Over.{over}
 use Rattle.listing.specs.declared.Fields.{Fields}
-use Rattle.listing.specs.declared.Fields.the-variants.{Listed, TooLong, Short}
+use Rattle.listing.specs.declared.Fields.the-variants.{Listed, TooLong, WrongNames, Short}
 use Rattle.listing.specs.declared.rows.Part.{Part}
 
 -- the rows of a script, written as long as there is room, with the literals of its cut and how far it went
-pub record Filled (s rows rows′ : List ℕ) (r : Part) : Type 0 where
-  pub among : r .count ≤ length (rowsOf s)
-  pub whole : r .count * 10 ≤ length rows → (r .count ≡ length (rowsOf s)) × (rows′ ≡ over rows 0 (tens (rowsOf s)))
+pub record Filled (look : Naming) (s rows rows′ : List ℕ) (r : Part) : Type 0 where
+  pub among : r .count ≤ length (rowsOf look s)
+  pub whole : r .count * 10 ≤ length rows → (r .count ≡ length (rowsOf look s)) × (rows′ ≡ over rows 0 (tens (rowsOf look s)))
   pub kept : length rows′ ≡ length rows
   pub literals : r .literals ≡ length (cut s .literals)
   pub to : r .to ≡ reached (length s) (cut s .ending)
@@ -23,6 +24,7 @@ pub record Filled (s rows rows′ : List ℕ) (r : Part) : Type 0 where
 abbrev pub says : Fields → List ℕ
 says (Listed x) = 0 ∷ x .rows ∷ x .refusals ∷ x .literals ∷ x .to ∷ []
 says TooLong = scriptTooLong ∷ []
+says (WrongNames n) = n ∷ []
 says (Short n) = tooLittleListRoom ∷ 0 ∷ 0 ∷ 0 ∷ 0 ∷ 0 ∷ 0 ∷ 0 ∷ 0 ∷ n ∷ []
 
 -- a call of the definition: what is answered, and the row buffer afterwards

@@ -3,6 +3,7 @@ use Prim.Native.Nat.{ℕ, suc, _+_, _*_, _≤_, _<_}
 use mathlib.Core.Path.{_≡_}
 use mathlib.Core.List.{List}
 use lib.ListN.{length, take, drop}
+use Rattle.definition.specs.Escapes.{Naming}
 use Rattle.definition.specs.Entry as d
 use Rattle.definition.specs.Listing.{ListRow, readRows, refusalsIn}
 use Rattle.definition.proofs.PartLaws.{InPart}
@@ -12,8 +13,8 @@ use Rattle.listing.specs.declared.count.Window.{Window}
 use Rattle.listing.specs.Put.{rowsIn}
 
 -- these rows, and all rows of their sources
-abbrev pub total : List ℕ → List ListRow → ℕ
-total s rs = countRows (suc (length s)) s rs
+abbrev pub total : (look : Naming) → List ℕ → List ListRow → ℕ
+total look s rs = countRows look (suc (length s)) s rs
 
 -- a literal of a part of a script that is not too long
 pub record Found (s : List ℕ) (l : d.Literal) : Type 0 where
@@ -24,14 +25,14 @@ pub record Found (s : List ℕ) (l : d.Literal) : Type 0 where
   pub not-long : length s ≤ 1048576
 
 -- 128 rows of a literal, or as many as there are, from a number on; and how many it has in all
-pub record Seen (s : List ℕ) (xs : List ListRow) (seen : ℕ) (r : Window) : Type 0 where
+pub record Seen (look : Naming) (s : List ℕ) (xs : List ListRow) (seen : ℕ) (r : Window) : Type 0 where
   pub all : r .all ≡ length xs
-  pub counted : r .rows ≡ total s (take 128 (drop seen xs))
+  pub counted : r .rows ≡ total look s (take 128 (drop seen xs))
 
 -- so many rows of fields stand in a block, and their sources in the script
-pub record Block (s block : List ℕ) (n : ℕ) : Type 0 where
+pub record Block (look : Naming) (s block : List ℕ) (n : ℕ) : Type 0 where
   pub room : n * 10 ≤ length block
   pub fields : refusalsIn (rowsIn block 0 n) ≡ 0
   pub fit : AllFit s (suc (length s)) (rowsIn block 0 n)
-  pub few : total s (rowsIn block 0 n) ≤ 1048576
+  pub few : total look s (rowsIn block 0 n) ≤ 1048576
   pub not-long : length s ≤ 1048576

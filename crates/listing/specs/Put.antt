@@ -5,6 +5,7 @@ use mathlib.Core.List.{List, [], _∷_}
 use lib.Dec.{eqb}
 use lib.ListN.{length, take, drop, getD}
 use Rattle.definition.specs.Chars.{if_then_else_}
+use Rattle.definition.specs.Escapes.{Naming}
 use Rattle.definition.specs.Entry.{Literal}
 use Rattle.definition.specs.Reading.{inFront}
 use Rattle.definition.specs.Cut.{cutPart}
@@ -35,9 +36,9 @@ pub record Reads (xs : List ListRow) (skip : ℕ) (rows rows′ : List ℕ) (n :
   pub few : n < 4294967296
   pub wrote : rows′ ≡ inFront (take (length rows) (drop (skip * 10) (tens xs))) rows
 
-abbrev pub AloneIs : (s : List ℕ) → Literal → (within skip : ℕ) → (rows rows′ : List ℕ) → Alone → Type 0
-AloneIs s l within skip rows rows′ (Fields n) = Reads (readRows s within l) skip rows rows′ n
-AloneIs s l within skip rows rows′ (Refused t) = readRows s within l ≡ refusalRow within t ∷ []
+abbrev pub AloneIs : (look : Naming) → (s : List ℕ) → Literal → (within skip : ℕ) → (rows rows′ : List ℕ) → Alone → Type 0
+AloneIs look s l within skip rows rows′ (Fields n) = Reads (readRows look s within l) skip rows rows′ n
+AloneIs look s l within skip rows rows′ (Refused t) = readRows look s within l ≡ refusalRow within t ∷ []
 
 -- a part lies in a script that is not too long, behind not too many rows
 pub record Bounded (s : List ℕ) (from end count : ℕ) : Type 0 where
@@ -47,8 +48,8 @@ pub record Bounded (s : List ℕ) (from end count : ℕ) : Type 0 where
   pub few : count ≤ 2097152
 
 -- a part that was cut
-pub record PartIs (s : List ℕ) (from end within : ℕ) (rows rows′ : List ℕ) (count : ℕ) (r : Part) : Type 0 where
-  pub puts : Puts (cutRows s within (cutPart s from end)) rows rows′ count (r .count)
+pub record PartIs (look : Naming) (s : List ℕ) (from end within : ℕ) (rows rows′ : List ℕ) (count : ℕ) (r : Part) : Type 0 where
+  pub puts : Puts (cutRows look s within (cutPart s from end)) rows rows′ count (r .count)
   pub literals : r .literals ≡ length (cutPart s from end .literals)
   pub to : r .to ≡ reached end (cutPart s from end .ending)
 

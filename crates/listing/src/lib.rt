@@ -12,6 +12,9 @@ ghost use mathlib.Core.Path.{_≡_};
 ghost use Prim.Native.Nat.{_*_, _≤_};
 ghost use lib.ListN.{length};
 ghost use Rattle.definition.specs.Listing.{refusalsIn, fieldsInto};
+ghost use Rattle.definition.specs.Escapes.{heldNames};
+ghost use Rattle.definition.specs.NamedReading.{fieldsNamedInto};
+ghost use Rattle.escapes.specs.Answers.{namesBy};
 ghost use Rattle.listing.specs.Put.{rowsIn, refusal};
 ghost use Rattle.listing.specs.Answers.{Filled, CallIs};
 
@@ -23,20 +26,21 @@ pub struct List {
     pub to: u32,
 }
 
-// A list; or that the script is too long, or how many rows a buffer does not hold.
+// A list; or that the script is too long, the number of what is wrong with a file of names or its index, or how many rows a buffer does not hold.
 pub enum Fields {
     Listed(List),
     TooLong,
+    WrongNames(u32),
     Short(u32),
 }
 
 // The rows of the script's cut and then those of the source of each row, as long as there is room.
-fn fill(script: &[u8], rows: &mut [u32]) -> Part
+fn fill(script: &[u8], rows: &mut [u32], lent: bool, file: &[u8], index: &[u32]) -> Part
     requires { ⌜ length (now script) ≤ 1048576 ⌝ }
-    ensures { λ r. ⌜ Filled (now (script .entry)) (now (rows .entry)) (now (rows .exit)) r ⌝ }
+    ensures { λ r. ⌜ Filled (namesBy lent (now (file .entry)) (now (index .entry))) (now (script .entry)) (now (rows .entry)) (now (rows .exit)) r ⌝ }
 {
     let room = rows.len() / 10;
-    let first = cut_rows(script, 0, script.len(), 0, rows, 0);
+    let first = cut_rows(script, 0, script.len(), 0, rows, 0, lent, file, index);
     let mut count = first.count;
     let mut i = 0;
     while i < count {
@@ -47,7 +51,7 @@ fn fill(script: &[u8], rows: &mut [u32]) -> Part
                 to: first.to,
             };
         }
-        count = source_rows(script, rows, i, count);
+        count = source_rows(script, rows, i, count, lent, file, index);
         i += 1;
     }
     Part {
@@ -82,20 +86,16 @@ fn refusals_in(rows: &[u32], count: usize) -> usize
     n
 }
 
-// Lists every field of a script, ten numbers for each row.
-pub fn list_fields(script: &[u8], rows: &mut [u32]) -> Fields
-    ensures { λ r. ⌜ CallIs (fieldsInto (now (script .entry)) (now (rows .entry))) (now (rows .exit)) r ⌝ }
+// Lists every field of a script that is not too long: names are looked up in a file if one is lent, with an index beside it.
+fn list_by(script: &[u8], rows: &mut [u32], lent: bool, file: &[u8], index: &[u32]) -> Fields
+    requires { ⌜ length (now script) ≤ 1048576 ⌝ }
+    ensures { λ r. ⌜ CallIs (fieldsInto (namesBy lent (now (file .entry)) (now (index .entry))) (now (script .entry)) (now (rows .entry))) (now (rows .exit)) r ⌝ }
 {
-    let len = script.len();
-    if 1048576 < len {
-        fill_words(rows, 0);
-        return Fields::TooLong;
-    }
-    let filled = fill(script, rows);
+    let filled = fill(script, rows, lent, file, index);
     let count = filled.count;
     if rows.len() / 10 < count {
         fill_words(rows, 0);
-        return Fields::Short(count_part(script, 0, len) as u32);
+        return Fields::Short(count_part(script, 0, script.len(), lent, file, index) as u32);
     }
     Fields::Listed(List {
         rows: count as u32,
@@ -103,4 +103,34 @@ pub fn list_fields(script: &[u8], rows: &mut [u32]) -> Fields
         literals: filled.literals,
         to: filled.to,
     })
+}
+
+// Lists every field of a script, ten numbers for each row.
+pub fn list_fields(script: &[u8], rows: &mut [u32]) -> Fields
+    ensures { λ r. ⌜ CallIs (fieldsInto heldNames (now (script .entry)) (now (rows .entry))) (now (rows .exit)) r ⌝ }
+{
+    if 1048576 < script.len() {
+        fill_words(rows, 0);
+        return Fields::TooLong;
+    }
+    let file = [0u8; 0];
+    let index = [0u32; 0];
+    list_by(script, rows, false, &file, &index)
+}
+
+// Lists them as `list_fields` does, with the names of a file, which is checked with its index once.
+pub fn list_named(script: &[u8], file: &[u8], index: &[u32], rows: &mut [u32]) -> Fields
+    ensures { λ r. ⌜ CallIs (fieldsNamedInto (now (file .entry)) (now (index .entry)) (now (script .entry)) (now (rows .entry))) (now (rows .exit)) r ⌝ }
+{
+    if 1048576 < script.len() {
+        fill_words(rows, 0);
+        return Fields::TooLong;
+    }
+    match names::check(file, index) {
+        names::Answer::Refused(number) => {
+            fill_words(rows, 0);
+            Fields::WrongNames(number)
+        }
+        names::Answer::Entries(_) => list_by(script, rows, true, file, index),
+    }
 }

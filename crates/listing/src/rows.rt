@@ -17,6 +17,7 @@ ghost use Rattle.definition.specs.Numbers.{isFString};
 ghost use Rattle.definition.specs.Cut.{cutPart};
 ghost use Rattle.definition.specs.Listing.{readRows, tenOf, sourceEnd, otherwiseRow, sourceRows};
 ghost use Rattle.buffers.specs.Over.{over};
+ghost use Rattle.escapes.specs.Answers.{namesBy};
 ghost use Rattle.literals.specs.Answers.{literalOf};
 ghost use Rattle.listing.specs.Odd.{signsOf, rowOf, Source};
 ghost use Rattle.listing.specs.Put.{refusalRow, AloneIs, rowAt, fieldOf, Puts, PartIs, Lies, Bounded};
@@ -59,12 +60,21 @@ pub(crate) fn is_fstring(kind: u32) -> bool
 }
 
 // Reads an f-string alone; the rows of its fields from number `skip` on are written, as far as there is room.
-pub(crate) fn read_alone(s: &[u8], l: Literal, within: u32, skip: u32, rows: &mut [u32]) -> Alone
+pub(crate) fn read_alone(
+    s: &[u8],
+    l: Literal,
+    within: u32,
+    skip: u32,
+    rows: &mut [u32],
+    lent: bool,
+    file: &[u8],
+    index: &[u32],
+) -> Alone
     requires { ⌜ isFString (l .kind) ≡ true ⌝ }
-    ensures { λ r. ⌜ AloneIs (now (s .entry)) (literalOf l) within skip (now (rows .entry)) (now (rows .exit)) r ⌝ }
+    ensures { λ r. ⌜ AloneIs (namesBy lent (now (file .entry)) (now (index .entry))) (now (s .entry)) (literalOf l) within skip (now (rows .entry)) (now (rows .exit)) r ⌝ }
 {
     let numbers = [l.kind, l.triple, l.offset, l.size, l.start, l.end];
-    match parse_window(s, &numbers, within, skip, rows) {
+    match parse_window(s, &numbers, within, skip, rows, lent, file, index) {
         Outcome::Accepted(x) => Alone::Fields(x.records as usize),
         Outcome::Refused(r) => Alone::Refused(Told {
             start: l.start,
@@ -97,12 +107,21 @@ fn put_refusal(rows: &mut [u32], count: usize, within: u32, t: Told)
 }
 
 // Writes the rows of an f-string behind so many: its fields, or its one refusal. Says how many there are then.
-fn fstring_rows(s: &[u8], l: Literal, within: u32, rows: &mut [u32], count: usize) -> usize
+fn fstring_rows(
+    s: &[u8],
+    l: Literal,
+    within: u32,
+    rows: &mut [u32],
+    count: usize,
+    lent: bool,
+    file: &[u8],
+    index: &[u32],
+) -> usize
     requires { ⌜ (isFString (l .kind) ≡ true) × (count < 4294967296) ⌝ }
-    ensures { λ r. ⌜ Puts (readRows (now (s .entry)) within (literalOf l)) (now (rows .entry)) (now (rows .exit)) count r ⌝ }
+    ensures { λ r. ⌜ Puts (readRows (namesBy lent (now (file .entry)) (now (index .entry))) (now (s .entry)) within (literalOf l)) (now (rows .entry)) (now (rows .exit)) count r ⌝ }
 {
     let mut none = [0u32; 0];
-    match read_alone(s, l, within, 0, &mut none) {
+    match read_alone(s, l, within, 0, &mut none, lent, file, index) {
         Alone::Refused(t) => {
             put_refusal(rows, count, within, t);
             count + 1
@@ -114,19 +133,28 @@ fn fstring_rows(s: &[u8], l: Literal, within: u32, rows: &mut [u32], count: usiz
             }
             let from = count * 10;
             let end = to * 10;
-            read_alone(s, l, within, 0, &mut rows[from..end]);
+            read_alone(s, l, within, 0, &mut rows[from..end], lent, file, index);
             to
         }
     }
 }
 
 // Writes the rows of a literal behind so many. Only f-strings are read.
-fn literal_rows(s: &[u8], l: Literal, within: u32, rows: &mut [u32], count: usize) -> usize
+fn literal_rows(
+    s: &[u8],
+    l: Literal,
+    within: u32,
+    rows: &mut [u32],
+    count: usize,
+    lent: bool,
+    file: &[u8],
+    index: &[u32],
+) -> usize
     requires { ⌜ count < 4294967296 ⌝ }
-    ensures { λ r. ⌜ Puts (readRows (now (s .entry)) within (literalOf l)) (now (rows .entry)) (now (rows .exit)) count r ⌝ }
+    ensures { λ r. ⌜ Puts (readRows (namesBy lent (now (file .entry)) (now (index .entry))) (now (s .entry)) within (literalOf l)) (now (rows .entry)) (now (rows .exit)) count r ⌝ }
 {
     if is_fstring(l.kind) {
-        return fstring_rows(s, l, within, rows, count);
+        return fstring_rows(s, l, within, rows, count, lent, file, index);
     }
     count
 }
@@ -139,9 +167,12 @@ pub(crate) fn cut_rows(
     within: u32,
     rows: &mut [u32],
     count: usize,
+    lent: bool,
+    file: &[u8],
+    index: &[u32],
 ) -> Part
     requires { ⌜ Bounded (now s) from end count ⌝ }
-    ensures { λ r. ⌜ PartIs (now (s .entry)) from end within (now (rows .entry)) (now (rows .exit)) count r ⌝ }
+    ensures { λ r. ⌜ PartIs (namesBy lent (now (file .entry)) (now (index .entry))) (now (s .entry)) from end within (now (rows .entry)) (now (rows .exit)) count r ⌝ }
 {
     let mut at = from;
     let mut done = count;
@@ -179,7 +210,7 @@ pub(crate) fn cut_rows(
                 };
             }
             Next::Literal(l) => {
-                done = literal_rows(s, l, within, rows, done);
+                done = literal_rows(s, l, within, rows, done, lent, file, index);
                 literals += 1;
                 at = l.end as usize;
             }
@@ -225,9 +256,17 @@ fn otherwise_row(s: &[u8], f: Field, within: u32, rows: &mut [u32], count: usize
 }
 
 // Writes the rows of the source of row number i, from 0.
-pub(crate) fn source_rows(s: &[u8], rows: &mut [u32], i: usize, count: usize) -> usize
+pub(crate) fn source_rows(
+    s: &[u8],
+    rows: &mut [u32],
+    i: usize,
+    count: usize,
+    lent: bool,
+    file: &[u8],
+    index: &[u32],
+) -> usize
     requires { ⌜ Lies (now s) (now rows) i count ⌝ }
-    ensures { λ r. ⌜ Puts (sourceRows (now (s .entry)) (i + 1) (rowAt (now (rows .entry)) i)) (now (rows .entry)) (now (rows .exit)) count r ⌝ }
+    ensures { λ r. ⌜ Puts (sourceRows (namesBy lent (now (file .entry)) (now (index .entry))) (now (s .entry)) (i + 1) (rowAt (now (rows .entry)) i)) (now (rows .entry)) (now (rows .exit)) count r ⌝ }
 {
     let at = i * 10;
     if rows[at] == REFUSAL {
@@ -236,6 +275,16 @@ pub(crate) fn source_rows(s: &[u8], rows: &mut [u32], i: usize, count: usize) ->
     let f = field_at(rows, i);
     let within = (i + 1) as u32;
     let told = otherwise_row(s, f, within, rows, count);
-    let part = cut_rows(s, f.place as usize, source_end(f), within, rows, told);
+    let part = cut_rows(
+        s,
+        f.place as usize,
+        source_end(f),
+        within,
+        rows,
+        told,
+        lent,
+        file,
+        index,
+    );
     part.count
 }

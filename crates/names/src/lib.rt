@@ -5,6 +5,7 @@ ghost use Prim.Native.Nat.{_≤_, _<_, _^_};
 ghost use lib.Dec.{eqb};
 ghost use lib.ListN.{length};
 ghost use Rattle.definition.specs.Chars.{byte};
+ghost use Rattle.definition.specs.Escapes.{hexDigit};
 ghost use Rattle.definition.specs.Reading.{zeros};
 ghost use Rattle.definition.specs.Names.{isScalar, namedFrom, named, scalarAt, searched, check, buildInto};
 ghost use Rattle.definition.specs.IsIndex.{bit, startsAt, isStart, inOrder, Rising};
@@ -69,6 +70,18 @@ const NO_VALUE: u32 = 0x1000000;
 // Past every code.
 const NO_CODE: u32 = 0x110000;
 
+// The value of a hex digit; 16 if the character is none.
+pub fn hex_digit(c: u32) -> u32
+    ensures { λ r. ⌜ r ≡ hexDigit c ⌝ }
+{
+    match c {
+        48..=57 => c - 48,
+        65..=70 => c - 55,
+        97..=102 => c - 87,
+        _ => 16,
+    }
+}
+
 // The value of the hex digits at an index.
 fn read_digits(file: &[u8], at: usize) -> Digits
     ensures { λ r. ⌜ DigitsOf (now (file .entry)) at (r .value) (r .mark) ⌝ }
@@ -80,7 +93,7 @@ fn read_digits(file: &[u8], at: usize) -> Digits
         if b == b';' {
             return Digits { value: v, mark: i };
         }
-        let d = escapes::hex_digit(b as u32);
+        let d = hex_digit(b as u32);
         if 16 <= d {
             return Digits {
                 value: NO_VALUE,

@@ -9,6 +9,7 @@ use lib.ListN.{length, replicate}
 use Rattle.definition.specs.Records.{Role, covers, Item, Record, Answer, Sort, answerOf, merged, texts, laid, cover, wordsOf}
 use Rattle.definition.specs.Entry.{Literal, refusal, firstStart, anyOf}
 use Rattle.definition.specs.Numbers.{isBytes, isFString}
+use Rattle.definition.specs.Escapes.{Naming}
 use Rattle.definition.specs.Reading.{accepts, refuses, readFrom, sortOf, sortNumber, uMark, lastEnd, allChars, answered, outcomeOf, roomFor, roomed, Call, called, readNumbers, wordsAfter, textAfter, allWords, numbers, zeros}
 use Rattle.definition.specs.Reading as o
 use Rattle.definition.proofs.Laid.{laid-length}
@@ -167,16 +168,16 @@ module _ (w : Whole) (ls : List Literal) (n : ℕ) (words text words′ : List �
       ((λ i. 0 ∷ s i ∷ p i .mark ∷ p i .start ∷ p i .end ∷ a .count ∷ a .used ∷ 0 ∷ m i ∷ []))
 
 -- LITERALS THAT PASSED THE CHECKS
-module _ (script ns : List ℕ) (n : ℕ) (words text : List ℕ) (P : Passed script ns n) where
+module _ (look : Naming) (script ns : List ℕ) (n : ℕ) (words text : List ℕ) (P : Passed script ns n) where
   abbrev ls : List Literal
   ls = literals ns 0 n
 
-  pub refused-list : (x : Refusal) → answered script ls (readFrom script 0 ls) ≡ refuses (refusalOf x) → readNumbers script ns words text ≡ called (why x) words text
+  pub refused-list : (x : Refusal) → answered script ls (readFrom look script 0 ls) ≡ refuses (refusalOf x) → readNumbers look script ns words text ≡ called (why x) words text
   unfolding roomed
-  refused-list x e = passed-reads script ns words text n P ∙ rw (e, roomed)
+  refused-list x e = passed-reads look script ns words text n P ∙ rw (e, roomed)
 
-  pub accepted-call : (w : Whole) (words₁ text₁ words′ text′ : List ℕ) (k : Sink) (r : Outcome) (chars : ℕ) → chars ≡ allChars script ls → wholeOf w ≡ wholeFor ls → All (readFrom script 0 ls) (wholeOf w) words text words₁ text₁ k
-      → Finished w ls chars words₁ text₁ k words′ text′ r → CallIs (readNumbers script ns words text) words′ text′ r
+  pub accepted-call : (w : Whole) (words₁ text₁ words′ text′ : List ℕ) (k : Sink) (r : Outcome) (chars : ℕ) → chars ≡ allChars script ls → wholeOf w ≡ wholeFor ls → All (readFrom look script 0 ls) (wholeOf w) words text words₁ text₁ k
+      → Finished w ls chars words₁ text₁ k words′ text′ r → CallIs (readNumbers look script ns words text) words′ text′ r
   accepted-call w words₁ text₁ words′ text′ k r chars m e A f =
-      rw (passed-reads script ns words text n P, A .reads)
-      (f script (roleFor ls) (A .items) words text m (covers-role ls) (subst (λ v. Tops v (roleFor ls) (A .items)) (sym e) (tops-read script 0 ls (A .items) (P .unmixed) (A .reads))) e (A .wrote))
+      rw (passed-reads look script ns words text n P, A .reads)
+      (f script (roleFor ls) (A .items) words text m (covers-role ls) (subst (λ v. Tops v (roleFor ls) (A .items)) (sym e) (tops-read look script 0 ls (A .items) (P .unmixed) (A .reads))) e (A .wrote))

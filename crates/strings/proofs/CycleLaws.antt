@@ -6,6 +6,7 @@ use Prim.Native.Nat.{ℕ, suc, _+_, _-_, _*_, _≤_, _<_}
 use native.Mathlib.Omega.{arith}
 use lib.ListN.{length}
 use Rattle.definition.specs.Chars.{_is_, code, part}
+use Rattle.definition.specs.Escapes.{Naming}
 use Rattle.definition.specs.Escapes as d
 use Rattle.definition.specs.Body.{Signs, Piece, spec, direct, filled, fresh, calls, textN, fieldN, specN, enough, firstEnd}
 use Rattle.definition.specs.Rows.{rowNumbers}
@@ -29,10 +30,10 @@ use Rattle.strings.proofs.FstringLaws.{before-spec, signsOf, one-part, 
 use Rattle.strings.proofs.RowLaws.{Rowing, closed-signed, field-signed, filled-signed, both-signed, read-signed, to-sign, few-field, text-few, goes-on, placed, head-in}
 
 -- A FIELD, whose head was read and emitted
-module _ (s : List ℕ) (depth from : ℕ) (fr : Frame) (k : Sink) (h : Head) (parts : ℕ) (text text₁ words words₁ text₂ : List ℕ) (a : Sink) (c : EndedIs s from (k .used) h parts text text₁)
+module _ (look : Naming) (s : List ℕ) (depth from : ℕ) (fr : Frame) (k : Sink) (h : Head) (parts : ℕ) (text text₁ words words₁ text₂ : List ℕ) (a : Sink) (c : EndedIs s from (k .used) h parts text text₁)
     (m : (e T : List ℕ) (g : Signs) → h .used ≡ k .used + length e → text₁ ≡ over T (k .used) e → Emits fr depth (before-spec depth e h parts from g) words T words₁ text₂ k a) where
   abbrev read : d.Read (List Piece)
-  read = fieldN (enough s) (fr .kind) s depth from from fresh
+  read = fieldN look (enough s) (fr .kind) s depth from from fresh
 
   -- its `}` ended it
   module _ (z : parts ≡ 0) where
@@ -46,8 +47,8 @@ module _ (s : List ℕ) (depth from : ℕ) (fr : Frame) (k : Sink) (h : Head) (p
     pub closed-returns : (rows rows₁ : List ℕ) (fields : ℕ) → Through (fr .window) rows rows₁ (fields * 10) (rowNumbers (fr .window .within) (rowOf fr h (h .used - k .used) parts from 0 (h .at .at)))
         → ReadIs read fr depth words text words₁ text₂ k (Done (h .at) a (fields + 1)) × SignedBy read fr rows rows₁ fields (fields + 1)
     closed-returns rows rows₁ fields p = (
-      closed-field s depth from (k .used) fr text text₁ h closed words words₁ text₂ k a (fields + 1) (emitted (signsOf h 0 (h .at .at))),
-      to-sign read _ (h .at .at) (fields + 1) fr rows rows₁ fields (closed-reads s depth from (k .used) fr text text₁ h closed)
+      closed-field look s depth from (k .used) fr text text₁ h closed words words₁ text₂ k a (fields + 1) (emitted (signsOf h 0 (h .at .at))),
+      to-sign read _ (h .at .at) (fields + 1) fr rows rows₁ fields (closed-reads look s depth from (k .used) fr text text₁ h closed)
           (closed-signed fr depth (closed .head .expression) h 0 from 0 (h .at .at) (h .used - k .used) rows rows rows₁ fields (omega (arith, closed .head .grown)) (rw z at p) refl),
     )
 
@@ -70,86 +71,86 @@ module _ (s : List ℕ) (depth from : ℕ) (fr : Frame) (k : Sink) (h : Head) (p
     )
 
     -- its spec was refused
-    pub spec-refuses : (words′ text′ words₂ text₃ : List ℕ) (x : Refusal) → SpecIs (specN (enough s) (fr .kind) s depth (h .at .at)) fr depth words₁ text₂ words₂ text₃ a (Refused x) → ReadIs read fr depth words text words′ text′ k (Refused x)
+    pub spec-refuses : (words′ text′ words₂ text₃ : List ℕ) (x : Refusal) → SpecIs (specN look (enough s) (fr .kind) s depth (h .at .at)) fr depth words₁ text₂ words₂ text₃ a (Refused x) → ReadIs read fr depth words text words′ text′ k (Refused x)
     spec-refuses words′ text′ words₂ text₃ x q =
         to-refuse (λ l. l) fr depth words text words′ text′ k read x
-        (unformatted-field s depth from (k .used) (fr .kind) text text₁ h opened (faultOf x) (refuses _ fr depth words₁ text₂ words₂ text₃ a _ x q))
+        (unformatted-field look s depth from (k .used) (fr .kind) text text₁ h opened (faultOf x) (refuses _ fr depth words₁ text₂ words₂ text₃ a _ x q))
 
     -- or read
-    module _ (words₂ text₃ : List ℕ) (to : Cursor) (b : Sink) (count : ℕ) (q : SpecIs (specN (enough s) (fr .kind) s depth (h .at .at)) fr depth words₁ text₂ words₂ text₃ a (Done to b count)) where
-      answer : Gave (λ ps. spec (direct (suc depth) ps) ∷ ps) (specN (enough s) (fr .kind) s depth (h .at .at)) fr depth words₁ text₂ words₂ text₃ a (to .at) b
+    module _ (words₂ text₃ : List ℕ) (to : Cursor) (b : Sink) (count : ℕ) (q : SpecIs (specN look (enough s) (fr .kind) s depth (h .at .at)) fr depth words₁ text₂ words₂ text₃ a (Done to b count)) where
+      answer : Gave (λ ps. spec (direct (suc depth) ps) ∷ ps) (specN look (enough s) (fr .kind) s depth (h .at .at)) fr depth words₁ text₂ words₂ text₃ a (to .at) b
       answer = gave _ fr depth words₁ text₂ words₂ text₃ a _ to b count q
 
       pub end-refuses : (words′ text′ : List ℕ) (x : Refusal) → end.Refused x ≡ fieldEnd s (to .at) (h .blank) → ReadIs read fr depth words text words′ text′ k (Refused x)
       end-refuses words′ text′ x e =
-          to-refuse (λ l. l) fr depth words text words′ text′ k read x (spec-unended s depth from (k .used) fr text text₁ h opened (answer .pieces) (to .at) (answer .reads) x e)
+          to-refuse (λ l. l) fr depth words text words′ text′ k read x (spec-unended look s depth from (k .used) fr text text₁ h opened (answer .pieces) (to .at) (answer .reads) x e)
 
       module _ (close : Cursor) (e : end.At close ≡ fieldEnd s (to .at) (h .blank)) where
         pub spec-placed : Room s from fr k → Placed fr h (h .used - k .used) from (h .at .at) (close .at)
         spec-placed R =
             placed calls s from (k .used) fr k h text text₁ (h .at .at) (close .at) opened R (head-in calls s from (k .used) h text text₁ opened)
-            (spec-ended s depth from (k .used) fr text text₁ h opened (answer .pieces) (to .at) (answer .reads) close e .1)
+            (spec-ended look s depth from (k .used) fr text text₁ h opened (answer .pieces) (to .at) (answer .reads) close e .1)
 
         pub spec-returns : (rows rows₁ rows₂ : List ℕ) (fields : ℕ) → Through (fr .window) rows₁ rows₂ (fields * 10) (rowNumbers (fr .window .within) (rowOf fr h (h .used - k .used) parts from (h .at .at) (close .at)))
-            → SignedBy (specN (enough s) (fr .kind) s depth (h .at .at)) fr rows rows₁ (fields + 1) count
+            → SignedBy (specN look (enough s) (fr .kind) s depth (h .at .at)) fr rows rows₁ (fields + 1) count
             → ReadIs read fr depth words text words₂ text₃ k (Done close b count) × SignedBy read fr rows rows₂ fields count
         spec-returns rows rows₁ rows₂ fields p y = (
-          specified-field s depth from (k .used) fr text text₁ h opened (answer .pieces) (to .at) (answer .reads) close e words words₁ text₂ words₂ text₃ k a b count begun (answer .emits),
-          to-sign read _ (close .at) count fr rows rows₂ fields (spec-ended s depth from (k .used) fr text text₁ h opened (answer .pieces) (to .at) (answer .reads) close e .0)
+          specified-field look s depth from (k .used) fr text text₁ h opened (answer .pieces) (to .at) (answer .reads) close e words words₁ text₂ words₂ text₃ k a b count begun (answer .emits),
+          to-sign read _ (close .at) count fr rows rows₂ fields (spec-ended look s depth from (k .used) fr text text₁ h opened (answer .pieces) (to .at) (answer .reads) close e .0)
               (field-signed fr depth (opened .expression) h 1 from (h .at .at) (close .at) (h .used - k .used) rows rows₁ rows₂ fields (omega (arith, opened .grown)) (rw one at p) (answer .pieces) count _
               (read-signed _ (answer .pieces) (to .at) count fr rows rows₁ (fields + 1) (answer .reads) y)),
         )
 
 -- TEXT up to a field, and the field
-module _ (s : List ℕ) (depth at : ℕ) (fr : Frame) (words text words₁ text₁ : List ℕ) (k : Sink) (i : ℕ) (a : Sink) (S : Sofar s (fr .kind) depth at fr words text words₁ text₁ k i a)
-    (f end : ℕ) (text₂ : List ℕ) (U : OpensBefore (fr .kind) s depth i (a .used) text₁ text₂ f end) (words₂ : List ℕ) (b : Sink)
+module _ (look : Naming) (s : List ℕ) (depth at : ℕ) (fr : Frame) (words text words₁ text₁ : List ℕ) (k : Sink) (i : ℕ) (a : Sink) (S : Sofar look s (fr .kind) depth at fr words text words₁ text₁ k i a)
+    (f end : ℕ) (text₂ : List ℕ) (U : OpensBefore look (fr .kind) s depth i (a .used) text₁ text₂ f end) (words₂ : List ℕ) (b : Sink)
     (g : (t T : List ℕ) → end ≡ a .used + length t → Emits fr depth (filled depth t) words₁ T words₂ (over T (a .used) t) a b) where
   -- there is room for it, and it lies ahead
   pub field-asks : (n : ℕ) → n ≤ a .count → Room s f fr b × (n ≤ b .count) × (at < f)
   field-asks n l =
       let p = next-past s (U .brace) (U .there) in
       let q = next-in s (U .brace) (U .stops .upto .inside) in (
-        room-text s depth at fr words text words₁ text₁ k i a S (U .brace) end calls text₂ (U .stops) words₂ b g f (omega (arith, p, U .after)) (omega (arith, q, U .after)),
-        text-few s depth at fr words text words₁ text₁ k i a S (U .brace) end calls text₂ (U .stops) words₂ b g n l,
+        room-text look s depth at fr words text words₁ text₁ k i a S (U .brace) end calls text₂ (U .stops) words₂ b g f (omega (arith, p, U .after)) (omega (arith, q, U .after)),
+        text-few look s depth at fr words text words₁ text₁ k i a S (U .brace) end calls text₂ (U .stops) words₂ b g n l,
         omega (arith, S .later, U .stops .upto .ahead, p, U .after),
       )
 
-  pub field-refuses : (words₃ text₃ : List ℕ) (x : Refusal) → ReadIs (fieldN (enough s) (fr .kind) s depth f f fresh) fr depth words₂ text₂ words₃ text₃ b (Refused x)
-      → (words′ text′ : List ℕ) → ReadIs (textN (enough s) (fr .kind) s depth at [] []) fr depth words text words′ text′ k (Refused x)
+  pub field-refuses : (words₃ text₃ : List ℕ) (x : Refusal) → ReadIs (fieldN look (enough s) (fr .kind) s depth f f fresh) fr depth words₂ text₂ words₃ text₃ b (Refused x)
+      → (words′ text′ : List ℕ) → ReadIs (textN look (enough s) (fr .kind) s depth at [] []) fr depth words text words′ text′ k (Refused x)
   field-refuses words₃ text₃ x q words′ text′ =
-      field-refused s depth at fr words text words₁ text₁ k i a S (U .brace) end calls text₂ (U .stops) words₂ b g f x refl (U .there) (U .after) (refuses _ fr depth words₂ text₂ words₃ text₃ b _ x q) words′ text′
+      field-refused look s depth at fr words text words₁ text₁ k i a S (U .brace) end calls text₂ (U .stops) words₂ b g f x refl (U .there) (U .after) (refuses _ fr depth words₂ text₂ words₃ text₃ b _ x q) words′ text′
 
-  module _ (words₃ text₃ : List ℕ) (to : Cursor) (r : Sink) (count : ℕ) (q : ReadIs (fieldN (enough s) (fr .kind) s depth f f fresh) fr depth words₂ text₂ words₃ text₃ b (Done to r count)) where
-    given : Gave (λ l. l) (fieldN (enough s) (fr .kind) s depth f f fresh) fr depth words₂ text₂ words₃ text₃ b (to .at) r
+  module _ (words₃ text₃ : List ℕ) (to : Cursor) (r : Sink) (count : ℕ) (q : ReadIs (fieldN look (enough s) (fr .kind) s depth f f fresh) fr depth words₂ text₂ words₃ text₃ b (Done to r count)) where
+    given : Gave (λ l. l) (fieldN look (enough s) (fr .kind) s depth f f fresh) fr depth words₂ text₂ words₃ text₃ b (to .at) r
     given = gave _ fr depth words₂ text₂ words₃ text₃ b _ to r count q
 
     pub further : (i < to .at) × (to .at ≤ length s)
-    further = field-further s depth at fr words text words₁ text₁ k i a S (U .brace) end calls text₂ (U .stops) words₂ b g f (U .there) (U .after) words₃ text₃ (to .at) r given
+    further = field-further look s depth at fr words text words₁ text₁ k i a S (U .brace) end calls text₂ (U .stops) words₂ b g f (U .there) (U .after) words₃ text₃ (to .at) r given
 
-    pub goes-further : (rows rows₁ rows₂ : List ℕ) (fields n : ℕ) → Signed fr (S .pieces) rows rows₁ fields n → n ≤ a .count → SignedBy (fieldN (enough s) (fr .kind) s depth f f fresh) fr rows₁ rows₂ n count
-        → Rowing s (fr .kind) depth at fr words text words₃ text₃ rows rows₂ k fields (to .at) r count
+    pub goes-further : (rows rows₁ rows₂ : List ℕ) (fields n : ℕ) → Signed fr (S .pieces) rows rows₁ fields n → n ≤ a .count → SignedBy (fieldN look (enough s) (fr .kind) s depth f f fresh) fr rows₁ rows₂ n count
+        → Rowing look s (fr .kind) depth at fr words text words₃ text₃ rows rows₂ k fields (to .at) r count
     goes-further rows rows₁ rows₂ fields n p l y =
-        goes-on s depth at fr words text words₁ text₁ k i a S (U .brace) end calls text₂ (U .stops) words₂ b g f refl (U .there) (U .after) words₃ text₃ (to .at) r given rows rows₁ rows₂ fields n count p l
+        goes-on look s depth at fr words text words₁ text₁ k i a S (U .brace) end calls text₂ (U .stops) words₂ b g f refl (U .there) (U .after) words₃ text₃ (to .at) r given rows rows₁ rows₂ fields n count p l
         (read-signed _ (given .pieces) (to .at) count fr rows₁ rows₂ n (given .reads) y)
 
 -- A SPEC with text behind its first piece
-module _ (s : List ℕ) (depth i : ℕ) (fr : Frame) (words text words₁ text₁ : List ℕ) (k a b : Sink) (end j : ℕ)
+module _ (look : Naming) (s : List ℕ) (depth i : ℕ) (fr : Frame) (words text words₁ text₁ : List ℕ) (k a b : Sink) (end j : ℕ)
     (R : Room s i fr k) (l : loadOf k + 8 * (length s - i) < 16777216) (K : Kept k a)
     (at : j ≡ firstEnd s i) (size : end + i ≡ k .used + j) (wrote : text₁ ≡ over text (k .used) (part s i j))
     (g : (t T : List ℕ) → end ≡ a .used + length t → Emits fr (suc depth) (filled (suc depth) t) words T words₁ (over T (a .used) t) a b)
     (free : isHeld k ≡ false) (res : (words T : List ℕ) → outOf a words T ≡ reserved (outOf k words T)) (z : a .parts ≡ 0)
-    (words₂ text₂ : List ℕ) (to : Cursor) (b′ : Sink) (count : ℕ) (q : ReadIs (textN (enough s) (fr .kind) s (suc depth) j [] []) fr (suc depth) words₁ text₁ words₂ text₂ b (Done to b′ count)) where
-  behind : Gave (λ l. l) (textN (enough s) (fr .kind) s (suc depth) j [] []) fr (suc depth) words₁ text₁ words₂ text₂ b (to .at) b′
+    (words₂ text₂ : List ℕ) (to : Cursor) (b′ : Sink) (count : ℕ) (q : ReadIs (textN look (enough s) (fr .kind) s (suc depth) j [] []) fr (suc depth) words₁ text₁ words₂ text₂ b (Done to b′ count)) where
+  behind : Gave (λ l. l) (textN look (enough s) (fr .kind) s (suc depth) j [] []) fr (suc depth) words₁ text₁ words₂ text₂ b (to .at) b′
   behind = gave _ fr (suc depth) words₁ text₁ words₂ text₂ b _ to b′ count q
 
   pub behind-fits : Fits b′
-  behind-fits = spec-fits s depth i fr words text words₁ text₁ k a b end j R l K at size wrote g free res z words₂ text₂ b′ (to .at) behind
+  behind-fits = spec-fits look s depth i fr words text words₁ text₁ k a b end j R l K at size wrote g free res z words₂ text₂ b′ (to .at) behind
 
   pub braced-returns : (code s j is "{") ≡ true → (words₃ : List ℕ) (r : Sink) → ((T : List ℕ) → outOf r words₃ T ≡ filledIn (k .count) (specWords fr (k .used) (b′ .parts)) (outOf b′ words₂ T)) → r .parts ≡ k .parts
-      → (rows rows₁ : List ℕ) (fields : ℕ) → SignedBy (textN (enough s) (fr .kind) s (suc depth) j [] []) fr rows rows₁ fields count
-      → SpecIs (specN (enough s) (fr .kind) s depth i) fr depth words text words₃ text₂ k (Done to r count) × SignedBy (specN (enough s) (fr .kind) s depth i) fr rows rows₁ fields count
+      → (rows rows₁ : List ℕ) (fields : ℕ) → SignedBy (textN look (enough s) (fr .kind) s (suc depth) j [] []) fr rows rows₁ fields count
+      → SpecIs (specN look (enough s) (fr .kind) s depth i) fr depth words text words₃ text₂ k (Done to r count) × SignedBy (specN look (enough s) (fr .kind) s depth i) fr rows rows₁ fields count
   braced-returns c words₃ r f p rows rows₁ fields y = (
-    spec-braced s depth i fr words text words₁ text₁ k a b end j R l K at size wrote g free res z c words₂ text₂ words₃ b′ r to count behind f p,
-    to-sign (specN (enough s) (fr .kind) s depth i) _ (to .at) count fr rows rows₁ fields (braced-reads s depth i fr words text words₁ text₁ k a b end j R l K at size wrote g free res z c (behind .pieces) (to .at) (behind .reads))
+    spec-braced look s depth i fr words text words₁ text₁ k a b end j R l K at size wrote g free res z c words₂ text₂ words₃ b′ r to count behind f p,
+    to-sign (specN look (enough s) (fr .kind) s depth i) _ (to .at) count fr rows rows₁ fields (braced-reads look s depth i fr words text words₁ text₁ k a b end j R l K at size wrote g free res z c (behind .pieces) (to .at) (behind .reads))
         (both-signed fr (firstPiece s depth i) (behind .pieces) rows rows rows₁ fields fields count (filled-signed fr (suc depth) _ rows fields) (read-signed _ (behind .pieces) (to .at) count fr rows rows₁ fields (behind .reads) y)),
   )

@@ -10,7 +10,7 @@ use lib.Dec.{eqb, ltb}
 use lib.ListN.{length, length-append}
 use Rattle.definition.specs.Numbers.{emptyExpression}
 use Rattle.definition.specs.Chars.{if_then_else_, byte, _to_, inside, next, whiteSpace}
-use Rattle.definition.specs.Escapes.{fault, refused}
+use Rattle.definition.specs.Escapes.{Naming, fault, refused}
 use mathlib.Core.Option.{none}
 use Rattle.definition.specs.Body.{Move, goes, stops, calls, ends, Field, state, fresh, isBlank, plain, fieldCase, fieldMove, finished, fieldN, enough}
 use Rattle.definition.proofs.CharLaws.{cases, inside-true, inside-none, code-ascii, next-ascii}
@@ -37,7 +37,7 @@ blank-refused depth from j (state e b o c d w g) h = rw h
 -- the head that began at `from` has come to the state f
 pub record Sofar (s : List ℕ) (from used : ℕ) (lent : List ℕ) (f : State) (places text : List ℕ) : Type 0 where
   pub written : List ℕ
-  pub same : (kind depth : ℕ) → fieldN (enough s) kind s depth from from fresh ≡ fieldN (enough s) kind s depth from (f .at) (stateOf (written ++ pending s f) f places)
+  pub same : (look : Naming) (kind depth : ℕ) → fieldN look (enough s) kind s depth from from fresh ≡ fieldN look (enough s) kind s depth from (f .at) (stateOf (written ++ pending s f) f places)
   pub later : from ≤ f .at
   pub run : f .run ≤ f .at
   pub within : f .at ≤ length s
@@ -59,7 +59,7 @@ unfolding fresh brackets
 start s from used lent places l k =
     record {
       written = [];
-      same = λ kind depth. rw part-none;
+      same = λ look kind depth. rw part-none;
       later = omega arith;
       run = omega arith;
       within = l;
@@ -109,7 +109,7 @@ module _ {s : List ℕ} {from used : ℕ} {lent : List ℕ} {f : State} {places 
     on =
         record {
           written = h .written ++ w .added;
-          same = λ kind depth. h .same kind depth ∙ field-on kind s depth from (f .at) now (g .at) after (further .1) (w .moves (h .written));
+          same = λ look kind depth. h .same look kind depth ∙ field-on look kind s depth from (f .at) now (g .at) after (further .1) (w .moves (h .written));
           later = omega (arith, h .later, further .0);
           run = w .run;
           within = further .1;
@@ -125,8 +125,8 @@ module _ {s : List ℕ} {from used : ℕ} {lent : List ℕ} {f : State} {places 
     pub less : (f .at < g .at) × (g .at ≤ length s)
     less = (further .0, further .1)
 
-  pub refuses : (x : Refusal) → ((e : List ℕ) → fieldMove s (f .at) (stateOf e f places) ≡ stops (faultOf x)) → (kind depth : ℕ) → fieldN (enough s) kind s depth from from fresh ≡ refused (faultOf x)
-  refuses x m kind depth = h .same kind depth ∙ field-stop kind s depth from (f .at) now (faultOf x) (m expression)
+  pub refuses : (x : Refusal) → ((e : List ℕ) → fieldMove s (f .at) (stateOf e f places) ≡ stops (faultOf x)) → (look : Naming) (kind depth : ℕ) → fieldN look (enough s) kind s depth from from fresh ≡ refused (faultOf x)
+  refuses x m look kind depth = h .same look kind depth ∙ field-stop look kind s depth from (f .at) now (faultOf x) (m expression)
 
   module _ {move : Move Field} {b : Head} {text′ : List ℕ} (t : Stopped fieldMove move s f b places text text′) (there : f .at < length s) where
     -- outside brackets there are none
@@ -140,7 +140,7 @@ module _ {s : List ℕ} {from used : ℕ} {lent : List ℕ} {f : State} {places 
         record {
           expression = expression;
           place = f .at;
-          same = λ kind depth. rw out at (h .same kind depth);
+          same = λ look kind depth. rw out at (h .same look kind depth);
           moves = rw out at (t .moves expression);
           there = there;
           later = h .later;
@@ -162,7 +162,7 @@ module _ {s : List ℕ} {from used : ℕ} {lent : List ℕ} {f : State} {places 
     by-blank : (blank : Bool) → b .blank ≡ blank → OpenedIs s from used (if blank then opened.Refused (refusal (fault emptyExpression (b .at .at))) else opened.Ended b 0) lent text′
     by-blank false e = record { head = last; few = omega arith; full = λ z. e }
     by-blank true e =
-        λ kind depth. last .same kind depth ∙ field-end kind s depth from (last .place) (headState (last .expression) b) (last .moves) ∙ blank-refused depth from (next s (last .place)) (headState (last .expression) b) e ∙ ap (λ (n : ℕ). refused (fault emptyExpression n)) (sym (last .after))
+        λ look kind depth. last .same look kind depth ∙ field-end look kind s depth from (last .place) (headState (last .expression) b) (last .moves) ∙ blank-refused depth from (next s (last .place)) (headState (last .expression) b) e ∙ ap (λ (n : ℕ). refused (fault emptyExpression n)) (sym (last .after))
 
     pub closes : OpenedIs s from used (closedAs b) lent text′
     closes = by-blank (b .blank) refl

@@ -10,7 +10,7 @@ use lib.ListN.{length, drop, length-append, length-replicate, length-take, lengt
 use Rattle.definition.specs.Chars.{_is_, part, atEnd, code, next}
 use Rattle.definition.specs.Numbers.{unclosedLbrace, emptyExpression, expressionNestedTooDeeply, inField}
 use Rattle.definition.specs.Escapes as d
-use Rattle.definition.specs.Escapes.{Fault, fault, detail, got, refused}
+use Rattle.definition.specs.Escapes.{Naming, Fault, fault, detail, got, refused}
 use Rattle.definition.specs.Body.{Signs, signs, withColon, withClose, formatted, Piece, field, spec, filled, direct, Field, fresh, Move, calls, ends, textCase, textMove, textN, fieldN, specN, enough, conversionOf, fieldPieces, selfDocumenting, finished, specified, firstEnd}
 use Rattle.definition.specs.Records.{Item, item, itemOf, covers, wordsOf, recordAt}
 use Rattle.utf8.specs.declared.Cursor.{Cursor}
@@ -111,16 +111,16 @@ spec-done fr depth ps words text words₁ text₁ words₂ k a b r free apart re
     last = spec-words fr n (k .used) (λ ws. emits w (f (spec n) ∷ map f ps) (outOf k words text) ≡ filledIn (k .count) ws (emits w (map f ps) (reserved (outOf k words text)))) (spec-last w (f (spec n)) (map f ps) (outOf k words text) (spec-inner fr n .0) (spec-inner fr n .1) free)
 
 -- what a spec's pieces are: the first piece, and what text one depth further gives from the first `{` on
-module _ (kind : ℕ) (s : List ℕ) (depth i : ℕ) where
-  pub spec-reads : i ≤ length s → (code s (firstEnd s i) is "{") ≡ true → (qs : List Piece) (j : ℕ) → textN (enough s) kind s (suc depth) (firstEnd s i) [] [] ≡ got qs j
-      → specN (enough s) kind s depth i ≡ got (firstPiece s depth i ++ qs) j
+module _ (look : Naming) (kind : ℕ) (s : List ℕ) (depth i : ℕ) where
+  pub spec-reads : i ≤ length s → (code s (firstEnd s i) is "{") ≡ true → (qs : List Piece) (j : ℕ) → textN look (enough s) kind s (suc depth) (firstEnd s i) [] [] ≡ got qs j
+      → specN look (enough s) kind s depth i ≡ got (firstPiece s depth i ++ qs) j
   spec-reads l c qs j e =
-      spec-text kind s depth i l c ∙ text-prefix (enough s) kind s (suc depth) (firstEnd s i) [] (firstPiece s depth i) ∙ ap (following (firstPiece s depth i)) e
+      spec-text look kind s depth i l c ∙ text-prefix look (enough s) kind s (suc depth) (firstEnd s i) [] (firstPiece s depth i) ∙ ap (following (firstPiece s depth i)) e
 
-  pub spec-stops : i ≤ length s → (code s (firstEnd s i) is "{") ≡ true → (y : Fault) → textN (enough s) kind s (suc depth) (firstEnd s i) [] [] ≡ refused y
-      → specN (enough s) kind s depth i ≡ refused y
+  pub spec-stops : i ≤ length s → (code s (firstEnd s i) is "{") ≡ true → (y : Fault) → textN look (enough s) kind s (suc depth) (firstEnd s i) [] [] ≡ refused y
+      → specN look (enough s) kind s depth i ≡ refused y
   spec-stops l c y e =
-      spec-text kind s depth i l c ∙ text-prefix (enough s) kind s (suc depth) (firstEnd s i) [] (firstPiece s depth i) ∙ ap (following (firstPiece s depth i)) e
+      spec-text look kind s depth i l c ∙ text-prefix look (enough s) kind s (suc depth) (firstEnd s i) [] (firstPiece s depth i) ∙ ap (following (firstPiece s depth i)) e
 
 -- A FIELD
 converted-none : (d : Bool) (c : ℕ) → converted d c 0 ≡ conversionOf d c none
@@ -187,41 +187,41 @@ pub one-part : (s : List ℕ) (from used : ℕ) (h : Head) (parts : ℕ) (text t
 one-part s from used h parts text text′ c n = omega (arith, c .few)
 
 -- A FIELD THAT ITS `}` ENDS
-module _ (s : List ℕ) (depth from used : ℕ) (fr : Frame) (text text₁ : List ℕ) (h : Head) (c : EndedIs s from used h 0 text text₁) where
+module _ (look : Naming) (s : List ℕ) (depth from used : ℕ) (fr : Frame) (text text₁ : List ℕ) (h : Head) (c : EndedIs s from used h 0 text text₁) where
   abbrev pub closed-pieces : List Piece
   closed-pieces = before-spec depth (c .head .expression) h 0 from (signsOf h 0 (h .at .at))
 
-  pub closed-reads : fieldN (enough s) (fr .kind) s depth from from fresh ≡ got closed-pieces (h .at .at)
+  pub closed-reads : fieldN look (enough s) (fr .kind) s depth from from fresh ≡ got closed-pieces (h .at .at)
   closed-reads =
-      c .head .same (fr .kind) depth
-      ∙ field-end (fr .kind) s depth from (c .head .place) (headState (c .head .expression) h) (c .head .moves)
+      c .head .same look (fr .kind) depth
+      ∙ field-end look (fr .kind) s depth from (c .head .place) (headState (c .head .expression) h) (c .head .moves)
       ∙ finished-plain s depth from (c .head .expression) h (next s (c .head .place)) (c .full refl)
       ∙ ap (λ n. got (before-spec depth (c .head .expression) h 0 from (signsOf h 0 n)) n) (sym (c .head .after))
 
   pub closed-field : (words words′ text′ : List ℕ) (k r : Sink) (n : ℕ) → Emits fr depth closed-pieces words text words′ text′ k r
-      → ReadIs (fieldN (enough s) (fr .kind) s depth from from fresh) fr depth words text words′ text′ k (Done (h .at) r n)
+      → ReadIs (fieldN look (enough s) (fr .kind) s depth from from fresh) fr depth words text words′ text′ k (Done (h .at) r n)
   closed-field words words′ text′ k r n m =
-      to-give (λ l. l) fr depth words text words′ text′ k (fieldN (enough s) (fr .kind) s depth from from fresh) closed-pieces (h .at) r n closed-reads m
+      to-give (λ l. l) fr depth words text words′ text′ k (fieldN look (enough s) (fr .kind) s depth from from fresh) closed-pieces (h .at) r n closed-reads m
 
 -- A FIELD WHOSE SPEC WAS READ up to j, as far as its pieces ps
-module _ (s : List ℕ) (depth from used : ℕ) (fr : Frame) (text text₁ : List ℕ) (h : Head) (c : HeadIs calls s from used h text text₁) where
+module _ (look : Naming) (s : List ℕ) (depth from used : ℕ) (fr : Frame) (text text₁ : List ℕ) (h : Head) (c : HeadIs calls s from used h text text₁) where
   abbrev reading : d.Read (List Piece)
-  reading = fieldN (enough s) (fr .kind) s depth from from fresh
+  reading = fieldN look (enough s) (fr .kind) s depth from from fresh
 
-  module _ (ps : List Piece) (j : ℕ) (e : specN (enough s) (fr .kind) s depth (h .at .at) ≡ got ps j) where
+  module _ (ps : List Piece) (j : ℕ) (e : specN look (enough s) (fr .kind) s depth (h .at .at) ≡ got ps j) where
     abbrev pub spec-pieces : ℕ → List Piece
     spec-pieces close = with-spec s depth from (c .expression) h (h .at .at) ps close
 
     to-end : reading ≡ specified s depth from j (formatted (h .at .at) (headState (c .expression) h)) ps
     to-end =
-        c .same (fr .kind) depth
-        ∙ field-spec (fr .kind) s depth from (c .place) (headState (c .expression) h) (c .there) (c .moves) ps j (ap (specN (enough s) (fr .kind) s depth) (sym (c .after)) ∙ e)
+        c .same look (fr .kind) depth
+        ∙ field-spec look (fr .kind) s depth from (c .place) (headState (c .expression) h) (c .there) (c .moves) ps j (ap (specN look (enough s) (fr .kind) s depth) (sym (c .after)) ∙ e)
         ∙ ap (λ n. specified s depth from j (formatted n (headState (c .expression) h)) ps) (sym (c .after))
 
     within : j ≤ length s
     within =
         let low : h .at .at ≤ length s = rw (c .after) (next-in s (c .place) (omega (arith, c .there))) in
-        (subst (λ x. Reading weight 0 s (h .at .at) x) e (spec-reading (enough s) (fr .kind) s depth (h .at .at) low (omega arith))) .0 .1
+        (subst (λ x. Reading weight 0 s (h .at .at) x) e (spec-reading look (enough s) (fr .kind) s depth (h .at .at) low (omega arith))) .0 .1
 
     ends-at : (x : End) → x ≡ fieldEnd s j (h .blank) → Ends s depth from (c .expression) h (h .at .at) ps j x
     ends-at x q = rw q (ended s depth from (c .expression) h (h .at .at) ps j within)
@@ -242,16 +242,16 @@ module _ (s : List ℕ) (depth from used : ℕ) (fr : Frame) (text text₁ : Lis
         (emits-both fr depth (before-spec depth (c .expression) h 1 from (signsOf h (h .at .at) (q .at))) (spec (direct (suc depth) ps) ∷ ps) words text words₁ text₂ words′ text′ k a b (m (signsOf h (h .at .at) (q .at))) f)
 
 -- what a field's reading is, once its head was read up to a `:` and its spec gave something
-module _ (s : List ℕ) (depth from used : ℕ) (kind : ℕ) (text text₁ : List ℕ) (h : Head) (c : HeadIs calls s from used h text text₁) where
-  pub unformatted-field : (y : Fault) → specN (enough s) kind s depth (h .at .at) ≡ refused y → fieldN (enough s) kind s depth from from fresh ≡ refused y
+module _ (look : Naming) (s : List ℕ) (depth from used : ℕ) (kind : ℕ) (text text₁ : List ℕ) (h : Head) (c : HeadIs calls s from used h text text₁) where
+  pub unformatted-field : (y : Fault) → specN look (enough s) kind s depth (h .at .at) ≡ refused y → fieldN look (enough s) kind s depth from from fresh ≡ refused y
   unformatted-field y e =
-      c .same kind depth
-      ∙ field-spec-stop kind s depth from (c .place) (headState (c .expression) h) (c .there) (c .moves) y (ap (specN (enough s) kind s depth) (sym (c .after)) ∙ e)
+      c .same look kind depth
+      ∙ field-spec-stop look kind s depth from (c .place) (headState (c .expression) h) (c .there) (c .moves) y (ap (specN look (enough s) kind s depth) (sym (c .after)) ∙ e)
 
 -- TEXT: the loop's state. The definition has come to i with pieces, which are emitted
-pub record Sofar (s : List ℕ) (kind depth at : ℕ) (fr : Frame) (words text words₁ text₁ : List ℕ) (k : Sink) (i : ℕ) (r : Sink) : Type 0 where
+pub record Sofar (look : Naming) (s : List ℕ) (kind depth at : ℕ) (fr : Frame) (words text words₁ text₁ : List ℕ) (k : Sink) (i : ℕ) (r : Sink) : Type 0 where
   pub pieces : List Piece
-  pub same : textN (enough s) kind s depth at [] [] ≡ textN (enough s) kind s depth i [] pieces
+  pub same : textN look (enough s) kind s depth at [] [] ≡ textN look (enough s) kind s depth i [] pieces
   pub emitted : Emits fr depth pieces words text words₁ text₁ k r
   pub room : Room s i fr r
   pub later : at ≤ i
@@ -313,17 +313,17 @@ free-field fr depth ex h parts at g words text words′ text′ k r m =
     last = field depth ex (converted (isMarked (h .equals)) (h .conversion) parts) parts at g ∷ []
 
 -- THE LOOP OF TEXT
-pub start : (s : List ℕ) (kind depth at : ℕ) (fr : Frame) (words text : List ℕ) (k : Sink) → Room s at fr k → Sofar s kind depth at fr words text words text k at k
+pub start : (look : Naming) → (s : List ℕ) (kind depth at : ℕ) (fr : Frame) (words text : List ℕ) (k : Sink) → Room s at fr k → Sofar look s kind depth at fr words text words text k at k
 unfolding emits direct
-start s kind depth at fr words text k h = record { pieces = []; same = refl; emitted = record { out = refl; parts = omega arith }; room = h; later = omega arith }
+start look s kind depth at fr words text k h = record { pieces = []; same = refl; emitted = record { out = refl; parts = omega arith }; room = h; later = omega arith }
 
-pub start-pieces : (s : List ℕ) (kind depth at : ℕ) (fr : Frame) (words text : List ℕ) (k : Sink) (h : Room s at fr k) → start s kind depth at fr words text k h .pieces ≡ []
+pub start-pieces : (look : Naming) → (s : List ℕ) (kind depth at : ℕ) (fr : Frame) (words text : List ℕ) (k : Sink) (h : Room s at fr k) → start look s kind depth at fr words text k h .pieces ≡ []
 unfolding start
-start-pieces s kind depth at fr words text k h = refl
+start-pieces look s kind depth at fr words text k h = refl
 
-module _ (s : List ℕ) (depth at : ℕ) (fr : Frame) (words text words₁ text₁ : List ℕ) (k : Sink) (i : ℕ) (a : Sink) (S : Sofar s (fr .kind) depth at fr words text words₁ text₁ k i a) where
+module _ (look : Naming) (s : List ℕ) (depth at : ℕ) (fr : Frame) (words text words₁ text₁ : List ℕ) (k : Sink) (i : ℕ) (a : Sink) (S : Sofar look s (fr .kind) depth at fr words text words₁ text₁ k i a) where
   -- text up to i′, which is emitted if it is not empty
-  module _ (i′ end : ℕ) (m : Move (List ℕ)) (text₂ : List ℕ) (R : StopsBy m (fr .kind) s depth i (a .used) text₁ text₂ i′ end) (words₂ : List ℕ) (b : Sink)
+  module _ (i′ end : ℕ) (m : Move (List ℕ)) (text₂ : List ℕ) (R : StopsBy look m (fr .kind) s depth i (a .used) text₁ text₂ i′ end) (words₂ : List ℕ) (b : Sink)
       (g : (t T : List ℕ) → end ≡ a .used + length t → Emits fr depth (filled depth t) words₁ T words₂ (over T (a .used) t) a b) where
     abbrev pub content : List ℕ
     content = R .upto .content
@@ -334,37 +334,37 @@ module _ (s : List ℕ) (depth at : ℕ) (fr : Frame) (words text words₁ text�
     all : Emits fr depth (S .pieces ++ filled depth content) words text words₂ text₂ k b
     all = emits-both fr depth (S .pieces) (filled depth content) words text words₁ text₁ words₂ text₂ k a b (S .emitted) one
 
-    same : textN (enough s) (fr .kind) s depth at [] [] ≡ textN (enough s) (fr .kind) s depth i′ content (S .pieces)
+    same : textN look (enough s) (fr .kind) s depth at [] [] ≡ textN look (enough s) (fr .kind) s depth i′ content (S .pieces)
     same = S .same ∙ R .upto .same (S .pieces)
 
     pub room-text : (j : ℕ) → i′ ≤ j → j ≤ length s → Room s j fr b
     room-text j l n = room-on s i j depth fr (filled depth content) words₁ text₁ words₂ text₂ a b one (S .room) (omega (arith, R .upto .ahead)) n (omega (arith, filled-light depth content, R .upto .light))
 
     -- the text ends there
-    pub over-reads : (j : ℕ) → j ≡ i′ → m ≡ ends → textN (enough s) (fr .kind) s depth at [] [] ≡ got (S .pieces ++ filled depth content) j
-    over-reads j e h = same ∙ text-end (fr .kind) s depth i′ content (S .pieces) (R .move ∙ h) ∙ ap (got (S .pieces ++ filled depth content)) (sym e)
+    pub over-reads : (j : ℕ) → j ≡ i′ → m ≡ ends → textN look (enough s) (fr .kind) s depth at [] [] ≡ got (S .pieces ++ filled depth content) j
+    over-reads j e h = same ∙ text-end look (fr .kind) s depth i′ content (S .pieces) (R .move ∙ h) ∙ ap (got (S .pieces ++ filled depth content)) (sym e)
 
-    pub text-over : (q : Cursor) (n : ℕ) → q .at ≡ i′ → m ≡ ends → ReadIs (textN (enough s) (fr .kind) s depth at [] []) fr depth words text words₂ text₂ k (Done q b n)
+    pub text-over : (q : Cursor) (n : ℕ) → q .at ≡ i′ → m ≡ ends → ReadIs (textN look (enough s) (fr .kind) s depth at [] []) fr depth words text words₂ text₂ k (Done q b n)
     text-over q n e h =
-        to-give (λ l. l) fr depth words text words₂ text₂ k (textN (enough s) (fr .kind) s depth at [] []) (S .pieces ++ filled depth content) q b n (over-reads (q .at) e h) all
+        to-give (λ l. l) fr depth words text words₂ text₂ k (textN look (enough s) (fr .kind) s depth at [] []) (S .pieces ++ filled depth content) q b n (over-reads (q .at) e h) all
 
     -- a field opens there, which is refused
     pub field-refused : (f : ℕ) (x : Refusal) → m ≡ calls → i′ < length s → f ≡ next s i′
-        → fieldN (enough s) (fr .kind) s depth f f fresh ≡ refused (faultOf x)
-        → (words′ text′ : List ℕ) → ReadIs (textN (enough s) (fr .kind) s depth at [] []) fr depth words text words′ text′ k (Refused x)
+        → fieldN look (enough s) (fr .kind) s depth f f fresh ≡ refused (faultOf x)
+        → (words′ text′ : List ℕ) → ReadIs (textN look (enough s) (fr .kind) s depth at [] []) fr depth words text words′ text′ k (Refused x)
     field-refused f x h l e q words′ text′ =
-        to-refuse (λ l. l) fr depth words text words′ text′ k (textN (enough s) (fr .kind) s depth at [] []) x
-        (same ∙ text-field-stop (fr .kind) s depth i′ content (S .pieces) (omega arith) (R .move ∙ h) (faultOf x) (ap (λ n. fieldN (enough s) (fr .kind) s depth n n fresh) (sym e) ∙ q))
+        to-refuse (λ l. l) fr depth words text words′ text′ k (textN look (enough s) (fr .kind) s depth at [] []) x
+        (same ∙ text-field-stop look (fr .kind) s depth i′ content (S .pieces) (omega arith) (R .move ∙ h) (faultOf x) (ap (λ n. fieldN look (enough s) (fr .kind) s depth n n fresh) (sym e) ∙ q))
 
     -- or read, and the text goes on behind it
     pub field-read : (f : ℕ) → m ≡ calls → i′ < length s → f ≡ next s i′ → (words′ text′ : List ℕ) (j : ℕ) (r : Sink)
-        → Gave (λ l. l) (fieldN (enough s) (fr .kind) s depth f f fresh) fr depth words₂ text₂ words′ text′ b j r
-        → Sofar s (fr .kind) depth at fr words text words′ text′ k j r
+        → Gave (λ l. l) (fieldN look (enough s) (fr .kind) s depth f f fresh) fr depth words₂ text₂ words′ text′ b j r
+        → Sofar look s (fr .kind) depth at fr words text words′ text′ k j r
     unfolding fresh
     field-read f h l e words′ text′ j r G =
         record {
           pieces = S .pieces ++ filled depth content ++ G .pieces;
-          same = same ∙ text-field (fr .kind) s depth i′ content (S .pieces) (omega arith) (R .move ∙ h) (G .pieces) j (sound .1) q;
+          same = same ∙ text-field look (fr .kind) s depth i′ content (S .pieces) (omega arith) (R .move ∙ h) (G .pieces) j (sound .1) q;
           emitted = emits-both fr depth (S .pieces ++ filled depth content) (G .pieces) words text words₂ text₂ words′ text′ k b r all (G .emits);
           room = room-on s f j depth fr (G .pieces) words₂ text₂ words′ text′ b r (G .emits) (room-text f after low) (sound .0) (sound .1) (omega (arith, light));
           later = omega (arith, S .later, R .upto .ahead, sound .0, after);
@@ -376,11 +376,11 @@ module _ (s : List ℕ) (depth at : ℕ) (fr : Frame) (words text words₁ text�
         low : f ≤ length s
         low = rw e (next-in s i′ (omega arith))
 
-        q : fieldN (enough s) (fr .kind) s depth (next s i′) (next s i′) fresh ≡ got (G .pieces) j
-        q = ap (λ n. fieldN (enough s) (fr .kind) s depth n n fresh) (sym e) ∙ G .reads
+        q : fieldN look (enough s) (fr .kind) s depth (next s i′) (next s i′) fresh ≡ got (G .pieces) j
+        q = ap (λ n. fieldN look (enough s) (fr .kind) s depth n n fresh) (sym e) ∙ G .reads
 
         both : Reading weight (fieldSize fresh) s f (got (G .pieces) j)
-        both = subst (λ x. Reading weight (fieldSize fresh) s f x) (G .reads) (field-reading (enough s) (fr .kind) s depth f f low (omega arith))
+        both = subst (λ x. Reading weight (fieldSize fresh) s f x) (G .reads) (field-reading look (enough s) (fr .kind) s depth f f low (omega arith))
 
         sound : (f ≤ j) × (j ≤ length s)
         sound = both .0
@@ -389,37 +389,37 @@ module _ (s : List ℕ) (depth at : ℕ) (fr : Frame) (words text words₁ text�
         light = both .1
 
     pub read-pieces : (f : ℕ) (h : m ≡ calls) (l : i′ < length s) (e : f ≡ next s i′) (words′ text′ : List ℕ) (j : ℕ) (r : Sink)
-        (G : Gave (λ l. l) (fieldN (enough s) (fr .kind) s depth f f fresh) fr depth words₂ text₂ words′ text′ b j r)
+        (G : Gave (λ l. l) (fieldN look (enough s) (fr .kind) s depth f f fresh) fr depth words₂ text₂ words′ text′ b j r)
         → field-read f h l e words′ text′ j r G .pieces ≡ S .pieces ++ filled depth content ++ G .pieces
     unfolding field-read
     read-pieces f h l e words′ text′ j r G = refl
 
     -- past where the text began
     pub field-further : (f : ℕ) → i′ < length s → f ≡ next s i′ → (words′ text′ : List ℕ) (j : ℕ) (r : Sink)
-        → Gave (λ l. l) (fieldN (enough s) (fr .kind) s depth f f fresh) fr depth words₂ text₂ words′ text′ b j r → (i < j) × (j ≤ length s)
+        → Gave (λ l. l) (fieldN look (enough s) (fr .kind) s depth f f fresh) fr depth words₂ text₂ words′ text′ b j r → (i < j) × (j ≤ length s)
     field-further f l e words′ text′ j r G = (omega (arith, both .0 .0, next-past s i′ l, e, R .upto .ahead), both .0 .1)
       where
         both : Reading weight (fieldSize fresh) s f (got (G .pieces) j)
-        both = subst (λ x. Reading weight (fieldSize fresh) s f x) (G .reads) (field-reading (enough s) (fr .kind) s depth f f (rw e (next-in s i′ (omega arith))) (omega arith))
+        both = subst (λ x. Reading weight (fieldSize fresh) s f x) (G .reads) (field-reading look (enough s) (fr .kind) s depth f f (rw e (next-in s i′ (omega arith))) (omega arith))
 
 -- text at depth 2
-pub too-deep : (kind : ℕ) (s : List ℕ) (depth i : ℕ) → 2 ≤ depth → textN (enough s) kind s depth i [] [] ≡ refused (fault expressionNestedTooDeeply i)
+pub too-deep : (look : Naming) → (kind : ℕ) (s : List ℕ) (depth i : ℕ) → 2 ≤ depth → textN look (enough s) kind s depth i [] [] ≡ refused (fault expressionNestedTooDeeply i)
 unfolding textMove textCase
-too-deep kind s depth i h = text-stop kind s depth i [] [] (fault expressionNestedTooDeeply i) (rw (le-leb 2 depth h, textMove))
+too-deep look kind s depth i h = text-stop look kind s depth i [] [] (fault expressionNestedTooDeeply i) (rw (le-leb 2 depth h, textMove))
 
-pub deep-result : (s : List ℕ) (depth i : ℕ) (fr : Frame) (words text words′ text′ : List ℕ) (k : Sink) (r : Read) → 2 ≤ depth → r ≡ Refused (refusal (fault expressionNestedTooDeeply i))
-    → ReadIs (textN (enough s) (fr .kind) s depth i [] []) fr depth words text words′ text′ k r
-deep-result s depth i fr words text words′ text′ k r h e =
-    subst (λ x. ReadIs (textN (enough s) (fr .kind) s depth i [] []) fr depth words text words′ text′ k x) (sym e)
-    (to-refuse (λ l. l) fr depth words text words′ text′ k (textN (enough s) (fr .kind) s depth i [] []) (refusal (fault expressionNestedTooDeeply i)) (too-deep (fr .kind) s depth i h))
+pub deep-result : (look : Naming) → (s : List ℕ) (depth i : ℕ) (fr : Frame) (words text words′ text′ : List ℕ) (k : Sink) (r : Read) → 2 ≤ depth → r ≡ Refused (refusal (fault expressionNestedTooDeeply i))
+    → ReadIs (textN look (enough s) (fr .kind) s depth i [] []) fr depth words text words′ text′ k r
+deep-result look s depth i fr words text words′ text′ k r h e =
+    subst (λ x. ReadIs (textN look (enough s) (fr .kind) s depth i [] []) fr depth words text words′ text′ k x) (sym e)
+    (to-refuse (λ l. l) fr depth words text words′ text′ k (textN look (enough s) (fr .kind) s depth i [] []) (refusal (fault expressionNestedTooDeeply i)) (too-deep look (fr .kind) s depth i h))
 
 -- a text's run leaves numbers small
 pub record Ended (used end n : ℕ) : Type 0 where
   pub more : used ≤ end
   pub bounded : end ≤ used + 2 * n
 
-pub run-ended : (m : Move (List ℕ)) (kind : ℕ) (s : List ℕ) (depth from used : ℕ) (text text′ : List ℕ) (i end : ℕ) → StopsBy m kind s depth from used text text′ i end → Ended used end (length s)
-run-ended m kind s depth from used text text′ i end R = record { more = omega (arith, R .upto .ended); bounded = omega (arith, R .upto .ended, R .upto .light, R .upto .inside) }
+pub run-ended : (look : Naming) → (m : Move (List ℕ)) (kind : ℕ) (s : List ℕ) (depth from used : ℕ) (text text′ : List ℕ) (i end : ℕ) → StopsBy look m kind s depth from used text text′ i end → Ended used end (length s)
+run-ended look m kind s depth from used text text′ i end R = record { more = omega (arith, R .upto .ended); bounded = omega (arith, R .upto .ended, R .upto .light, R .upto .inside) }
 
 -- THE SPEC OF A FIELD: its room, after what comes before it
 pub record SpecRoom (s : List ℕ) (from at : ℕ) (fr : Frame) (a : Sink) : Type 0 where
@@ -473,7 +473,7 @@ pub room-kept : (s : List ℕ) (at : ℕ) (fr : Frame) (k a : Sink) → Room s a
 room-kept s at fr k a R l q = record { low = R .low; small = R .small; places = R .places; load = omega (arith, q .load); ordered = q .ordered (R .ordered) }
 
 -- a spec's first piece, emitted behind the place kept for the spec
-module _ (s : List ℕ) (depth i : ℕ) (fr : Frame) (words text words₁ text₁ : List ℕ) (k a b : Sink) (end j : ℕ)
+module _ (look : Naming) (s : List ℕ) (depth i : ℕ) (fr : Frame) (words text words₁ text₁ : List ℕ) (k a b : Sink) (end j : ℕ)
     (R : Room s i fr k) (l : loadOf k + 8 * (length s - i) < 16777216) (q : Kept k a)
     (at : j ≡ firstEnd s i) (size : end + i ≡ k .used + j) (wrote : text₁ ≡ over text (k .used) (part s i j))
     (g : (t T : List ℕ) → end ≡ a .used + length t → Emits fr (suc depth) (filled (suc depth) t) words T words₁ (over T (a .used) t) a b) where
@@ -494,50 +494,50 @@ module _ (s : List ℕ) (depth i : ℕ) (fr : Frame) (words text words₁ text�
   module _ (free : isHeld k ≡ false) (res : (words T : List ℕ) → outOf a words T ≡ reserved (outOf k words T)) (z : a .parts ≡ 0) where
     -- the spec's record is filled in behind pieces that it gave
     spec-filled : (ps : List Piece) (n : ℕ) (words₂ text₂ words₃ : List ℕ) (c r : Sink)
-        → specN (enough s) (fr .kind) s depth i ≡ got ps n → Emits fr (suc depth) ps words text words₂ text₂ a c
+        → specN look (enough s) (fr .kind) s depth i ≡ got ps n → Emits fr (suc depth) ps words text words₂ text₂ a c
         → ((T : List ℕ) → outOf r words₃ T ≡ filledIn (k .count) (specWords fr (k .used) (c .parts)) (outOf c words₂ T)) → r .parts ≡ k .parts
-        → (to : Cursor) (fields : ℕ) → to .at ≡ n → SpecIs (specN (enough s) (fr .kind) s depth i) fr depth words text words₃ text₂ k (Done to r fields)
+        → (to : Cursor) (fields : ℕ) → to .at ≡ n → SpecIs (specN look (enough s) (fr .kind) s depth i) fr depth words text words₃ text₂ k (Done to r fields)
     spec-filled ps n words₂ text₂ words₃ c r e m f p to fields w =
-        to-give (λ ps. spec (direct (suc depth) ps) ∷ ps) fr depth words text words₃ text₂ k (specN (enough s) (fr .kind) s depth i) ps to r fields
+        to-give (λ ps. spec (direct (suc depth) ps) ∷ ps) fr depth words text words₃ text₂ k (specN look (enough s) (fr .kind) s depth i) ps to r fields
         (e ∙ ap (got ps) (sym w))
-        (spec-done fr depth ps words text words₂ text₂ words₃ k a c r free (spec-apart (enough s) (fr .kind) s depth i ps n e) res z m f p)
+        (spec-done fr depth ps words text words₂ text₂ words₃ k a c r free (spec-apart look (enough s) (fr .kind) s depth i ps n e) res z m f p)
 
-    pub plain-reads : (n : ℕ) → n ≡ j → (code s j is "{") ≡ false → specN (enough s) (fr .kind) s depth i ≡ got (firstPiece s depth i) n
-    plain-reads n w c = spec-end (fr .kind) s depth i (ap (λ n. code s n is "{") (sym at) ∙ c) ∙ ap (got (firstPiece s depth i)) (sym (w ∙ at))
+    pub plain-reads : (n : ℕ) → n ≡ j → (code s j is "{") ≡ false → specN look (enough s) (fr .kind) s depth i ≡ got (firstPiece s depth i) n
+    plain-reads n w c = spec-end look (fr .kind) s depth i (ap (λ n. code s n is "{") (sym at) ∙ c) ∙ ap (got (firstPiece s depth i)) (sym (w ∙ at))
 
     pub spec-plain : (words₂ : List ℕ) (r : Sink) (to : Cursor) (fields : ℕ) → to .at ≡ j → (code s j is "{") ≡ false
         → ((T : List ℕ) → outOf r words₂ T ≡ filledIn (k .count) (specWords fr (k .used) (b .parts)) (outOf b words₁ T)) → r .parts ≡ k .parts
-        → SpecIs (specN (enough s) (fr .kind) s depth i) fr depth words text words₂ text₁ k (Done to r fields)
+        → SpecIs (specN look (enough s) (fr .kind) s depth i) fr depth words text words₂ text₁ k (Done to r fields)
     spec-plain words₂ r to fields w c f p =
         spec-filled (firstPiece s depth i) (to .at) words₁ text₁ words₂ b r (plain-reads (to .at) w c) first-emits f p to fields refl
 
     -- the counters once its parts are emitted
     pub spec-fits : (words₂ text₂ : List ℕ) (b′ : Sink) (to : ℕ)
-        → Gave (λ l. l) (textN (enough s) (fr .kind) s (suc depth) j [] []) fr (suc depth) words₁ text₁ words₂ text₂ b to b′ → Fits b′
+        → Gave (λ l. l) (textN look (enough s) (fr .kind) s (suc depth) j [] []) fr (suc depth) words₁ text₁ words₂ text₂ b to b′ → Fits b′
     spec-fits words₂ text₂ b′ to G =
         fits s to fr b′
         (room-on s j to (suc depth) fr (G .pieces) words₁ text₁ words₂ text₂ b b′ (G .emits) first-room (both .0 .0) (both .0 .1) (omega (arith, both .1)))
       where
         both : Reading weight 0 s j (got (G .pieces) to)
-        both = subst (λ x. Reading weight 0 s j x) (G .reads) (text-reading (enough s) (fr .kind) s (suc depth) j [] [] (first-room .low) (omega arith))
+        both = subst (λ x. Reading weight 0 s j x) (G .reads) (text-reading look (enough s) (fr .kind) s (suc depth) j [] [] (first-room .low) (omega arith))
 
     module _ (c : (code s j is "{") ≡ true) where
       brace : (code s (firstEnd s i) is "{") ≡ true
       brace = ap (λ n. code s n is "{") (sym at) ∙ c
 
-      pub braced-reads : (ps : List Piece) (n : ℕ) → textN (enough s) (fr .kind) s (suc depth) j [] [] ≡ got ps n → specN (enough s) (fr .kind) s depth i ≡ got (firstPiece s depth i ++ ps) n
-      braced-reads ps n e = spec-reads (fr .kind) s depth i (R .low) brace ps n (ap (λ n. textN (enough s) (fr .kind) s (suc depth) n [] []) (sym at) ∙ e)
+      pub braced-reads : (ps : List Piece) (n : ℕ) → textN look (enough s) (fr .kind) s (suc depth) j [] [] ≡ got ps n → specN look (enough s) (fr .kind) s depth i ≡ got (firstPiece s depth i ++ ps) n
+      braced-reads ps n e = spec-reads look (fr .kind) s depth i (R .low) brace ps n (ap (λ n. textN look (enough s) (fr .kind) s (suc depth) n [] []) (sym at) ∙ e)
 
       pub spec-braced : (words₂ text₂ words₃ : List ℕ) (b′ r : Sink) (to : Cursor) (fields : ℕ)
-          → Gave (λ l. l) (textN (enough s) (fr .kind) s (suc depth) j [] []) fr (suc depth) words₁ text₁ words₂ text₂ b (to .at) b′
+          → Gave (λ l. l) (textN look (enough s) (fr .kind) s (suc depth) j [] []) fr (suc depth) words₁ text₁ words₂ text₂ b (to .at) b′
           → ((T : List ℕ) → outOf r words₃ T ≡ filledIn (k .count) (specWords fr (k .used) (b′ .parts)) (outOf b′ words₂ T)) → r .parts ≡ k .parts
-          → SpecIs (specN (enough s) (fr .kind) s depth i) fr depth words text words₃ text₂ k (Done to r fields)
+          → SpecIs (specN look (enough s) (fr .kind) s depth i) fr depth words text words₃ text₂ k (Done to r fields)
       spec-braced words₂ text₂ words₃ b′ r to fields G f p =
           spec-filled (firstPiece s depth i ++ G .pieces) (to .at) words₂ text₂ words₃ b′ r (braced-reads (G .pieces) (to .at) (G .reads))
           (emits-both fr (suc depth) (firstPiece s depth i) (G .pieces) words text words₁ text₁ words₂ text₂ a b b′ first-emits (G .emits)) f p to fields refl
 
-      pub spec-refused : (words₂ text₂ : List ℕ) (x : Refusal) → textN (enough s) (fr .kind) s (suc depth) j [] [] ≡ refused (faultOf x)
-          → SpecIs (specN (enough s) (fr .kind) s depth i) fr depth words text words₂ text₂ k (Refused x)
+      pub spec-refused : (words₂ text₂ : List ℕ) (x : Refusal) → textN look (enough s) (fr .kind) s (suc depth) j [] [] ≡ refused (faultOf x)
+          → SpecIs (specN look (enough s) (fr .kind) s depth i) fr depth words text words₂ text₂ k (Refused x)
       spec-refused words₂ text₂ x e =
-          to-refuse (λ ps. spec (direct (suc depth) ps) ∷ ps) fr depth words text words₂ text₂ k (specN (enough s) (fr .kind) s depth i) x
-          (spec-stops (fr .kind) s depth i (R .low) brace (faultOf x) (ap (λ n. textN (enough s) (fr .kind) s (suc depth) n [] []) (sym at) ∙ e))
+          to-refuse (λ ps. spec (direct (suc depth) ps) ∷ ps) fr depth words text words₂ text₂ k (specN look (enough s) (fr .kind) s depth i) x
+          (spec-stops look (fr .kind) s depth i (R .low) brace (faultOf x) (ap (λ n. textN look (enough s) (fr .kind) s (suc depth) n [] []) (sym at) ∙ e))

@@ -10,3 +10,4 @@ pub mod RowCalls
 pub mod TopLaws
 pub mod CallLaws
 pub mod One
+pub mod NamedCalls

@@ -9,7 +9,7 @@ use native.Mathlib.Omega.{arith}
 use lib.ListN.{length, take, drop, getD, length-append, length-take, length-replicate, replicate}
 use lib.Seq.{take-all, drop-append-seam}
 use Rattle.definition.specs.Numbers.{isFString, notSixes}
-use Rattle.definition.specs.Escapes.{got}
+use Rattle.definition.specs.Escapes.{Naming, got}
 use Rattle.definition.specs.Body.{Piece, textN, stringN, enough, alone, readBody}
 use Rattle.definition.specs.Records.{Item, answerOf}
 use Rattle.definition.specs.Entry.{Literal, sixes, opening, placeOf, body, Refusal, refusal, entry}
@@ -43,48 +43,48 @@ use Rattle.strings.proofs.ListLaws.{Content}
 use Rattle.strings.proofs.RowLaws.{length-numbers, over-rows, literal-signed}
 
 -- A BODY of an f-string, and any other
-pub fstring-rows : (fr : Frame) (s rows rows′ : List ℕ) (fields : ℕ) (r : Read) → isFString (fr .kind) ≡ true
-    → SignedIs r (textN (enough s) (fr .kind) s 0 0 [] []) fr rows rows′ fields → SignedIs r (readBody (fr .kind) s) fr rows rows′ fields
+pub fstring-rows : (look : Naming) → (fr : Frame) (s rows rows′ : List ℕ) (fields : ℕ) (r : Read) → isFString (fr .kind) ≡ true
+    → SignedIs r (textN look (enough s) (fr .kind) s 0 0 [] []) fr rows rows′ fields → SignedIs r (readBody look (fr .kind) s) fr rows rows′ fields
 unfolding readBody
-fstring-rows fr s rows rows′ fields r e h = rw (e, readBody) h
+fstring-rows look fr s rows rows′ fields r e h = rw (e, readBody) h
 
-pub string-rows : (fr : Frame) (s rows : List ℕ) (fields used : ℕ) (text text′ : List ℕ) (to : ℕ) → isFString (fr .kind) ≡ false
-    → Content s (stringN (enough s) (fr .kind) s 0 []) used text text′ to → SignedBy (readBody (fr .kind) s) fr rows rows fields fields
+pub string-rows : (look : Naming) → (fr : Frame) (s rows : List ℕ) (fields used : ℕ) (text text′ : List ℕ) (to : ℕ) → isFString (fr .kind) ≡ false
+    → Content s (stringN look (enough s) (fr .kind) s 0 []) used text text′ to → SignedBy (readBody look (fr .kind) s) fr rows rows fields fields
 unfolding readBody alone
-string-rows fr s rows fields used text text′ to e c = rw (e, readBody, c .reads) (literal-signed fr 0 (c .content) rows fields)
+string-rows look fr s rows fields used text text′ to e c = rw (e, readBody, c .reads) (literal-signed fr 0 (c .content) rows fields)
 
 -- THE LIST: the rows of the literals before literal i are written
-pub record Rowing (v : Window) (script ns : List ℕ) (n : ℕ) (rows rows′ : List ℕ) (i fields : ℕ) (k : Sink) : Type 0 where
+pub record Rowing (look : Naming) (v : Window) (script ns : List ℕ) (n : ℕ) (rows rows′ : List ℕ) (i fields : ℕ) (k : Sink) : Type 0 where
   pub done : List Row
-  pub all : allRows script (literals ns 0 n) ≡ done ++ allRows script (literals ns i (n - i))
+  pub all : allRows look script (literals ns 0 n) ≡ done ++ allRows look script (literals ns i (n - i))
   pub wrote : Through v rows rows′ 0 (allNumbers (v .within) done)
   pub counted : fields ≡ length done
   pub few : fields ≤ k .count
 
-module _ (v : Window) (script ns : List ℕ) (n : ℕ) (rows : List ℕ) where
-  pub none-rowed : Rowing v script ns n rows rows 0 0 (record { count = 0; used = 0; held = 0; from = 0; parts = 0 })
+module _ (look : Naming) (v : Window) (script ns : List ℕ) (n : ℕ) (rows : List ℕ) where
+  pub none-rowed : Rowing look v script ns n rows rows 0 0 (record { count = 0; used = 0; held = 0; from = 0; parts = 0 })
   unfolding allNumbers
   none-rowed = record { done = []; all = rw sub-zero; wrote = λ whole e. rw (over-nil whole 0) e; counted = refl; few = omega arith }
 
-  module _ (rows′ : List ℕ) (i fields : ℕ) (k : Sink) (L : Rowing v script ns n rows rows′ i fields k) where
-    pub all-rowed : n ≤ i → Rowed v script (literals ns 0 n) rows rows′ k fields
+  module _ (rows′ : List ℕ) (i fields : ℕ) (k : Sink) (L : Rowing look v script ns n rows rows′ i fields k) where
+    pub all-rowed : n ≤ i → Rowed look v script (literals ns 0 n) rows rows′ k fields
     unfolding allRows
     all-rowed h =
-        let e : allRows script (literals ns 0 n) ≡ L .done = L .all ∙ rw (none-left ns n i h) (append-nil (L .done)) in
+        let e : allRows look script (literals ns 0 n) ≡ L .done = L .all ∙ rw (none-left ns n i h) (append-nil (L .done)) in
         record { wrote = rw e (L .wrote); counted = rw e (L .counted); few = L .few }
 
-    module _ (h : i < n) (l : Descriptor) (q : described l ≡ literalAt ns i) (w : Whole) (ps : List Piece) (j : ℕ) (e : readBody (l .kind) (body script (described l)) ≡ got ps j) where
-      here : literalRows script (literalAt ns i) ≡ rowsOf (frameOf l w v) ps
+    module _ (h : i < n) (l : Descriptor) (q : described l ≡ literalAt ns i) (w : Whole) (ps : List Piece) (j : ℕ) (e : readBody look (l .kind) (body script (described l)) ≡ got ps j) where
+      here : literalRows look script (literalAt ns i) ≡ rowsOf (frameOf l w v) ps
       unfolding literalRows piecesOf described placeOf
       here = rw (← q, e, add-zero)
 
-      pub next-rowed : (rows″ : List ℕ) (m : ℕ) (r : Sink) → Signed (frameOf l w v) ps rows′ rows″ fields m → m ≤ r .count → Rowing v script ns n rows rows″ (i + 1) m r
+      pub next-rowed : (rows″ : List ℕ) (m : ℕ) (r : Sink) → Signed (frameOf l w v) ps rows′ rows″ fields m → m ≤ r .count → Rowing look v script ns n rows rows″ (i + 1) m r
       unfolding allRows
       next-rowed rows″ m r a f =
           let these = rowsOf (frameOf l w v) ps in
           record {
             done = L .done ++ these;
-            all = L .all ∙ rw (one-left ns n i h, here) (sym (append-assoc (L .done) these (allRows script (literals ns (i + 1) (n - (i + 1))))));
+            all = L .all ∙ rw (one-left ns n i h, here) (sym (append-assoc (L .done) these (allRows look script (literals ns (i + 1) (n - (i + 1))))));
             wrote = λ whole e.
                 a .wrote (over whole 0 (allNumbers (v .within) (L .done))) (L .wrote whole e)
                 ∙ ap (drop (v .skip * 10)) (over-rows (v .within) whole 0 fields (L .done) these (omega (arith, L .counted)));
@@ -112,35 +112,35 @@ unfolding rowedNumbers numbers
 refused-rows rows rows₁ rows′ x r call e l h = rw e record { accepted = rw (h .0) refl; answer = rw (h .0) refl; rows = h .1 ∙ ap (λ n. replicate n 0) l }
 
 -- THE READING for rows, over flat numbers
-unfoldable reading : (script ns : List ℕ) → lists.Outcome d.Rowed
-reading script ns = elim (sixes ns) [ none ↦ refuses (refusal notSixes 0 0 0 0) | some ls ↦ rowed (allRows script ls) (read script ls) ]
+unfoldable reading : (look : Naming) → (script ns : List ℕ) → lists.Outcome d.Rowed
+reading look script ns = elim (sixes ns) [ none ↦ refuses (refusal notSixes 0 0 0 0) | some ls ↦ rowed (allRows look script ls) (read look script ls) ]
 
 abbrev windowed : (within skip : ℕ) → lists.Outcome d.Rowed → List ℕ → SignsCall
 windowed within skip o rows = record { outcome = o; rows = windowAfter within skip o rows }
 
-module _ (script ns : List ℕ) where
-  window-read : (within skip : ℕ) (rows : List ℕ) → windowNumbers within skip script ns rows ≡ windowed within skip (reading script ns) rows
+module _ (look : Naming) (script ns : List ℕ) where
+  window-read : (within skip : ℕ) (rows : List ℕ) → windowNumbers look within skip script ns rows ≡ windowed within skip (reading look script ns) rows
   unfolding reading windowNumbers windowInto windowAfter
   window-read within skip rows = go (sixes ns) refl
     where
-      go : (o : Option (List Literal)) → sixes ns ≡ o → windowNumbers within skip script ns rows ≡ windowed within skip (reading script ns) rows
+      go : (o : Option (List Literal)) → sixes ns ≡ o → windowNumbers look within skip script ns rows ≡ windowed within skip (reading look script ns) rows
       go none q = rw (q, windowNumbers, reading)
       go (some ls) q = rw (q, windowNumbers, reading)
 
-  signs-read : (rows : List ℕ) → signsNumbers script ns rows ≡ calledRows (roomedRows (length rows) (reading script ns)) rows
+  signs-read : (rows : List ℕ) → signsNumbers look script ns rows ≡ calledRows (roomedRows (length rows) (reading look script ns)) rows
   unfolding reading signsNumbers signsInto roomedRows
   signs-read rows = go (sixes ns) refl
     where
-      go : (o : Option (List Literal)) → sixes ns ≡ o → signsNumbers script ns rows ≡ calledRows (roomedRows (length rows) (reading script ns)) rows
+      go : (o : Option (List Literal)) → sixes ns ≡ o → signsNumbers look script ns rows ≡ calledRows (roomedRows (length rows) (reading look script ns)) rows
       go none q = rw (q, signsNumbers, reading)
       go (some ls) q = rw (q, signsNumbers, reading)
 
   -- what the checks of flat numbers refuse
-  pub refused-window : (within skip : ℕ) (rows : List ℕ) (r : Refusal) → refuses r ≡ checkNumbers script ns → windowNumbers within skip script ns rows ≡ refusing r rows
+  pub refused-window : (within skip : ℕ) (rows : List ℕ) (r : Refusal) → refuses r ≡ checkNumbers script ns → windowNumbers look within skip script ns rows ≡ refusing r rows
   unfolding checkNumbers reading windowAfter read rowed
   refused-window within skip rows r e = window-read within skip rows ∙ ap (λ o. windowed within skip o rows) (go (sixes ns) refl)
     where
-      go : (o : Option (List Literal)) → sixes ns ≡ o → reading script ns ≡ refuses r
+      go : (o : Option (List Literal)) → sixes ns ≡ o → reading look script ns ≡ refuses r
       go none q = let h : r ≡ refusal notSixes 0 0 0 0 = (let y = rw (q, checkNumbers) at e in cc) in rw (q, reading, h)
       go (some ls) q = rw (q, reading, refused _ r _ (rw (q, checkNumbers) at e), read, rowed)
 
@@ -149,37 +149,37 @@ module _ (script ns : List ℕ) where
     ls = literals ns 0 n
 
     -- and what passes them
-    passed-window : windowNumbers (v .within) (v .skip) script ns rows ≡ windowed (v .within) (v .skip) (rowed (allRows script ls) (answered script ls (readFrom script 0 ls))) rows
+    passed-window : windowNumbers look (v .within) (v .skip) script ns rows ≡ windowed (v .within) (v .skip) (rowed (allRows look script ls) (answered script ls (readFrom look script 0 ls))) rows
     unfolding reading read
     passed-window = window-read (v .within) (v .skip) rows ∙ rw (P .listed, reading, P .enters, read)
 
-    pub refused-list : (x : why.Refusal) → answered script ls (readFrom script 0 ls) ≡ refuses (refusalOf x) → windowNumbers (v .within) (v .skip) script ns rows ≡ refusing (refusalOf x) rows
+    pub refused-list : (x : why.Refusal) → answered script ls (readFrom look script 0 ls) ≡ refuses (refusalOf x) → windowNumbers look (v .within) (v .skip) script ns rows ≡ refusing (refusalOf x) rows
     unfolding rowed windowAfter
     refused-list x e = passed-window ∙ rw (e, rowed)
 
     pub accepted-rows : (w : Whole) (words text words₁ text₁ rows′ : List ℕ) (k : Sink) (fields chars q : ℕ) → chars ≡ allChars script ls → wholeOf w ≡ wholeFor ls → q ≡ sortNumber (sortOf ls)
-        → All (readFrom script 0 ls) (wholeOf w) words text words₁ text₁ k → Rowed v script ls rows rows′ k fields
-        → SignsIs (windowNumbers (v .within) (v .skip) script ns rows) rows′ (Accepted (record { sort = q; mark = w .mark; start = w .start; end = w .end; records = fields; text = 0; chars = chars }))
+        → All (readFrom look script 0 ls) (wholeOf w) words text words₁ text₁ k → Rowed look v script ls rows rows′ k fields
+        → SignsIs (windowNumbers look (v .within) (v .skip) script ns rows) rows′ (Accepted (record { sort = q; mark = w .mark; start = w .start; end = w .end; records = fields; text = 0; chars = chars }))
     unfolding answered answerOf rowed windowAfter rowedNumbers
     accepted-rows w words text words₁ text₁ rows′ k fields chars q m p s A R =
         rw (passed-window, A .reads)
         (record {
           accepted = refl;
           answer = (λ i. 0 ∷ s i ∷ p i .mark ∷ p i .start ∷ p i .end ∷ R .counted i ∷ 0 ∷ 0 ∷ m i ∷ []);
-          rows = front-shown v rows rows′ (allNumbers (v .within) (allRows script ls)) (R .wrote);
+          rows = front-shown v rows rows′ (allNumbers (v .within) (allRows look script ls)) (R .wrote);
         })
 
   -- FROM THE FIRST ROW ON: what a call for all rows owes beyond it is the room for them
   module _ (rows rows₁ : List ℕ) where
     abbrev First : Outcome → Type 0
-    First r = SignsIs (windowNumbers 0 0 script ns rows) rows₁ r
+    First r = SignsIs (windowNumbers look 0 0 script ns rows) rows₁ r
 
     abbrev Signs : List ℕ → Outcome → Type 0
-    Signs rows′ r = SignsIs (signsNumbers script ns rows) rows′ r
+    Signs rows′ r = SignsIs (signsNumbers look script ns rows) rows′ r
 
     pub refused-signs : (x : why.Refusal) → First (Refused x) → Signs rows₁ (Refused x)
     unfolding windowAfter roomedRows calledRows rowsAfter
-    refused-signs x h = rw signs-read (go (reading script ns) (rw window-read at h))
+    refused-signs x h = rw signs-read (go (reading look script ns) (rw window-read at h))
       where
         go : (o : lists.Outcome d.Rowed) → SignsIs (windowed 0 0 o rows) rows₁ (Refused x) → SignsIs (calledRows (roomedRows (length rows) o) rows) rows₁ (Refused x)
         go (accepts z) g = absurd (false≢true (g .accepted))
@@ -191,7 +191,7 @@ module _ (script ns : List ℕ) where
 
       pub short-signs : (y : why.Refusal) (rows′ : List ℕ) (r : Outcome) → room ≡ some (refusalOf y) → (r ≡ Refused y) × (rows′ ≡ zeros rows₁) → Signs rows′ r
       unfolding roomedRows outcomeOf calledRows rowsAfter rowedNumbers
-      short-signs y rows′ r e s = rw signs-read (go (reading script ns) (rw window-read at h))
+      short-signs y rows′ r e s = rw signs-read (go (reading look script ns) (rw window-read at h))
         where
           go : (o : lists.Outcome d.Rowed) → SignsIs (windowed 0 0 o rows) rows₁ (Accepted x) → SignsIs (calledRows (roomedRows (length rows) o) rows) rows′ r
           go (refuses y) g = absurd (true≢false (g .accepted))
@@ -203,7 +203,7 @@ module _ (script ns : List ℕ) where
 
       pub accepted-signs : room ≡ none → Signs rows₁ (Accepted x)
       unfolding windowAfter roomedRows outcomeOf calledRows rowsAfter rowedNumbers
-      accepted-signs e = rw signs-read (go (reading script ns) (rw window-read at h))
+      accepted-signs e = rw signs-read (go (reading look script ns) (rw window-read at h))
         where
           go : (o : lists.Outcome d.Rowed) → SignsIs (windowed 0 0 o rows) rows₁ (Accepted x) → SignsIs (calledRows (roomedRows (length rows) o) rows) rows₁ (Accepted x)
           go (refuses y) g = absurd (true≢false (g .accepted))

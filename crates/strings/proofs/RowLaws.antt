@@ -8,7 +8,7 @@ use lib.ListN.{length, drop, length-append, drop-of-length-le}
 use Rattle.definition.specs.Chars.{if_then_else_, next}
 use Rattle.definition.specs.Numbers.{isBytes}
 use Rattle.definition.specs.Escapes as d
-use Rattle.definition.specs.Escapes.{got, refused}
+use Rattle.definition.specs.Escapes.{Naming, got, refused}
 use Rattle.definition.specs.Body.{Signs, Piece, literal, field, spec, filled, direct, Field, fresh, Move, calls, selfDocumenting, fieldN, enough}
 use Rattle.definition.specs.Records.{Item, item, itemOf, top, raw, inner, covers}
 use Rattle.definition.specs.Rows.{Row, rowNumbers, signsAt, fieldRows, allNumbers}
@@ -206,32 +206,32 @@ few-field fr depth ex h parts at words text words′ text′ k r fields m l =
     omega (arith, fewer fr depth (before-spec depth ex h parts at g) words text words′ text′ k r (m g), ap length (one-row fr depth ex h parts at 0 0))
 
 -- THE LOOP OF TEXT, with the rows of what was read: at its start
-abbrev pub Rowing : List ℕ → (kind depth at : ℕ) → Frame → (words text words₁ text₁ rows rows₁ : List ℕ) → Sink → (fields i : ℕ) → Sink → ℕ → Type 0
-Rowing s kind depth at fr words text words₁ text₁ rows rows₁ k fields i r n =
-    (S : Sofar s kind depth at fr words text words₁ text₁ k i r) × Signed fr (S .pieces) rows rows₁ fields n × (n ≤ r .count)
+abbrev pub Rowing : (look : Naming) → List ℕ → (kind depth at : ℕ) → Frame → (words text words₁ text₁ rows rows₁ : List ℕ) → Sink → (fields i : ℕ) → Sink → ℕ → Type 0
+Rowing look s kind depth at fr words text words₁ text₁ rows rows₁ k fields i r n =
+    (S : Sofar look s kind depth at fr words text words₁ text₁ k i r) × Signed fr (S .pieces) rows rows₁ fields n × (n ≤ r .count)
 
-pub begun : (s : List ℕ) (kind depth at : ℕ) (fr : Frame) (words text rows : List ℕ) (k : Sink) (fields : ℕ) → Room s at fr k → fields ≤ k .count
-    → Rowing s kind depth at fr words text words text rows rows k fields at k fields
-begun s kind depth at fr words text rows k fields h l =
-    (start s kind depth at fr words text k h, rw (start-pieces s kind depth at fr words text k h) (no-signs fr rows fields), l)
+pub begun : (look : Naming) → (s : List ℕ) (kind depth at : ℕ) (fr : Frame) (words text rows : List ℕ) (k : Sink) (fields : ℕ) → Room s at fr k → fields ≤ k .count
+    → Rowing look s kind depth at fr words text words text rows rows k fields at k fields
+begun look s kind depth at fr words text rows k fields h l =
+    (start look s kind depth at fr words text k h, rw (start-pieces look s kind depth at fr words text k h) (no-signs fr rows fields), l)
 
 -- text up to i′ and a field there
-module _ (s : List ℕ) (depth at : ℕ) (fr : Frame) (words text words₁ text₁ : List ℕ) (k : Sink) (i : ℕ) (a : Sink) (S : Sofar s (fr .kind) depth at fr words text words₁ text₁ k i a)
-    (i′ end : ℕ) (m : Move (List ℕ)) (text₂ : List ℕ) (R : StopsBy m (fr .kind) s depth i (a .used) text₁ text₂ i′ end) (words₂ : List ℕ) (b : Sink)
+module _ (look : Naming) (s : List ℕ) (depth at : ℕ) (fr : Frame) (words text words₁ text₁ : List ℕ) (k : Sink) (i : ℕ) (a : Sink) (S : Sofar look s (fr .kind) depth at fr words text words₁ text₁ k i a)
+    (i′ end : ℕ) (m : Move (List ℕ)) (text₂ : List ℕ) (R : StopsBy look m (fr .kind) s depth i (a .used) text₁ text₂ i′ end) (words₂ : List ℕ) (b : Sink)
     (g : (t T : List ℕ) → end ≡ a .used + length t → Emits fr depth (filled depth t) words₁ T words₂ (over T (a .used) t) a b) where
   pub text-few : (n : ℕ) → n ≤ a .count → n ≤ b .count
   text-few n l =
-      few-on fr depth (filled depth (content s depth at fr words text words₁ text₁ k i a S i′ end m text₂ R words₂ b g)) words₁ text₁ words₂ text₂ [] [] a b n n
-      (one s depth at fr words text words₁ text₁ k i a S i′ end m text₂ R words₂ b g) (filled-signed fr depth (content s depth at fr words text words₁ text₁ k i a S i′ end m text₂ R words₂ b g) [] n) l
+      few-on fr depth (filled depth (content look s depth at fr words text words₁ text₁ k i a S i′ end m text₂ R words₂ b g)) words₁ text₁ words₂ text₂ [] [] a b n n
+      (one look s depth at fr words text words₁ text₁ k i a S i′ end m text₂ R words₂ b g) (filled-signed fr depth (content look s depth at fr words text words₁ text₁ k i a S i′ end m text₂ R words₂ b g) [] n) l
 
   pub goes-on : (f : ℕ) (h : m ≡ calls) (l : i′ < length s) (e : f ≡ next s i′) (words′ text′ : List ℕ) (j : ℕ) (r : Sink)
-      (G : Gave (λ l. l) (fieldN (enough s) (fr .kind) s depth f f fresh) fr depth words₂ text₂ words′ text′ b j r)
+      (G : Gave (λ l. l) (fieldN look (enough s) (fr .kind) s depth f f fresh) fr depth words₂ text₂ words′ text′ b j r)
       (rows rows₁ rows₂ : List ℕ) (fields n n′ : ℕ) → Signed fr (S .pieces) rows rows₁ fields n → n ≤ a .count → Signed fr (G .pieces) rows₁ rows₂ n n′
-      → Rowing s (fr .kind) depth at fr words text words′ text′ rows rows₂ k fields j r n′
+      → Rowing look s (fr .kind) depth at fr words text words′ text′ rows rows₂ k fields j r n′
   goes-on f h l e words′ text′ j r G rows rows₁ rows₂ fields n n′ p q z =
-      let t = content s depth at fr words text words₁ text₁ k i a S i′ end m text₂ R words₂ b g in (
-        field-read s depth at fr words text words₁ text₁ k i a S i′ end m text₂ R words₂ b g f h l e words′ text′ j r G,
-        rw (read-pieces s depth at fr words text words₁ text₁ k i a S i′ end m text₂ R words₂ b g f h l e words′ text′ j r G)
+      let t = content look s depth at fr words text words₁ text₁ k i a S i′ end m text₂ R words₂ b g in (
+        field-read look s depth at fr words text words₁ text₁ k i a S i′ end m text₂ R words₂ b g f h l e words′ text′ j r G,
+        rw (read-pieces look s depth at fr words text words₁ text₁ k i a S i′ end m text₂ R words₂ b g f h l e words′ text′ j r G)
             (both-signed fr (S .pieces ++ filled depth t) (G .pieces) rows rows₁ rows₂ fields n n′ (text-signed fr (S .pieces) depth t rows rows₁ fields n p) z),
         few-on fr depth (G .pieces) words₂ text₂ words′ text′ rows₁ rows₂ b r n n′ (G .emits) z (text-few n q),
       )

@@ -6,7 +6,7 @@ use mathlib.Core.Option.{none}
 use Prim.Native.Nat.{ℕ, zero, suc, _-_, _<_}
 use Rattle.definition.specs.Numbers.{isBytes, isUnicode}
 use Rattle.definition.specs.Chars.{if_then_else_}
-use Rattle.definition.specs.Escapes.{Read, got, refused}
+use Rattle.definition.specs.Escapes.{Naming, Read, got, refused}
 use Rattle.definition.specs.Body.{Piece, literal, field, spec, readBody}
 use Rattle.definition.specs.Records.{Role, top, raw, covers, Item, item, itemOf}
 use Rattle.definition.specs.Entry.{Literal, placeOf, body, anyOf, firstStart, notMixed}
@@ -54,7 +54,7 @@ unfolding item
 made w true t start end k = record { role-is = refl; kind = rw k; parts = refl; place = refl }
 made w false t start end k = record { role-is = refl; kind = rw k; parts = refl; place = refl }
 
-module _ (w : e.Whole) (b : Bool) (k : w .kind ≡ (if b then 4 else 1)) where
+module _ (look : Naming) (w : e.Whole) (b : Bool) (k : w .kind ≡ (if b then 4 else 1)) where
   abbrev role : Role
   role = if b then raw else top
 
@@ -83,25 +83,25 @@ module _ (w : e.Whole) (b : Bool) (k : w .kind ≡ (if b then 4 else 1)) where
   tops-then (accepts ys) (refuses r) f g xs e = clash cc
   tops-then (accepts ys) (accepts zs) f g xs e = let q : ys ++ zs ≡ xs = cc in rw (← q) (tops-append ys zs (f ys refl) (g zs refl))
 
-  tops-literal : (script : List ℕ) (i : ℕ) (l : Literal) → isBytes (l .kind) ≡ b → Given (readLiteral script i l)
+  tops-literal : (script : List ℕ) (i : ℕ) (l : Literal) → isBytes (l .kind) ≡ b → Given (readLiteral look script i l)
   unfolding readLiteral
-  tops-literal script i l h xs e = go (readBody (l .kind) (body script l)) refl
+  tops-literal script i l h xs e = go (readBody look (l .kind) (body script l)) refl
     where
-      go : (r : Read (List Piece)) → readBody (l .kind) (body script l) ≡ r → Tops w role xs
+      go : (r : Read (List Piece)) → readBody look (l .kind) (body script l) ≡ r → Tops w role xs
       go (got ps j) q =
           let y : accepts (map (itemOf (l .kind) (l .start) (l .end) (placeOf l 0)) ps) ≡ accepts xs = rw (q, readLiteral) at e in
           let z : map (itemOf (l .kind) (l .start) (l .end) (placeOf l 0)) ps ≡ xs = cc in
           rw (← z) (tops-pieces (l .kind) (l .start) (l .end) (placeOf l 0) h ps)
       go (refused x) q = clash (let y = rw (q, readLiteral) at e in cc)
 
-  tops-all : (script : List ℕ) (i : ℕ) (ls : List Literal) → Alike b ls → Given (readFrom script i ls)
+  tops-all : (script : List ℕ) (i : ℕ) (ls : List Literal) → Alike b ls → Given (readFrom look script i ls)
   unfolding readFrom
   tops-all script i [] h xs e = let q : [] ≡ xs = cc in rw (← q) tt
-  tops-all script i (l ∷ ls) h xs e = tops-then (readLiteral script i l) (readFrom script (suc i) ls) (tops-literal script i l (h .0)) (tops-all script (suc i) ls (h .1)) xs e
+  tops-all script i (l ∷ ls) h xs e = tops-then (readLiteral look script i l) (readFrom look script (suc i) ls) (tops-literal script i l (h .0)) (tops-all script (suc i) ls (h .1)) xs e
 
 -- WHAT IS READ OF LITERALS THAT ARE NOT MIXED: every top-level item is as their whole has it
-pub tops-read : (script : List ℕ) (i : ℕ) (ls : List Literal) (xs : List Item) → notMixed ls ≡ none → readFrom script i ls ≡ accepts xs → Tops (wholeFor ls) (roleFor ls) xs
-tops-read script i ls xs n e = tops-all (wholeFor ls) (anyOf isBytes ls) refl script i ls (alike ls n) xs e
+pub tops-read : (look : Naming) → (script : List ℕ) (i : ℕ) (ls : List Literal) (xs : List Item) → notMixed ls ≡ none → readFrom look script i ls ≡ accepts xs → Tops (wholeFor ls) (roleFor ls) xs
+tops-read look script i ls xs n e = tops-all look (wholeFor ls) (anyOf isBytes ls) refl script i ls (alike ls n) xs e
 
 -- and their role is a top-level one
 pub covers-role : (ls : List Literal) → covers (roleFor ls) ≡ true

@@ -7,7 +7,7 @@ use lib.Dec.{ltb, eqb}
 use lib.ListN.{length, getD}
 use Rattle.definition.specs.Numbers.{emptyExpression}
 use Rattle.definition.specs.Chars.{if_then_else_, byte, _to_, inside, part, next}
-use Rattle.definition.specs.Escapes.{fault, refused}
+use Rattle.definition.specs.Escapes.{Naming, fault, refused}
 use Rattle.definition.specs.Body.{Bracket, signs, Move, goes, stops, calls, ends, Field, state, fresh, FieldCase, pair, converts, documents, formats, opener, closes, closer, quote, space, backslash, stray, plain, fieldMove, fieldN, enough}
 use Rattle.definition.proofs.Moves.{fieldSize}
 use Rattle.buffers.specs.Over.{over}
@@ -154,7 +154,7 @@ closedAs h =
 pub record HeadIs (move : Move Field) (s : List ℕ) (from used : ℕ) (h : Head) (text text′ : List ℕ) : Type 0 where
   pub expression : List ℕ
   pub place : ℕ
-  pub same : (kind depth : ℕ) → fieldN (enough s) kind s depth from from fresh ≡ fieldN (enough s) kind s depth from place (headState expression h)
+  pub same : (look : Naming) (kind depth : ℕ) → fieldN look (enough s) kind s depth from from fresh ≡ fieldN look (enough s) kind s depth from place (headState expression h)
   pub moves : fieldMove s place (headState expression h) ≡ move
   pub there : place < length s
   pub later : from ≤ place
@@ -179,4 +179,4 @@ pub record EndedIs (s : List ℕ) (from used : ℕ) (h : Head) (parts : ℕ) (te
 abbrev pub OpenedIs : List ℕ → ℕ → ℕ → Opened → List ℕ → List ℕ → Type 0
 OpenedIs s from used (opened.Ended h parts) text text′ = EndedIs s from used h parts text text′
 OpenedIs s from used (opened.Refused x) text text′ =
-    (kind depth : ℕ) → fieldN (enough s) kind s depth from from fresh ≡ refused (faultOf x)
+    (look : Naming) (kind depth : ℕ) → fieldN look (enough s) kind s depth from from fresh ≡ refused (faultOf x)

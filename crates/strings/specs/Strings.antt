@@ -7,7 +7,7 @@ use lib.ListN.{length}
 use Rattle.definition.specs.Numbers.{isBytes}
 use Rattle.definition.specs.Chars.{if_then_else_, wellFormed}
 use Rattle.definition.specs.Records.{Role, top, raw, Item}
-use Rattle.definition.specs.Escapes.{Fault}
+use Rattle.definition.specs.Escapes.{Naming, Fault}
 use Rattle.definition.specs.Entry.{Literal, opening, placeOf, body, Refusal, moved, total, anyOf, firstStart}
 use Rattle.definition.specs.Reading.{accepts, refuses, allChars, refusalIn, readFrom, uMark, lastEnd, answered, Call, numbers}
 use Rattle.definition.specs.Reading as lists
@@ -103,19 +103,19 @@ pub record All (reading : lists.Outcome (List Item)) (w : e.Whole) (words text w
   pub reads : reading ≡ accepts items
   pub wrote : Wrote w items words text words′ text′ r
 
-abbrev pub ListIs : List ℕ → List Literal → e.Whole → List ℕ → List ℕ → List ℕ → List ℕ → Listed → Type 0
-ListIs script ls w words text words′ text′ (listed.Done r n) = All (readFrom script 0 ls) w words text words′ text′ r
-ListIs script ls w words text words′ text′ (listed.Refused x) = answered script ls (readFrom script 0 ls) ≡ refuses (refusalOf x)
+abbrev pub ListIs : (look : Naming) → List ℕ → List Literal → e.Whole → List ℕ → List ℕ → List ℕ → List ℕ → Listed → Type 0
+ListIs look script ls w words text words′ text′ (listed.Done r n) = All (readFrom look script 0 ls) w words text words′ text′ r
+ListIs look script ls w words text words′ text′ (listed.Refused x) = answered script ls (readFrom look script 0 ls) ≡ refuses (refusalOf x)
 
 -- and their rows are written, and counted; each field has a record
-pub record Rowed (v : Window) (script : List ℕ) (ls : List Literal) (rows rows′ : List ℕ) (r : Sink) (n : ℕ) : Type 0 where
-  pub wrote : Through v rows rows′ 0 (allNumbers (v .within) (allRows script ls))
-  pub counted : n ≡ length (allRows script ls)
+pub record Rowed (look : Naming) (v : Window) (script : List ℕ) (ls : List Literal) (rows rows′ : List ℕ) (r : Sink) (n : ℕ) : Type 0 where
+  pub wrote : Through v rows rows′ 0 (allNumbers (v .within) (allRows look script ls))
+  pub counted : n ≡ length (allRows look script ls)
   pub few : n ≤ r .count
 
-abbrev pub RowsAre : Window → List ℕ → List Literal → List ℕ → List ℕ → Listed → Type 0
-RowsAre v script ls rows rows′ (listed.Done r n) = Rowed v script ls rows rows′ r n
-RowsAre v script ls rows rows′ (listed.Refused x) = Unit {0}
+abbrev pub RowsAre : (look : Naming) → Window → List ℕ → List Literal → List ℕ → List ℕ → Listed → Type 0
+RowsAre look v script ls rows rows′ (listed.Done r n) = Rowed look v script ls rows rows′ r n
+RowsAre look v script ls rows rows′ (listed.Refused x) = Unit {0}
 
 -- a call of the definition for rows: what is answered, and the row buffer afterwards
 pub record SignsIs (call : SignsCall) (rows′ : List ℕ) (r : Outcome) : Type 0 where

@@ -5,7 +5,7 @@ use mathlib.Core.Bool.{false}
 use mathlib.Core.List.{List, []}
 use lib.ListN.{length, drop}
 use Rattle.definition.specs.Chars.{byte, part, next, before}
-use Rattle.definition.specs.Escapes.{Fault, Read, got, refused}
+use Rattle.definition.specs.Escapes.{Naming, Fault, Read, got, refused}
 use Rattle.definition.specs.Body.{Piece as Record, Move, goes, stops, calls, ends, textN, textMove, enough}
 use Rattle.marks.specs.Marks.{special}
 use Rattle.buffers.specs.Over.{over}
@@ -78,25 +78,25 @@ pub record Upto (Same : ℕ → List ℕ → Type 0) (s : List ℕ) (from used :
   pub ended : end ≡ used + length content
 
 -- what the definition gives from i on, with the text, is what it gives from `from` on
-abbrev pub TextFrom : ℕ → List ℕ → ℕ → ℕ → ℕ → List ℕ → Type 0
-TextFrom kind s depth from i content =
-    (ps : List Record) → textN (enough s) kind s depth from [] ps ≡ textN (enough s) kind s depth i content ps
+abbrev pub TextFrom : (look : Naming) → ℕ → List ℕ → ℕ → ℕ → ℕ → List ℕ → Type 0
+TextFrom look kind s depth from i content =
+    (ps : List Record) → textN look (enough s) kind s depth from [] ps ≡ textN look (enough s) kind s depth i content ps
 
 -- the text stops at i, by a move there
-pub record StopsBy (m : Move (List ℕ)) (kind : ℕ) (s : List ℕ) (depth from used : ℕ) (text text′ : List ℕ) (i end : ℕ) : Type 0 where
-  pub upto : Upto (TextFrom kind s depth from) s from used text text′ i end
-  pub move : textMove kind s depth i (upto .content) ≡ m
+pub record StopsBy (look : Naming) (m : Move (List ℕ)) (kind : ℕ) (s : List ℕ) (depth from used : ℕ) (text text′ : List ℕ) (i end : ℕ) : Type 0 where
+  pub upto : Upto (TextFrom look kind s depth from) s from used text text′ i end
+  pub move : textMove look kind s depth i (upto .content) ≡ m
 
 -- it stops at a field, whose `{` stands before k
-pub record OpensBefore (kind : ℕ) (s : List ℕ) (depth from used : ℕ) (text text′ : List ℕ) (k end : ℕ) : Type 0 where
+pub record OpensBefore (look : Naming) (kind : ℕ) (s : List ℕ) (depth from used : ℕ) (text text′ : List ℕ) (k end : ℕ) : Type 0 where
   pub brace : ℕ
   pub there : brace < length s
   pub after : k ≡ next s brace
-  pub stops : StopsBy calls kind s depth from used text text′ brace end
+  pub stops : StopsBy look calls kind s depth from used text text′ brace end
 
 -- a run of text from `from` on: the buffer before and after it, and the answer
-abbrev pub RunIs : ℕ → List ℕ → ℕ → ℕ → ℕ → List ℕ → List ℕ → Run → Type 0
-RunIs kind s depth from used text text′ (AtField k end) = OpensBefore kind s depth from used text text′ (k .at) end
-RunIs kind s depth from used text text′ (AtEnd k end) = StopsBy ends kind s depth from used text text′ (k .at) end
-RunIs kind s depth from used text text′ (None x) =
-    (ps : List Record) → textN (enough s) kind s depth from [] ps ≡ refused (faultOf x)
+abbrev pub RunIs : (look : Naming) → ℕ → List ℕ → ℕ → ℕ → ℕ → List ℕ → List ℕ → Run → Type 0
+RunIs look kind s depth from used text text′ (AtField k end) = OpensBefore look kind s depth from used text text′ (k .at) end
+RunIs look kind s depth from used text text′ (AtEnd k end) = StopsBy look ends kind s depth from used text text′ (k .at) end
+RunIs look kind s depth from used text text′ (None x) =
+    (ps : List Record) → textN look (enough s) kind s depth from [] ps ≡ refused (faultOf x)

@@ -26,6 +26,7 @@ ghost use lib.ListN.{length};
 ghost use Rattle.definition.specs.Chars.{part};
 ghost use Rattle.definition.specs.Escapes.{fault};
 ghost use Rattle.definition.specs.Body.{firstEnd, textN, fieldN, fresh, specN, enough};
+ghost use Rattle.escapes.specs.Answers.{namesBy};
 ghost use Rattle.buffers.specs.Over.{over};
 ghost use Rattle.strings.specs.Sinks.{isHeld, loadOf};
 ghost use Rattle.strings.specs.Text.{refusal};
@@ -101,11 +102,14 @@ fn parse_spec(
     rows: &mut [u32],
     k: Sink,
     fields: usize,
+    lent: bool,
+    file: &[u8],
+    index: &[u32],
 ) -> Read
     requires { ⌜ Room (now s) (at .at) fr k ⌝ }
     requires { ⌜ (nested ≤ 1) × (isHeld k ≡ false) × (loadOf k + 8 * (length (now s) - at .at) < 16777216) ⌝ }
     requires { ⌜ fields ≤ k .count ⌝ }
-    ensures { λ r. ⌜ SpecIs (specN (enough (now (s .entry))) (fr .kind) (now (s .entry)) nested (at .at)) fr nested (now (words .entry)) (now (text .entry)) (now (words .exit)) (now (text .exit)) k r × SignedIs r (specN (enough (now (s .entry))) (fr .kind) (now (s .entry)) nested (at .at)) fr (now (rows .entry)) (now (rows .exit)) fields ⌝ }
+    ensures { λ r. ⌜ SpecIs (specN (namesBy lent (now (file .entry)) (now (index .entry))) (enough (now (s .entry))) (fr .kind) (now (s .entry)) nested (at .at)) fr nested (now (words .entry)) (now (text .entry)) (now (words .exit)) (now (text .exit)) k r × SignedIs r (specN (namesBy lent (now (file .entry)) (now (index .entry))) (enough (now (s .entry))) (fr .kind) (now (s .entry)) nested (at .at)) fr (now (rows .entry)) (now (rows .exit)) fields ⌝ }
 {
     let first = read_first(s, at, text, k.used);
     let end = first.at;
@@ -113,7 +117,20 @@ fn parse_spec(
     if end.peek(s) != 0x7B {
         return Read::Done(end, fill_spec(words, fr, k, a), fields);
     }
-    match parse_fstring(s, end, nested + 1, fr, words, text, rows, a, fields) {
+    match parse_fstring(
+        s,
+        end,
+        nested + 1,
+        fr,
+        words,
+        text,
+        rows,
+        a,
+        fields,
+        lent,
+        file,
+        index,
+    ) {
         Read::Refused(r) => Read::Refused(r),
         Read::Done(next, b, n) => Read::Done(next, fill_spec(words, fr, k, b), n),
     }
@@ -130,11 +147,14 @@ fn parse_formatted_value(
     rows: &mut [u32],
     k: Sink,
     fields: usize,
+    lent: bool,
+    file: &[u8],
+    index: &[u32],
 ) -> Read
     requires { ⌜ Room (now s) (at .at) fr k ⌝ }
     requires { ⌜ nested ≤ 1 ⌝ }
     requires { ⌜ fields ≤ k .count ⌝ }
-    ensures { λ r. ⌜ ReadIs (fieldN (enough (now (s .entry))) (fr .kind) (now (s .entry)) nested (at .at) (at .at) fresh) fr nested (now (words .entry)) (now (text .entry)) (now (words .exit)) (now (text .exit)) k r × SignedIs r (fieldN (enough (now (s .entry))) (fr .kind) (now (s .entry)) nested (at .at) (at .at) fresh) fr (now (rows .entry)) (now (rows .exit)) fields ⌝ }
+    ensures { λ r. ⌜ ReadIs (fieldN (namesBy lent (now (file .entry)) (now (index .entry))) (enough (now (s .entry))) (fr .kind) (now (s .entry)) nested (at .at) (at .at) fresh) fr nested (now (words .entry)) (now (text .entry)) (now (words .exit)) (now (text .exit)) k r × SignedIs r (fieldN (namesBy lent (now (file .entry)) (now (index .entry))) (enough (now (s .entry))) (fr .kind) (now (s .entry)) nested (at .at) (at .at) fresh) fr (now (rows .entry)) (now (rows .exit)) fields ⌝ }
 {
     match read_head(s, at, text, k.used) {
         Opened::Refused(r) => Read::Refused(r),
@@ -146,7 +166,20 @@ fn parse_formatted_value(
                 put_signs(rows, fields, fr, h, size, parts, at.at, 0, after.at);
                 return Read::Done(after, a, fields + 1);
             }
-            match parse_spec(s, after, nested, fr, words, text, rows, a, fields + 1) {
+            match parse_spec(
+                s,
+                after,
+                nested,
+                fr,
+                words,
+                text,
+                rows,
+                a,
+                fields + 1,
+                lent,
+                file,
+                index,
+            ) {
                 Read::Refused(r) => Read::Refused(r),
                 Read::Done(next, b, n) => match end_field(s, next, h.blank) {
                     End::Refused(r) => Read::Refused(r),
@@ -171,11 +204,14 @@ pub(crate) fn parse_fstring(
     rows: &mut [u32],
     k: Sink,
     fields: usize,
+    lent: bool,
+    file: &[u8],
+    index: &[u32],
 ) -> Read
     requires { ⌜ Room (now s) (at .at) fr k ⌝ }
     requires { ⌜ nested ≤ 2 ⌝ }
     requires { ⌜ fields ≤ k .count ⌝ }
-    ensures { λ r. ⌜ ReadIs (textN (enough (now (s .entry))) (fr .kind) (now (s .entry)) nested (at .at) [] []) fr nested (now (words .entry)) (now (text .entry)) (now (words .exit)) (now (text .exit)) k r × SignedIs r (textN (enough (now (s .entry))) (fr .kind) (now (s .entry)) nested (at .at) [] []) fr (now (rows .entry)) (now (rows .exit)) fields ⌝ }
+    ensures { λ r. ⌜ ReadIs (textN (namesBy lent (now (file .entry)) (now (index .entry))) (enough (now (s .entry))) (fr .kind) (now (s .entry)) nested (at .at) [] []) fr nested (now (words .entry)) (now (text .entry)) (now (words .exit)) (now (text .exit)) k r × SignedIs r (textN (namesBy lent (now (file .entry)) (now (index .entry))) (enough (now (s .entry))) (fr .kind) (now (s .entry)) nested (at .at) [] []) fr (now (rows .entry)) (now (rows .exit)) fields ⌝ }
 {
     if 2 <= nested {
         return Read::Refused(refuse(EXPRESSION_NESTED_TOO_DEEPLY, at.at));
@@ -184,14 +220,37 @@ pub(crate) fn parse_fstring(
     let mut sink = k;
     let mut count = fields;
     loop {
-        match text_run(s, cursor, nested, fr.kind, text, sink.used) {
+        match text_run(
+            s,
+            cursor,
+            nested,
+            fr.kind,
+            text,
+            sink.used,
+            lent,
+            file,
+            index,
+        ) {
             Run::Refused(r) => return Read::Refused(r),
             Run::Over(next, used) => {
                 return Read::Done(next, end_text(words, fr, sink, used, nested), count);
             }
             Run::Field(next, used) => {
                 let a = end_text(words, fr, sink, used, nested);
-                match parse_formatted_value(s, next, nested, fr, words, text, rows, a, count) {
+                match parse_formatted_value(
+                    s,
+                    next,
+                    nested,
+                    fr,
+                    words,
+                    text,
+                    rows,
+                    a,
+                    count,
+                    lent,
+                    file,
+                    index,
+                ) {
                     Read::Refused(r) => return Read::Refused(r),
                     Read::Done(after, b, n) => {
                         cursor = after;

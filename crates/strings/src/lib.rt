@@ -28,12 +28,15 @@ ghost use Prim.Native.Nat.{ℕ, _<_, _≤_};
 ghost use lib.ListN.{length};
 ghost use Rattle.definition.specs.Numbers.{isBytes, isUnicode, unclosedLbrace};
 ghost use Rattle.definition.specs.Chars.{if_then_else_};
-ghost use Rattle.definition.specs.Escapes.{detail};
+ghost use Rattle.definition.specs.Escapes.{heldNames, detail};
 ghost use Rattle.definition.specs.Records.{Role, covers, Item};
-ghost use Rattle.definition.specs.Entry.{placeOf, body, anyOf};
+ghost use Rattle.definition.specs.Entry.{placeOf, body, anyOf, refusal as aRefusal};
 ghost use Rattle.definition.specs.Body.{readBody};
 ghost use Rattle.definition.specs.Reading.{accepts, allChars, openedAt, sortOf, sortNumber, answered, roomed, called, readNumbers, zeros};
 ghost use Rattle.definition.specs.Rows.{signsNumbers};
+ghost use Rattle.definition.specs.Names.{searched};
+ghost use Rattle.definition.specs.NamedReading.{namedNumbers};
+ghost use Rattle.escapes.specs.Answers.{namesBy};
 ghost use Rattle.entry.specs.Answers.{described, refusalOf};
 ghost use Rattle.entry.specs.Literals.{literals};
 ghost use Rattle.entry.proofs.Passed.{Passed};
@@ -106,15 +109,31 @@ fn read_body(
     rows: &mut [u32],
     k: Sink,
     fields: usize,
+    lent: bool,
+    file: &[u8],
+    index: &[u32],
 ) -> Read
     requires { ⌜ BodyRoom (now s) 0 fr k ⌝ }
     requires { ⌜ fields ≤ k .count ⌝ }
-    ensures { λ r. ⌜ ReadIs (readBody (fr .kind) (now (s .entry))) fr 0 (now (words .entry)) (now (text .entry)) (now (words .exit)) (now (text .exit)) k r × SignedIs r (readBody (fr .kind) (now (s .entry))) fr (now (rows .entry)) (now (rows .exit)) fields ⌝ }
+    ensures { λ r. ⌜ ReadIs (readBody (namesBy lent (now (file .entry)) (now (index .entry))) (fr .kind) (now (s .entry))) fr 0 (now (words .entry)) (now (text .entry)) (now (words .exit)) (now (text .exit)) k r × SignedIs r (readBody (namesBy lent (now (file .entry)) (now (index .entry))) (fr .kind) (now (s .entry))) fr (now (rows .entry)) (now (rows .exit)) fields ⌝ }
 {
     if entry::is_of(Class::FStrings, fr.kind) {
-        return parse_fstring(s, Cursor { at: 0 }, 0, fr, words, text, rows, k, fields);
+        return parse_fstring(
+            s,
+            Cursor { at: 0 },
+            0,
+            fr,
+            words,
+            text,
+            rows,
+            k,
+            fields,
+            lent,
+            file,
+            index,
+        );
     }
-    match parse_string(s, fr.kind, text, k.used) {
+    match parse_string(s, fr.kind, text, k.used, lent, file, index) {
         Text::Refused(r) => Read::Refused(r),
         Text::Done(used) => {
             Read::Done(
@@ -137,10 +156,13 @@ fn read_literal(
     k: Sink,
     fields: usize,
     window: Window,
+    lent: bool,
+    file: &[u8],
+    index: &[u32],
 ) -> Read
     requires { ⌜ Room (now script) l k ⌝ }
     requires { ⌜ fields ≤ k .count ⌝ }
-    ensures { λ r. ⌜ ReadIs (readBody (l .kind) (body (now (script .entry)) (described l))) (frameOf l whole window) 0 (now (words .entry)) (now (text .entry)) (now (words .exit)) (now (text .exit)) k r × SignedIs r (readBody (l .kind) (body (now (script .entry)) (described l))) (frameOf l whole window) (now (rows .entry)) (now (rows .exit)) fields ⌝ }
+    ensures { λ r. ⌜ ReadIs (readBody (namesBy lent (now (file .entry)) (now (index .entry))) (l .kind) (body (now (script .entry)) (described l))) (frameOf l whole window) 0 (now (words .entry)) (now (text .entry)) (now (words .exit)) (now (text .exit)) k r × SignedIs r (readBody (namesBy lent (now (file .entry)) (now (index .entry))) (l .kind) (body (now (script .entry)) (described l))) (frameOf l whole window) (now (rows .entry)) (now (rows .exit)) fields ⌝ }
 {
     let from = l.offset as usize;
     let to = from + l.size as usize;
@@ -153,7 +175,18 @@ fn read_literal(
         whole,
         window,
     };
-    read_body(&script[from..to], fr, words, text, rows, k, fields)
+    read_body(
+        &script[from..to],
+        fr,
+        words,
+        text,
+        rows,
+        k,
+        fields,
+        lent,
+        file,
+        index,
+    )
 }
 
 // The place just after the bracket that a body's refusal names; 0 if it names none.
@@ -215,9 +248,12 @@ fn read_list(
     text: &mut [u8],
     rows: &mut [u32],
     window: Window,
+    lent: bool,
+    file: &[u8],
+    index: &[u32],
 ) -> Listed
     requires { ⌜ Passed (now script) (now numbers) count ⌝ }
-    ensures { λ r. ⌜ ListIs (now (script .entry)) (literals (now (numbers .entry)) 0 count) (wholeOf whole) (now (words .entry)) (now (text .entry)) (now (words .exit)) (now (text .exit)) r × RowsAre window (now (script .entry)) (literals (now (numbers .entry)) 0 count) (now (rows .entry)) (now (rows .exit)) r ⌝ }
+    ensures { λ r. ⌜ ListIs (namesBy lent (now (file .entry)) (now (index .entry))) (now (script .entry)) (literals (now (numbers .entry)) 0 count) (wholeOf whole) (now (words .entry)) (now (text .entry)) (now (words .exit)) (now (text .exit)) r × RowsAre (namesBy lent (now (file .entry)) (now (index .entry))) window (now (script .entry)) (literals (now (numbers .entry)) 0 count) (now (rows .entry)) (now (rows .exit)) r ⌝ }
 {
     let mut sink = Sink {
         count: 0,
@@ -230,7 +266,20 @@ fn read_list(
     let mut i: u32 = 0;
     while i < count {
         let l = entry::literal_at(numbers, i);
-        match read_literal(script, l, whole, words, text, rows, sink, fields, window) {
+        match read_literal(
+            script,
+            l,
+            whole,
+            words,
+            text,
+            rows,
+            sink,
+            fields,
+            window,
+            lent,
+            file,
+            index,
+        ) {
             Read::Refused(x) => {
                 return Listed::Refused(refusal_in(script, numbers, i, l, x));
             }
@@ -339,9 +388,12 @@ fn read_all(
     chars: u32,
     words: &mut [u32],
     text: &mut [u8],
+    lent: bool,
+    file: &[u8],
+    index: &[u32],
 ) -> Outcome
     requires { ⌜ Passed (now script) (now numbers) count × (chars ≡ allChars (now script) (literals (now numbers) 0 count)) ⌝ }
-    ensures { λ r. ⌜ CallIs (readNumbers (now (script .entry)) (now (numbers .entry)) (now (words .entry)) (now (text .entry))) (now (words .exit)) (now (text .exit)) r ⌝ }
+    ensures { λ r. ⌜ CallIs (readNumbers (namesBy lent (now (file .entry)) (now (index .entry))) (now (script .entry)) (now (numbers .entry)) (now (words .entry)) (now (text .entry))) (now (words .exit)) (now (text .exit)) r ⌝ }
 {
     let whole = whole_of(numbers, count);
     let window = Window { within: 0, skip: 0 };
@@ -355,22 +407,103 @@ fn read_all(
         text,
         &mut rows,
         window,
+        lent,
+        file,
+        index,
     ) {
         Listed::Refused(r) => refuse(words, text, r),
         Listed::Done(sink, _) => finish(numbers, count, chars, whole, words, text, sink),
     }
 }
 
-// Reads the literals whose numbers are listed, six for each, from a script into both buffers.
-pub fn parse_strings(script: &[u8], numbers: &[u32], words: &mut [u32], text: &mut [u8]) -> Outcome
-    ensures { λ r. ⌜ CallIs (readNumbers (now (script .entry)) (now (numbers .entry)) (now (words .entry)) (now (text .entry))) (now (words .exit)) (now (text .exit)) r ⌝ }
+// Reads the literals whose numbers are listed: names are looked up in a file if one is lent, with an index beside it.
+fn parse_by(
+    script: &[u8],
+    numbers: &[u32],
+    lent: bool,
+    file: &[u8],
+    index: &[u32],
+    words: &mut [u32],
+    text: &mut [u8],
+) -> Outcome
+    ensures { λ r. ⌜ CallIs (readNumbers (namesBy lent (now (file .entry)) (now (index .entry))) (now (script .entry)) (now (numbers .entry)) (now (words .entry)) (now (text .entry))) (now (words .exit)) (now (text .exit)) r ⌝ }
 {
     match entry::check(script, numbers) {
         Checked::Refused(r) => refuse(words, text, r),
         Checked::Passed(chars) => {
             let count = (numbers.len() / 6) as u32;
-            read_all(script, numbers, count, chars, words, text)
+            read_all(
+                script,
+                numbers,
+                count,
+                chars,
+                words,
+                text,
+                lent,
+                file,
+                index,
+            )
         }
+    }
+}
+
+// Reads the literals whose numbers are listed, six for each, from a script into both buffers.
+pub fn parse_strings(script: &[u8], numbers: &[u32], words: &mut [u32], text: &mut [u8]) -> Outcome
+    ensures { λ r. ⌜ CallIs (readNumbers heldNames (now (script .entry)) (now (numbers .entry)) (now (words .entry)) (now (text .entry))) (now (words .exit)) (now (text .exit)) r ⌝ }
+{
+    let file = [0u8; 0];
+    let index = [0u32; 0];
+    parse_by(script, numbers, false, &file, &index, words, text)
+}
+
+// Reads them as `parse_strings` does, with names searched in a file by whatever index is lent.
+pub fn parse_searched(
+    script: &[u8],
+    numbers: &[u32],
+    file: &[u8],
+    index: &[u32],
+    words: &mut [u32],
+    text: &mut [u8],
+) -> Outcome
+    ensures { λ r. ⌜ CallIs (readNumbers (searched (now (file .entry)) (now (index .entry))) (now (script .entry)) (now (numbers .entry)) (now (words .entry)) (now (text .entry))) (now (words .exit)) (now (text .exit)) r ⌝ }
+{
+    parse_by(script, numbers, true, file, index, words, text)
+}
+
+// A refusal of a file or its index: its number alone.
+fn of_names(number: u32) -> entry::Refusal
+    ensures { λ r. ⌜ refusalOf r ≡ aRefusal number 0 0 0 0 ⌝ }
+{
+    entry::Refusal {
+        number,
+        literal: 0,
+        place: 0,
+        a: 0,
+        b: 0,
+        opened: 0,
+        line: 0,
+        column: 0,
+        chars: 0,
+    }
+}
+
+// Reads them as `parse_strings` does, with the names of a file, which is checked with its index after the entry checks.
+pub fn parse_named(
+    script: &[u8],
+    numbers: &[u32],
+    file: &[u8],
+    index: &[u32],
+    words: &mut [u32],
+    text: &mut [u8],
+) -> Outcome
+    ensures { λ r. ⌜ CallIs (namedNumbers (now (file .entry)) (now (index .entry)) (now (script .entry)) (now (numbers .entry)) (now (words .entry)) (now (text .entry))) (now (words .exit)) (now (text .exit)) r ⌝ }
+{
+    match entry::check(script, numbers) {
+        Checked::Refused(r) => refuse(words, text, r),
+        Checked::Passed(_) => match names::check(file, index) {
+            names::Answer::Refused(number) => refuse(words, text, of_names(number)),
+            names::Answer::Entries(_) => parse_searched(script, numbers, file, index, words, text),
+        },
     }
 }
 
@@ -390,9 +523,12 @@ fn read_rows(
     chars: u32,
     rows: &mut [u32],
     window: Window,
+    lent: bool,
+    file: &[u8],
+    index: &[u32],
 ) -> Outcome
     requires { ⌜ Passed (now script) (now numbers) count × (chars ≡ allChars (now script) (literals (now numbers) 0 count)) ⌝ }
-    ensures { λ r. ⌜ SignsIs (windowNumbers (window .within) (window .skip) (now (script .entry)) (now (numbers .entry)) (now (rows .entry))) (now (rows .exit)) r ⌝ }
+    ensures { λ r. ⌜ SignsIs (windowNumbers (namesBy lent (now (file .entry)) (now (index .entry))) (window .within) (window .skip) (now (script .entry)) (now (numbers .entry)) (now (rows .entry))) (now (rows .exit)) r ⌝ }
 {
     let whole = whole_of(numbers, count);
     let mut words = [0u32; 0];
@@ -406,6 +542,9 @@ fn read_rows(
         &mut text,
         rows,
         window,
+        lent,
+        file,
+        index,
     ) {
         Listed::Refused(r) => refuse_rows(rows, r),
         Listed::Done(_, fields) => Outcome::Accepted(Answer {
@@ -428,14 +567,27 @@ pub fn parse_window(
     within: u32,
     skip: u32,
     rows: &mut [u32],
+    lent: bool,
+    file: &[u8],
+    index: &[u32],
 ) -> Outcome
-    ensures { λ r. ⌜ SignsIs (windowNumbers within skip (now (script .entry)) (now (numbers .entry)) (now (rows .entry))) (now (rows .exit)) r ⌝ }
+    ensures { λ r. ⌜ SignsIs (windowNumbers (namesBy lent (now (file .entry)) (now (index .entry))) within skip (now (script .entry)) (now (numbers .entry)) (now (rows .entry))) (now (rows .exit)) r ⌝ }
 {
     match entry::check(script, numbers) {
         Checked::Refused(r) => refuse_rows(rows, r),
         Checked::Passed(chars) => {
             let count = (numbers.len() / 6) as u32;
-            read_rows(script, numbers, count, chars, rows, Window { within, skip })
+            read_rows(
+                script,
+                numbers,
+                count,
+                chars,
+                rows,
+                Window { within, skip },
+                lent,
+                file,
+                index,
+            )
         }
     }
 }
@@ -443,9 +595,11 @@ pub fn parse_window(
 // Reads the literals whose numbers are listed, as `parse_strings` does, and writes the row of each field, ten numbers for each. An answer's
 // records are the fields.
 pub fn parse_signs(script: &[u8], numbers: &[u32], rows: &mut [u32]) -> Outcome
-    ensures { λ r. ⌜ SignsIs (signsNumbers (now (script .entry)) (now (numbers .entry)) (now (rows .entry))) (now (rows .exit)) r ⌝ }
+    ensures { λ r. ⌜ SignsIs (signsNumbers heldNames (now (script .entry)) (now (numbers .entry)) (now (rows .entry))) (now (rows .exit)) r ⌝ }
 {
-    match parse_window(script, numbers, 0, 0, rows) {
+    let file = [0u8; 0];
+    let index = [0u32; 0];
+    match parse_window(script, numbers, 0, 0, rows, false, &file, &index) {
         Outcome::Refused(r) => Outcome::Refused(r),
         Outcome::Accepted(x) => match entry::room(rows.len() / 10, 0, x.records, 0, x.chars) {
             Checked::Refused(r) => refuse_rows(rows, r),

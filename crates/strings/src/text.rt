@@ -18,8 +18,9 @@ ghost use Prim.Native.Nat.{ℕ, _+_, _≤_, _<_, _^_};
 ghost use lib.ListN.{length};
 ghost use Rattle.definition.specs.Numbers.{isRaw};
 ghost use Rattle.definition.specs.Chars.{_is_, byte, part, code, next};
-ghost use Rattle.definition.specs.Escapes.{fault, encode, escape};
+ghost use Rattle.definition.specs.Escapes.{Naming, fault, encode, escape};
 ghost use Rattle.definition.specs.Body.{goes, withEscape, stringMove, stringN, textMove, enough};
+ghost use Rattle.escapes.specs.Answers.{namesBy};
 ghost use Rattle.marks.specs.Marks.{special};
 ghost use Rattle.buffers.specs.Over.{over};
 ghost use Rattle.strings.specs.Text.{Room, Taken, refusal, plainEnd, PlainTo, AllPlain, PlainIs, Does, StringIs, RunIs};
@@ -106,11 +107,14 @@ fn escape_text(
     kind: u32,
     text: &mut [u8],
     used: usize,
+    lent: bool,
+    file: &[u8],
+    index: &[u32],
 ) -> Piece
     requires { ⌜ Taken (now s) (from .at) (after .at) × Room (now s) used ⌝ }
-    ensures { λ r. ⌜ Does (withEscape kind (now (s .entry)) (from .at) [] (escape kind (now (s .entry)) (after .at))) (now (s .entry)) (from .at) used (now (text .entry)) (now (text .exit)) r ⌝ }
+    ensures { λ r. ⌜ Does (withEscape kind (now (s .entry)) (from .at) [] (escape (namesBy lent (now (file .entry)) (now (index .entry))) kind (now (s .entry)) (after .at))) (now (s .entry)) (from .at) used (now (text .entry)) (now (text .exit)) r ⌝ }
 {
-    let escaped = escapes::parse_escaped_char(s, after, kind);
+    let escaped = escapes::parse_escaped_char(s, after, kind, lent, file, index);
     match escaped {
         Escaped::Code(code, to) => {
             let length = add_code(text, used, code, kind);
@@ -123,15 +127,24 @@ fn escape_text(
 }
 
 // The character of a string or bytes at a cursor.
-fn string_piece(s: &[u8], from: Cursor, kind: u32, text: &mut [u8], used: usize) -> Piece
+fn string_piece(
+    s: &[u8],
+    from: Cursor,
+    kind: u32,
+    text: &mut [u8],
+    used: usize,
+    lent: bool,
+    file: &[u8],
+    index: &[u32],
+) -> Piece
     requires { ⌜ Room (now s) used ⌝ }
-    ensures { λ r. ⌜ Does (stringMove kind (now (s .entry)) (from .at) []) (now (s .entry)) (from .at) used (now (text .entry)) (now (text .exit)) r ⌝ }
+    ensures { λ r. ⌜ Does (stringMove (namesBy lent (now (file .entry)) (now (index .entry))) kind (now (s .entry)) (from .at) []) (now (s .entry)) (from .at) used (now (text .entry)) (now (text .exit)) r ⌝ }
 {
     let Step::Char(c, after) = from.next_char(s) else {
         return Piece::Over;
     };
     if is_escape(c, kind) {
-        return escape_text(s, from, after, kind, text, used);
+        return escape_text(s, from, after, kind, text, used, lent, file, index);
     }
     if is_foreign(c, kind) {
         return refuse(NON_ASCII_IN_BYTES, after.at);
@@ -149,7 +162,7 @@ fn left_brace(
     used: usize,
 ) -> Piece
     requires { ⌜ Taken (now s) (from .at) (after .at) × (code (now s) (from .at) ≡ 123) × (nested < 2) × Room (now s) used ⌝ }
-    ensures { λ r. ⌜ ((kind : ℕ) → Does (textMove kind (now (s .entry)) nested (from .at) []) (now (s .entry)) (from .at) used (now (text .entry)) (now (text .exit)) r) ⌝ }
+    ensures { λ r. ⌜ ((look : Naming) (kind : ℕ) → Does (textMove look kind (now (s .entry)) nested (from .at) []) (now (s .entry)) (from .at) used (now (text .entry)) (now (text .exit)) r) ⌝ }
 {
     if nested != 0 {
         return Piece::Field(after);
@@ -173,7 +186,7 @@ fn right_brace(
     used: usize,
 ) -> Piece
     requires { ⌜ Taken (now s) (from .at) (after .at) × (code (now s) (from .at) ≡ 125) × (nested < 2) × Room (now s) used ⌝ }
-    ensures { λ r. ⌜ ((kind : ℕ) → Does (textMove kind (now (s .entry)) nested (from .at) []) (now (s .entry)) (from .at) used (now (text .entry)) (now (text .exit)) r) ⌝ }
+    ensures { λ r. ⌜ ((look : Naming) (kind : ℕ) → Does (textMove look kind (now (s .entry)) nested (from .at) []) (now (s .entry)) (from .at) used (now (text .entry)) (now (text .exit)) r) ⌝ }
 {
     if nested != 0 {
         return Piece::Over;
@@ -210,9 +223,12 @@ fn text_piece(
     kind: u32,
     text: &mut [u8],
     used: usize,
+    lent: bool,
+    file: &[u8],
+    index: &[u32],
 ) -> Piece
     requires { ⌜ (nested < 2) × Room (now s) used ⌝ }
-    ensures { λ r. ⌜ Does (textMove kind (now (s .entry)) nested (from .at) []) (now (s .entry)) (from .at) used (now (text .entry)) (now (text .exit)) r ⌝ }
+    ensures { λ r. ⌜ Does (textMove (namesBy lent (now (file .entry)) (now (index .entry))) kind (now (s .entry)) nested (from .at) []) (now (s .entry)) (from .at) used (now (text .entry)) (now (text .exit)) r ⌝ }
 {
     let Step::Char(c, after) = from.next_char(s) else {
         return Piece::Over;
@@ -224,7 +240,7 @@ fn text_piece(
         return right_brace(s, from, after, nested, text, used);
     }
     if begins_escape(s, c, after, kind) {
-        return escape_text(s, from, after, kind, text, used);
+        return escape_text(s, from, after, kind, text, used, lent, file, index);
     }
     take(s, from, after, after, text, used)
 }
@@ -345,9 +361,17 @@ fn is_plain_at(s: &[u8], at: usize, kind: u32) -> bool
 }
 
 // A string's or bytes' body: its text, at the used length.
-pub(crate) fn parse_string(s: &[u8], kind: u32, text: &mut [u8], used: usize) -> Text
+pub(crate) fn parse_string(
+    s: &[u8],
+    kind: u32,
+    text: &mut [u8],
+    used: usize,
+    lent: bool,
+    file: &[u8],
+    index: &[u32],
+) -> Text
     requires { ⌜ (length (now s) ≤ 1048576) × (used ≤ 2 ^ 32) ⌝ }
-    ensures { λ r. ⌜ StringIs (stringN (enough (now (s .entry))) kind (now (s .entry)) 0 []) used (now (text .entry)) (now (text .exit)) r ⌝ }
+    ensures { λ r. ⌜ StringIs (stringN (namesBy lent (now (file .entry)) (now (index .entry))) (enough (now (s .entry))) kind (now (s .entry)) 0 []) used (now (text .entry)) (now (text .exit)) r ⌝ }
 {
     let mut cursor = Cursor { at: 0 };
     let mut end = used;
@@ -358,7 +382,7 @@ pub(crate) fn parse_string(s: &[u8], kind: u32, text: &mut [u8], used: usize) ->
             end = run.used;
             continue;
         }
-        let piece = string_piece(s, cursor, kind, text, end);
+        let piece = string_piece(s, cursor, kind, text, end, lent, file, index);
         match piece {
             Piece::On(after, length) => {
                 cursor = after;
@@ -378,9 +402,12 @@ pub(crate) fn text_run(
     kind: u32,
     text: &mut [u8],
     used: usize,
+    lent: bool,
+    file: &[u8],
+    index: &[u32],
 ) -> Run
     requires { ⌜ (at .at ≤ length (now s)) × (nested ≤ 1) × (length (now s) ≤ 1048576) × (used ≤ 2 ^ 32) ⌝ }
-    ensures { λ r. ⌜ RunIs kind (now (s .entry)) nested (at .at) used (now (text .entry)) (now (text .exit)) r ⌝ }
+    ensures { λ r. ⌜ RunIs (namesBy lent (now (file .entry)) (now (index .entry))) kind (now (s .entry)) nested (at .at) used (now (text .entry)) (now (text .exit)) r ⌝ }
 {
     let mut cursor = at;
     let mut end = used;
@@ -391,7 +418,7 @@ pub(crate) fn text_run(
             end = run.used;
             continue;
         }
-        let piece = text_piece(s, cursor, nested, kind, text, end);
+        let piece = text_piece(s, cursor, nested, kind, text, end, lent, file, index);
         match piece {
             Piece::On(after, length) => {
                 cursor = after;

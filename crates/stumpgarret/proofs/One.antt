@@ -4,6 +4,7 @@ use mathlib.Core.Path.{_≡_, refl, sym, _∙_, ap}
 use mathlib.Core.List.{List, [], _∷_, _++_}
 use Prim.Native.Nat.{ℕ, zero, suc, _-_}
 use lib.ListN.{length, replicate}
+use Rattle.definition.specs.Escapes.{Naming}
 use Rattle.definition.specs.Reading.{numbers, Call, readNumbers}
 use Rattle.definition.specs.Words.{word}
 use Rattle.definition.specs.Literals.{literalsInto, listNumbers}
@@ -27,14 +28,14 @@ twelve-word : (ns : List ℕ) (k : ℕ) → word (twelve ns) k ≡ word ns k
 unfolding twelve
 twelve-word ns k = word-front ns (12 - length ns) k
 
-pub calls-one : (script ns words text script′ ns′ words′ text′ answer left-words left-text : List ℕ)
-    → CallIs (readNumbers script ns words text) answer left-words left-text → CallIs (readNumbers script′ ns′ words′ text′) answer left-words left-text
-    → readNumbers script ns words text .outcome ≡ readNumbers script′ ns′ words′ text′ .outcome
-calls-one script ns words text script′ ns′ words′ text′ answer left-words left-text c c′ =
-    numbers-one script ns words text script′ ns′ words′ text′ (
-      λ k. sym (twelve-word (numbers (readNumbers script ns words text .outcome)) k)
+pub calls-one : (look look′ : Naming) (script ns words text script′ ns′ words′ text′ answer left-words left-text : List ℕ)
+    → CallIs (readNumbers look script ns words text) answer left-words left-text → CallIs (readNumbers look′ script′ ns′ words′ text′) answer left-words left-text
+    → readNumbers look script ns words text .outcome ≡ readNumbers look′ script′ ns′ words′ text′ .outcome
+calls-one look look′ script ns words text script′ ns′ words′ text′ answer left-words left-text c c′ =
+    numbers-one look look′ script ns words text script′ ns′ words′ text′ (
+      λ k. sym (twelve-word (numbers (readNumbers look script ns words text .outcome)) k)
           ∙ ap (λ l. word l k) (sym (c .numbered) ∙ c′ .numbered)
-          ∙ twelve-word (numbers (readNumbers script′ ns′ words′ text′ .outcome)) k,
+          ∙ twelve-word (numbers (readNumbers look′ script′ ns′ words′ text′ .outcome)) k,
       sym (c .words-left) ∙ c′ .words-left,
       sym (c .text-left) ∙ c′ .text-left,
     )
@@ -49,11 +50,11 @@ lists-one script offset buffer script′ offset′ buffer′ answer left c c′ 
     ∙ twelve-word (listNumbers (literalsInto script′ offset′ buffer′ .listing)) k)
     (sym (c .list-left) ∙ c′ .list-left)
 
-pub scripts-one : (script buffer script′ buffer′ answer left : List ℕ) → FieldsIs (fieldsInto script buffer) answer left → FieldsIs (fieldsInto script′ buffer′) answer left
-    → fieldsInto script buffer .listed ≡ fieldsInto script′ buffer′ .listed
-scripts-one script buffer script′ buffer′ answer left c c′ =
-    fields-one script buffer script′ buffer′
-    (λ k. sym (twelve-word (fieldsNumbers (fieldsInto script buffer .listed)) k)
+pub scripts-one : (look look′ : Naming) (script buffer script′ buffer′ answer left : List ℕ) → FieldsIs (fieldsInto look script buffer) answer left → FieldsIs (fieldsInto look′ script′ buffer′) answer left
+    → fieldsInto look script buffer .listed ≡ fieldsInto look′ script′ buffer′ .listed
+scripts-one look look′ script buffer script′ buffer′ answer left c c′ =
+    fields-one look look′ script buffer script′ buffer′
+    (λ k. sym (twelve-word (fieldsNumbers (fieldsInto look script buffer .listed)) k)
     ∙ ap (λ l. word l k) (sym (c .numbered) ∙ c′ .numbered)
-    ∙ twelve-word (fieldsNumbers (fieldsInto script′ buffer′ .listed)) k)
+    ∙ twelve-word (fieldsNumbers (fieldsInto look′ script′ buffer′ .listed)) k)
     (sym (c .rows-left) ∙ c′ .rows-left)

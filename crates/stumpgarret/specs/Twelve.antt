@@ -1,12 +1,15 @@
 -- The twelve numbers of an answer, and what a call over the C interface leaves.
 use Prim.Native.Nat.{ℕ, _-_}
 use mathlib.Core.Path.{_≡_}
-use mathlib.Core.List.{List, _++_}
+use mathlib.Core.List.{List, [], _∷_, _++_}
 use lib.ListN.{length, replicate}
 use Rattle.definition.specs.Reading.{Call, numbers}
 use Rattle.definition.specs.Rows.{SignsCall, rowedNumbers}
 use Rattle.definition.specs.Literals.{ListCall, listNumbers}
 use Rattle.definition.specs.Listing.{FieldsCall, fieldsNumbers}
+use Rattle.definition.specs.Names.{BuildCall, indexNumbers}
+use Rattle.names.specs.declared.Answer.{Answer}
+use Rattle.names.specs.declared.Answer.the-variants.{Entries, Refused}
 
 -- a list of numbers, and zeros up to twelve
 unfoldable pub twelve : List ℕ → List ℕ
@@ -32,3 +35,13 @@ pub record ListIs (call : ListCall) (answer list : List ℕ) : Type 0 where
 pub record FieldsIs (call : FieldsCall) (answer rows : List ℕ) : Type 0 where
   pub numbered : answer ≡ twelve (fieldsNumbers (call .listed))
   pub rows-left : rows ≡ call .rows
+
+-- the paper's numbers of an index
+abbrev pub indexSays : Answer → List ℕ
+indexSays (Entries n) = 0 ∷ n ∷ []
+indexSays (Refused n) = n ∷ []
+
+-- the same of a call that builds an index
+pub record IndexIs (call : BuildCall) (answer index : List ℕ) : Type 0 where
+  pub numbered : answer ≡ twelve (indexNumbers (call .outcome))
+  pub index-left : index ≡ call .index

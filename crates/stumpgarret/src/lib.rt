@@ -1,20 +1,27 @@
 // The C interface: flat numbers in, twelve numbers out.
 use listing::Fields;
 use listing::list_fields;
+use listing::list_named;
 use literals::Listing;
 use literals::list_literals;
+use names::Answer;
 use strings::Outcome;
+use strings::parse_named;
+use strings::parse_searched;
 use strings::parse_signs;
 use strings::parse_strings;
 ghost use mathlib.Core.Path.{_≡_};
+ghost use Rattle.definition.specs.Escapes.{heldNames};
 ghost use Rattle.definition.specs.Reading.{readNumbers};
 ghost use Rattle.definition.specs.Rows.{signsNumbers};
 ghost use Rattle.definition.specs.Literals.{literalsInto};
 ghost use Rattle.definition.specs.Listing.{fieldsInto};
+ghost use Rattle.definition.specs.Names.{check, buildInto, indexNumbers, searched};
+ghost use Rattle.definition.specs.NamedReading.{namedNumbers, fieldsNamedInto};
 ghost use Rattle.strings.specs.Strings.{says};
 ghost use Rattle.literals.specs.Answers as listing;
 ghost use Rattle.listing.specs.Answers as fields;
-ghost use Rattle.stumpgarret.specs.Twelve.{twelve, CallIs, SignsIs, ListIs, FieldsIs};
+ghost use Rattle.stumpgarret.specs.Twelve.{twelve, CallIs, SignsIs, ListIs, FieldsIs, indexSays, IndexIs};
 
 const SCRIPT_TOO_LONG: u32 = 49;
 
@@ -65,7 +72,7 @@ pub extern "C" fn stumpgarret_read(
     text: &mut [u8],
     answer: &mut [u32; 12],
 )
-    ensures { λ _. ⌜ CallIs (readNumbers (now (script .entry)) (now (literals .entry)) (now (words .entry)) (now (text .entry))) (now (answer .exit)) (now (words .exit)) (now (text .exit)) ⌝ }
+    ensures { λ _. ⌜ CallIs (readNumbers heldNames (now (script .entry)) (now (literals .entry)) (now (words .entry)) (now (text .entry))) (now (answer .exit)) (now (words .exit)) (now (text .exit)) ⌝ }
 {
     *answer = twelve(parse_strings(script, literals, words, text));
 }
@@ -78,7 +85,7 @@ pub extern "C" fn stumpgarret_signs(
     rows: &mut [u32],
     answer: &mut [u32; 12],
 )
-    ensures { λ _. ⌜ SignsIs (signsNumbers (now (script .entry)) (now (literals .entry)) (now (rows .entry))) (now (answer .exit)) (now (rows .exit)) ⌝ }
+    ensures { λ _. ⌜ SignsIs (signsNumbers heldNames (now (script .entry)) (now (literals .entry)) (now (rows .entry))) (now (answer .exit)) (now (rows .exit)) ⌝ }
 {
     *answer = twelve(parse_signs(script, literals, rows));
 }
@@ -114,6 +121,7 @@ fn twelve_fields(x: Fields) -> [u32; 12]
     match x {
         Fields::Listed(l) => [0, l.rows, l.refusals, l.literals, l.to, 0, 0, 0, 0, 0, 0, 0],
         Fields::TooLong => [SCRIPT_TOO_LONG, 0, 0, 0, 0, 0, 0, 0, 0, 0, 0, 0],
+        Fields::WrongNames(number) => [number, 0, 0, 0, 0, 0, 0, 0, 0, 0, 0, 0],
         Fields::Short(count) => [TOO_LITTLE_LIST_ROOM, 0, 0, 0, 0, 0, 0, 0, 0, count, 0, 0],
     }
 }
@@ -121,7 +129,79 @@ fn twelve_fields(x: Fields) -> [u32; 12]
 // Lists every field of a script, a row of ten numbers for each, and answers in twelve numbers.
 #[no_mangle]
 pub extern "C" fn stumpgarret_fields(script: &[u8], rows: &mut [u32], answer: &mut [u32; 12])
-    ensures { λ _. ⌜ FieldsIs (fieldsInto (now (script .entry)) (now (rows .entry))) (now (answer .exit)) (now (rows .exit)) ⌝ }
+    ensures { λ _. ⌜ FieldsIs (fieldsInto heldNames (now (script .entry)) (now (rows .entry))) (now (answer .exit)) (now (rows .exit)) ⌝ }
 {
     *answer = twelve_fields(list_fields(script, rows));
+}
+
+// Lists them as `stumpgarret_fields` does, with the names of a file, which is checked with its index once.
+#[no_mangle]
+pub extern "C" fn stumpgarret_fields_named(
+    script: &[u8],
+    file: &[u8],
+    index: &[u32],
+    rows: &mut [u32],
+    answer: &mut [u32; 12],
+)
+    ensures { λ _. ⌜ FieldsIs (fieldsNamedInto (now (file .entry)) (now (index .entry)) (now (script .entry)) (now (rows .entry))) (now (answer .exit)) (now (rows .exit)) ⌝ }
+{
+    *answer = twelve_fields(list_named(script, file, index, rows));
+}
+
+// The numbers of an index, and zeros up to twelve.
+fn twelve_index(x: Answer) -> [u32; 12]
+    ensures { λ r. ⌜ r ≡ twelve (indexSays x) ⌝ }
+{
+    match x {
+        Answer::Entries(count) => [0, count, 0, 0, 0, 0, 0, 0, 0, 0, 0, 0],
+        Answer::Refused(number) => [number, 0, 0, 0, 0, 0, 0, 0, 0, 0, 0, 0],
+    }
+}
+
+// Builds the index of a file of names at the front of a list, and answers in twelve numbers.
+#[no_mangle]
+pub extern "C" fn stumpgarret_names_build(file: &[u8], index: &mut [u32], answer: &mut [u32; 12])
+    ensures { λ _. ⌜ IndexIs (buildInto (now (file .entry)) (now (index .entry))) (now (answer .exit)) (now (index .exit)) ⌝ }
+{
+    *answer = twelve_index(names::build(file, index));
+}
+
+// Checks that a list is the index of a file of names, and answers in twelve numbers.
+#[no_mangle]
+pub extern "C" fn stumpgarret_names_check(file: &[u8], index: &[u32], answer: &mut [u32; 12])
+    ensures { λ _. ⌜ now (answer .exit) ≡ twelve (indexNumbers (check (now (file .entry)) (now (index .entry)))) ⌝ }
+{
+    *answer = twelve_index(names::check(file, index));
+}
+
+// Reads the literals as `stumpgarret_read` does, with the names of a file, which is checked with its index after the entry checks.
+#[no_mangle]
+pub extern "C" fn stumpgarret_read_named(
+    script: &[u8],
+    literals: &[u32],
+    file: &[u8],
+    index: &[u32],
+    words: &mut [u32],
+    text: &mut [u8],
+    answer: &mut [u32; 12],
+)
+    ensures { λ _. ⌜ CallIs (namedNumbers (now (file .entry)) (now (index .entry)) (now (script .entry)) (now (literals .entry)) (now (words .entry)) (now (text .entry))) (now (answer .exit)) (now (words .exit)) (now (text .exit)) ⌝ }
+{
+    *answer = twelve(parse_named(script, literals, file, index, words, text));
+}
+
+// Reads the literals as `stumpgarret_read` does, with names searched in a file by whatever index is lent.
+#[no_mangle]
+pub extern "C" fn stumpgarret_read_searched(
+    script: &[u8],
+    literals: &[u32],
+    file: &[u8],
+    index: &[u32],
+    words: &mut [u32],
+    text: &mut [u8],
+    answer: &mut [u32; 12],
+)
+    ensures { λ _. ⌜ CallIs (readNumbers (searched (now (file .entry)) (now (index .entry))) (now (script .entry)) (now (literals .entry)) (now (words .entry)) (now (text .entry))) (now (answer .exit)) (now (words .exit)) (now (text .exit)) ⌝ }
+{
+    *answer = twelve(parse_searched(script, literals, file, index, words, text));
 }

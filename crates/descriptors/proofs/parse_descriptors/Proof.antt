@@ -52,6 +52,7 @@ use denote.Triple.Table.{entered, cited}
 use denote.Triple.Walked.{says, Stays, stay-none-slice, gave-slice, walkOf, goes-none-slice, goes-gave-slice, Walks, ends-at, walked, walk-meets}
 use denote.Triple.Clauses.{ensured, Lasts, lasts}
 use denote.Exit.{yes}
+use Rattle.definition.specs.Escapes.{heldNames}
 use Rattle.definition.specs.Reading.{readInto, readNumbers}
 use Rattle.buffers.specs.Over.{over}
 use Rattle.entry.specs.Answers.{described}
@@ -242,7 +243,7 @@ module _ {M : Type 1} (𝓤 : URA M) (H : Heap 𝓤) (A : Atoms 𝓤) (W : Given
 
   -- what is promised of a result and both buffers
   abbrev Promised : Outcome → List ℕ → List ℕ → Type 0
-  Promised r ws ts = CallIs (readInto (script .now) (map described ys) (words .now) (text .now)) ws ts r
+  Promised r ws ts = CallIs (readInto heldNames (script .now) (map described ys) (words .now) (text .now)) ws ts r
 
   exits : (r : Outcome) (u : Val) (ws ts : List ℕ) → Promised r ws ts → length ws ≡ length (words .now) → length ts ≡ length (text .now)
       → ent 𝓤 (⋆ 𝓤 H A (‵ (flft κ₁ q₁) ∷ ‵ (flft κ₂ q₂) ∷ ‵ (flft κ₃ q₃) ∷ ‵ (flft κ₄ q₄) ∷ ‵ Own₁ ∷ ‵ Own₂ ∷ ‵ (finally u32 (words .name) ws) ∷ ‵ (finally u8 (text .name) ts) ∷ ‵ (S.the-row .own r (u ∷ [])) ∷ [])) (Post u)
@@ -308,7 +309,7 @@ module _ {M : Type 1} (𝓤 : URA M) (H : Heap 𝓤) (A : Atoms 𝓤) (W : Given
         says ! (min-le-right n 1025) $ frame ! $ done !
 
     abbrev Reads : List ℕ → Outcome → List ℕ → List ℕ → Type 0
-    Reads xs r ws ts = CallIs (readNumbers (script .now) (take (m * 6) xs) (words .now) (text .now)) ws ts r
+    Reads xs r ws ts = CallIs (readNumbers heldNames (script .now) (take (m * 6) xs) (words .now) (text .now)) ws ts r
 
   -- the loop: i of them are copied, and the order is by what is left
   abbrev Upto : Type 0

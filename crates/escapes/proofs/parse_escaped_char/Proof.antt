@@ -14,7 +14,7 @@ use Rattle.escapes.proofs.parse_escaped_char.Statement.{statement}
 use Rattle.escapes.proofs.parse_escaped_char.Tie as tie
 
 -- the character after the backslash
-step : (c : tie.After-is-any-bytes) → let a = c .before .before .before .before .before .before .args in let g = c .before .before .c .given .0 in Stepped (a .s .now) (a .from .at) (g .0) (g .1 .0)
+step : (c : tie.After-is-any-bytes) → let a = c .before .before .before .before .before .before .before .before .args in let g = c .before .before .c .given .0 in Stepped (a .s .now) (a .from .at) (g .0) (g .1 .0)
 step c = step-char _ _ _ _ (sym (c .before .before .before .before .next-char .ensures) ∙ c .before .before .c .given .1)
 
 digit : (c : ℕ) → c < 56 → c - 48 < 8
@@ -58,7 +58,7 @@ parse-escaped-char-spec =
     (λ c. let t = step (c .before .before) in rw (lt-leb _ _ (t .there), t .code-is, c .before .match2 .keys14, ← c .before .before .is-any-bytes .ensures, c .if3 .taken, t .next-is, escape, escapeCase))  -- returns-17
     (λ c. let t = step (c .before .before .before) in rw (lt-leb _ _ (t .there), t .code-is, c .before .before .match2 .keys14, ← c .before .before .before .is-any-bytes .ensures, c .before .if3 .left, t .next-is, escape, escapeCase) (c .parse-unicode-name .ensures))  -- returns-18
     (λ c. let t = step (c .before) in rw (lt-leb _ _ (t .there), t .code-is, c .match2 .keys15, t .next-is, escape, escapeCase))  -- returns-19
-    (λ c. c .parse-octet .ensures ∙ sym (octal-escape (c .before .before .before .before .before .before .before .before .before .before .args .kind) _ _ _ _ (step (c .before .before .before .before)) (c .before .before .if4 .left) (le-of-suc-le-suc (c .before .if5 .taken))))  -- returns-20
-    (λ c. sym (other-escape (c .before .before .before .before .before .before .before .before .before .args .kind) _ _ _ _ (step (c .before .before .before)) (c .before .before .match2 .rest) (outside (c .before)) false (rw (lt-leb 0x80 _ (c .if6 .taken)))))  -- returns-21
-    (λ c. c .refuse2 .ensures ∙ sym (other-escape (c .before .before .before .before .before .before .before .before .before .before .before .args .kind) _ _ _ _ (step (c .before .before .before .before .before)) (c .before .before .before .before .match2 .rest) (outside (c .before .before .before)) true (rw (le-leb 0x80 _ (c .before .before .if6 .left), ← c .before .before .before .before .before .is-any-bytes .ensures, c .before .if7 .taken))))  -- returns-22
-    (λ c. sym (other-escape (c .before .before .before .before .before .before .before .before .before .before .args .kind) _ _ _ _ (step (c .before .before .before .before)) (c .before .before .before .match2 .rest) (outside (c .before .before)) false (rw (le-leb 0x80 _ (c .before .if6 .left), ← c .before .before .before .before .is-any-bytes .ensures, c .if7 .left)))))  -- returns-23
+    (λ c. c .parse-octet .ensures ∙ sym (octal-escape _ (c .before .before .before .before .before .before .before .before .before .before .before .before .args .kind) _ _ _ _ (step (c .before .before .before .before)) (c .before .before .if4 .left) (le-of-suc-le-suc (c .before .if5 .taken))))  -- returns-20
+    (λ c. sym (other-escape _ (c .before .before .before .before .before .before .before .before .before .before .before .args .kind) _ _ _ _ (step (c .before .before .before)) (c .before .before .match2 .rest) (outside (c .before)) false (rw (lt-leb 0x80 _ (c .if6 .taken)))))  -- returns-21
+    (λ c. c .refuse2 .ensures ∙ sym (other-escape _ (c .before .before .before .before .before .before .before .before .before .before .before .before .before .args .kind) _ _ _ _ (step (c .before .before .before .before .before)) (c .before .before .before .before .match2 .rest) (outside (c .before .before .before)) true (rw (le-leb 0x80 _ (c .before .before .if6 .left), ← c .before .before .before .before .before .is-any-bytes .ensures, c .before .if7 .taken))))  -- returns-22
+    (λ c. sym (other-escape _ (c .before .before .before .before .before .before .before .before .before .before .before .before .args .kind) _ _ _ _ (step (c .before .before .before .before)) (c .before .before .before .match2 .rest) (outside (c .before .before)) false (rw (le-leb 0x80 _ (c .before .if6 .left), ← c .before .before .before .before .is-any-bytes .ensures, c .if7 .left)))))  -- returns-23

@@ -12,7 +12,7 @@ use lib.Seq.{take-all}
 use Rattle.bytes.specs.Bytes.{slice, indexAfter, indexOf}
 use Rattle.definition.specs.Chars.{if_then_else_, _is_, atEnd, before}
 use Rattle.definition.specs.Numbers.{stringError}
-use Rattle.definition.specs.Escapes.{fault, refused, named, unicodeName}
+use Rattle.definition.specs.Escapes.{Naming, fault, refused, named, unicodeName}
 use Rattle.utf8.specs.declared.Cursor.{Cursor}
 use Rattle.definition.proofs.CharLaws.{cases, code-end, next-in}
 use Rattle.utf8.proofs.Steps.{Stepped, step-char, step-end}
@@ -33,18 +33,18 @@ unfolding slice
 slice-before s i = rw (take-all (length s) s (le-refl _)) (index-before (drop i s))
 
 -- after the opening brace
-opened : (s : List ℕ) (i c : ℕ) (k : Cursor) → Stepped s i c k → c ≡ 123 → unicodeName s i ≡ (if atEnd s (k .at + closing s (k .at)) then refused (fault stringError (length s)) else named s (k .at) (closing s (k .at)))
+opened : (look : Naming) (s : List ℕ) (i c : ℕ) (k : Cursor) → Stepped s i c k → c ≡ 123 → unicodeName look s i ≡ (if atEnd s (k .at + closing s (k .at)) then refused (fault stringError (length s)) else named look s (k .at) (closing s (k .at)))
 unfolding unicodeName
-opened s i c k t e = rw (t .code-is, e, t .next-is)
+opened look s i c k t e = rw (t .code-is, e, t .next-is)
 
-step : (c : tie.After-known-told) → let a = c .before .before .before .before .before .args in let g = c .before .c .given .0 in Stepped (a .s .now) (a .from .at) (g .0) (g .1 .0)
+step : (c : tie.After-known-told) → let a = c .before .before .before .before .before .before .before .args in let g = c .before .c .given .0 in Stepped (a .s .now) (a .from .at) (g .0) (g .1 .0)
 step c = step-char _ _ _ _ (sym (c .before .before .before .next-char .ensures) ∙ c .before .c .given .1)
 
 abbrev start : tie.After-find → ℕ
 start c = c .before .before .before .c .given .0 .1 .0 .at
 
 abbrev size : tie.After-find → ℕ
-size c = closing (c .before .before .before .before .before .before .before .args .s .now) (start c)
+size c = closing (c .before .before .before .before .before .before .before .before .before .args .s .now) (start c)
 
 found : (c : tie.After-find) → c .find .result ≡ start c + size c
 found c = c .find .ensures .0 ∙ rw slice-before
@@ -63,15 +63,15 @@ parse-unicode-name-spec =
     (λ c. rw (step (c .before .before) .code-is, ne-eqb _ _ (c .before .if1 .taken)) (c .refuse2 .ensures))  -- returns-2
     (λ c κs. (rw (← step (c .before) .next-is) (next-in _ _ (le-of-lt (step (c .before) .there))), le-refl _))  -- find-requires
     (λ c κs. search needs)  -- refuse-requires-3
-    (λ c. rw (opened _ _ _ _ (step (c .before .before .before .before)) (c .before .before .before .if1 .left), ← found (c .before .before), le-leb _ _ (c .before .if2 .taken)) (c .refuse3 .ensures))  -- returns-3
+    (λ c. rw (opened _ _ _ _ _ (step (c .before .before .before .before)) (c .before .before .before .if1 .left), ← found (c .before .before), le-leb _ _ (c .before .if2 .taken)) (c .refuse3 .ensures))  -- returns-3
     (λ c. search needs)  -- add-past
     (λ c. search needs)  -- sub-if3
     (λ c κs. search needs)  -- refuse-requires-4
-    (λ c. let e = found (c .before .before .before) in rw (opened _ _ _ _ (step (c .before .before .before .before .before)) (c .before .before .before .before .if1 .left), ← found (c .before .before .before), lt-leb _ _ (c .before .before .if2 .left), lt-ltb 88 (size (c .before .before .before)) (omega arith)) (c .refuse4 .ensures))  -- returns-4
-    (λ c. search needs)  -- sub-code-of
-    (λ c. search needs)  -- part-code-of-start
-    (λ c. search needs)  -- part-code-of-end
-    (λ c κs. search needs)  -- code-of-requires
+    (λ c. let e = found (c .before .before .before) in rw (opened _ _ _ _ _ (step (c .before .before .before .before .before)) (c .before .before .before .before .if1 .left), ← found (c .before .before .before), lt-leb _ _ (c .before .before .if2 .left), lt-ltb 88 (size (c .before .before .before)) (omega arith)) (c .refuse4 .ensures))  -- returns-4
+    (λ c. search needs)  -- sub-code-in
+    (λ c. search needs)  -- part-code-in-start
+    (λ c. search needs)  -- part-code-in-end
+    (λ c κs. search needs)  -- code-in-requires
     (λ c κs. search needs)  -- refuse-requires-5
-    (λ c. let e = found (c .before .before .before .before .before .before) in rw (opened _ _ _ _ (step (c .before .before .before .before .before .before .before .before)) (c .before .before .before .before .before .before .before .if1 .left), ← found (c .before .before .before .before .before .before), lt-leb _ _ (c .before .before .before .before .before .if2 .left), le-ltb 88 (size (c .before .before .before .before .before .before)) (omega arith), ← c .before .before .code-of .ensures, c .before .if4 .taken) (c .refuse5 .ensures))  -- returns-5
-    (λ c. let e = found (c .before .before .before .before .before) in rw (opened _ _ _ _ (step (c .before .before .before .before .before .before .before)) (c .before .before .before .before .before .before .if1 .left), ← found (c .before .before .before .before .before), lt-leb _ _ (c .before .before .before .before .if2 .left), le-ltb 88 (size (c .before .before .before .before .before)) (omega arith), ← c .before .code-of .ensures, ne-eqb _ _ (c .if4 .left))))  -- returns-6
+    (λ c. let e = found (c .before .before .before .before .before .before) in rw (opened _ _ _ _ _ (step (c .before .before .before .before .before .before .before .before)) (c .before .before .before .before .before .before .before .if1 .left), ← found (c .before .before .before .before .before .before), lt-leb _ _ (c .before .before .before .before .before .if2 .left), le-ltb 88 (size (c .before .before .before .before .before .before)) (omega arith), ← c .before .before .code-in .ensures, c .before .if4 .taken) (c .refuse5 .ensures))  -- returns-5
+    (λ c. let e = found (c .before .before .before .before .before) in rw (opened _ _ _ _ _ (step (c .before .before .before .before .before .before .before)) (c .before .before .before .before .before .before .if1 .left), ← found (c .before .before .before .before .before), lt-leb _ _ (c .before .before .before .before .if2 .left), le-ltb 88 (size (c .before .before .before .before .before)) (omega arith), ← c .before .code-in .ensures, ne-eqb _ _ (c .if4 .left))))  -- returns-6

@@ -17,9 +17,9 @@ parse-window-spec =
     (λ c. search needs)  -- enum-known-r
     (λ c κs. search needs)  -- refuse-rows-requires
     (λ c. search needs)  -- enum-known-chars
-    (λ c. let a = (c .before .before .before .before .before .before .before .args) in let p = passed (a .script .now) (a .numbers .now) (c .before .chars .given .0 .0) (rw (c .before .chars .given .1) at (c .before .before .before .check .ensures)) in omega (arith, p .0 .few))  -- cast-count
-    (λ c κs. let a = (c .before .before .before .before .before .before .before .before .args) in passed (a .script .now) (a .numbers .now) (c .before .before .chars .given .0 .0) (rw (c .before .before .chars .given .1) at (c .before .before .before .before .check .ensures)))  -- read-rows-requires
+    (λ c. let a = (c .before .before .before .before .before .before .before .before .before .args) in let p = passed (a .script .now) (a .numbers .now) (c .before .chars .given .0 .0) (rw (c .before .chars .given .1) at (c .before .before .before .check .ensures)) in omega (arith, p .0 .few))  -- cast-count
+    (λ c κs. let a = (c .before .before .before .before .before .before .before .before .before .before .args) in passed (a .script .now) (a .numbers .now) (c .before .before .chars .given .0 .0) (rw (c .before .before .chars .given .1) at (c .before .before .before .before .check .ensures)))  -- read-rows-requires
     (λ c. let l0 = (c .before .rows .given) in search needs)  -- same-length
-    (λ c. let a = (c .before .before .before .before .before .before .before .before .before .before .before .args) in let x = (c .before .before .before .before .before .r .given .0 .0) in refused-rows (a .rows .now) (a .rows .now) _ x _ (windowNumbers (a .within) (a .skip) (a .script .now) (a .numbers .now) (a .rows .now)) (refused-window (a .script .now) (a .numbers .now) (a .within) (a .skip) (a .rows .now) (refusalOf x) (rw (c .before .before .before .before .before .r .given .1) at (c .before .before .before .before .before .before .before .check .ensures))) refl (c .before .before .refuse-rows .ensures))  -- returns
+    (λ c. let a = (c .before .before .before .before .before .before .before .before .before .before .before .before .before .args) in let x = (c .before .before .before .before .before .r .given .0 .0) in refused-rows (a .rows .now) (a .rows .now) _ x _ (windowNumbers _ (a .within) (a .skip) (a .script .now) (a .numbers .now) (a .rows .now)) (refused-window _ (a .script .now) (a .numbers .now) (a .within) (a .skip) (a .rows .now) (refusalOf x) (rw (c .before .before .before .before .before .r .given .1) at (c .before .before .before .before .before .before .before .check .ensures))) refl (c .before .before .refuse-rows .ensures))  -- returns
     (λ c. let l0 = (c .before .rows2 .given) in search needs)  -- same-length-2
     (λ c. search needs))  -- returns-2

@@ -18,7 +18,7 @@ read-all-spec =
     (λ c κs. (rw (c .before .before .before .sink .given .1) at (c .before .before .before .before .before .before .before .before .before .before .read-list .ensures)) .0 .wrote .fits)  -- finish-requires
     (λ c. search needs)  -- same-length
     (λ c. search needs)  -- same-length-2
-    (λ c. let a = (c .before .before .before .before .before .before .before .before .before .before .before .before .before .before .before .before .before .before .before .before .before .before .before .before .args) in refused-call (a .words .now) (a .text .now) (c .before .before .before .before .before .before .before .before .before .before .before .before .before .before .before .read-list .last .1 .1 .1 .1 .0) (c .before .before .before .before .before .before .before .before .before .before .before .before .before .before .before .read-list .last .1 .1 .1 .1 .1 .0) (c .before .before .before .before .refuse .last .0) (c .before .before .before .before .refuse .last .1 .0) (c .before .before .before .before .before .before .before .before .r .given .0 .0) (c .before .before .before .before .refuse .result) (readNumbers (a .script .now) (a .numbers .now) (a .words .now) (a .text .now)) (refused-list (a .script .now) (a .numbers .now) (a .count) (a .words .now) (a .text .now) (c .before .before .before .before .before .before .before .before .before .before .before .before .before .before .before .before .before .before .before .before .before .before .before .before .pre .0) (c .before .before .before .before .before .before .before .before .r .given .0 .0) ((rw (c .before .before .before .before .before .before .before .before .r .given .1) at (c .before .before .before .before .before .before .before .before .before .before .before .before .before .before .before .read-list .ensures)) .0)) (c .before .before .before .before .before .before .before .before .before .before .before .before .before .before .before .read-list .kept .1 .1 .1 .1 .0) (c .before .before .before .before .before .before .before .before .before .before .before .before .before .before .before .read-list .kept .1 .1 .1 .1 .1 .0) (c .before .before .before .before .refuse .ensures))  -- returns
+    (λ c. let a = (c .before .before .before .before .before .before .before .before .before .before .before .before .before .before .before .before .before .before .before .before .before .before .before .before .before .before .args) in refused-call (a .words .now) (a .text .now) (c .before .before .before .before .before .before .before .before .before .before .before .before .before .before .before .read-list .last .1 .1 .1 .1 .0) (c .before .before .before .before .before .before .before .before .before .before .before .before .before .before .before .read-list .last .1 .1 .1 .1 .1 .0) (c .before .before .before .before .refuse .last .0) (c .before .before .before .before .refuse .last .1 .0) (c .before .before .before .before .before .before .before .before .r .given .0 .0) (c .before .before .before .before .refuse .result) (readNumbers _ (a .script .now) (a .numbers .now) (a .words .now) (a .text .now)) (refused-list _ (a .script .now) (a .numbers .now) (a .count) (a .words .now) (a .text .now) (c .before .before .before .before .before .before .before .before .before .before .before .before .before .before .before .before .before .before .before .before .before .before .before .before .before .before .pre .0) (c .before .before .before .before .before .before .before .before .r .given .0 .0) ((rw (c .before .before .before .before .before .before .before .before .r .given .1) at (c .before .before .before .before .before .before .before .before .before .before .before .before .before .before .before .read-list .ensures)) .0)) (c .before .before .before .before .before .before .before .before .before .before .before .before .before .before .before .read-list .kept .1 .1 .1 .1 .0) (c .before .before .before .before .before .before .before .before .before .before .before .before .before .before .before .read-list .kept .1 .1 .1 .1 .1 .0) (c .before .before .before .before .refuse .ensures))  -- returns
     (λ c. search needs)  -- same-length-3
     (λ c. search needs)  -- same-length-4
-    (λ c. let a = (c .before .before .before .before .before .before .before .before .before .before .before .before .before .before .before .before .before .before .before .before .before .before .before .before .args) in accepted-call (a .script .now) (a .numbers .now) (a .count) (a .words .now) (a .text .now) (c .before .before .before .before .before .before .before .before .before .before .before .before .before .before .before .before .before .before .before .before .before .before .before .before .pre .0) (c .before .before .before .before .before .before .before .before .before .before .before .before .before .before .before .before .before .before .before .whole-of .result) (c .before .before .before .before .before .before .before .before .before .before .before .before .before .before .before .read-list .last .1 .1 .1 .1 .0) (c .before .before .before .before .before .before .before .before .before .before .before .before .before .before .before .read-list .last .1 .1 .1 .1 .1 .0) (c .before .before .before .before .finish .last .1 .1 .1 .1 .0) (c .before .before .before .before .finish .last .1 .1 .1 .1 .1 .0) (c .before .before .before .before .before .before .before .before .sink .given .0 .0) (c .before .before .before .before .finish .result) (a .chars) (c .before .before .before .before .before .before .before .before .before .before .before .before .before .before .before .before .before .before .before .before .before .before .before .before .pre .1) (c .before .before .before .before .before .before .before .before .before .before .before .before .before .before .before .before .before .before .before .whole-of .ensures) ((rw (c .before .before .before .before .before .before .before .before .sink .given .1) at (c .before .before .before .before .before .before .before .before .before .before .before .before .before .before .before .read-list .ensures)) .0) (c .before .before .before .before .finish .ensures)))  -- returns-2
+    (λ c. let a = (c .before .before .before .before .before .before .before .before .before .before .before .before .before .before .before .before .before .before .before .before .before .before .before .before .before .before .args) in accepted-call _ (a .script .now) (a .numbers .now) (a .count) (a .words .now) (a .text .now) (c .before .before .before .before .before .before .before .before .before .before .before .before .before .before .before .before .before .before .before .before .before .before .before .before .before .before .pre .0) (c .before .before .before .before .before .before .before .before .before .before .before .before .before .before .before .before .before .before .before .whole-of .result) (c .before .before .before .before .before .before .before .before .before .before .before .before .before .before .before .read-list .last .1 .1 .1 .1 .0) (c .before .before .before .before .before .before .before .before .before .before .before .before .before .before .before .read-list .last .1 .1 .1 .1 .1 .0) (c .before .before .before .before .finish .last .1 .1 .1 .1 .0) (c .before .before .before .before .finish .last .1 .1 .1 .1 .1 .0) (c .before .before .before .before .before .before .before .before .sink .given .0 .0) (c .before .before .before .before .finish .result) (a .chars) (c .before .before .before .before .before .before .before .before .before .before .before .before .before .before .before .before .before .before .before .before .before .before .before .before .before .before .pre .1) (c .before .before .before .before .before .before .before .before .before .before .before .before .before .before .before .before .before .before .before .whole-of .ensures) ((rw (c .before .before .before .before .before .before .before .before .sink .given .1) at (c .before .before .before .before .before .before .before .before .before .before .before .before .before .before .before .read-list .ensures)) .0) (c .before .before .before .before .finish .ensures)))  -- returns-2

@@ -17,13 +17,13 @@ read-body-spec =
     (λ c. search needs)  -- same-length
     (λ c. search needs)  -- same-length-2
     (λ c. search needs)  -- same-length-3
-    (λ c. let a = (c .before .before .before .before .before .before .before .before .before .before .before .before .before .before .before .before .args) in (fstring-body (a .fr) (a .s .now) (a .words .now) (a .text .now) (c .before .before .before .before .before .before .parse-fstring .last .1 .1 .1 .1 .0) (c .before .before .before .before .before .before .parse-fstring .last .1 .1 .1 .1 .1 .0) (a .k) (c .before .before .before .before .before .before .parse-fstring .result) (sym (c .before .before .before .before .before .before .before .before .before .before .before .is-of .ensures) ∙ (c .before .before .before .before .before .before .before .before .before .before .if1 .taken)) ((c .before .before .before .before .before .before .parse-fstring .ensures) .0), fstring-rows (a .fr) (a .s .now) _ _ (a .fields) (c .before .before .before .before .before .before .parse-fstring .result) (sym (c .before .before .before .before .before .before .before .before .before .before .before .is-of .ensures) ∙ (c .before .before .before .before .before .before .before .before .before .before .if1 .taken)) ((c .before .before .before .before .before .before .parse-fstring .ensures) .1)))  -- returns
+    (λ c. let a = (c .before .before .before .before .before .before .before .before .before .before .before .before .before .before .before .before .before .before .args) in (fstring-body _ (a .fr) (a .s .now) (a .words .now) (a .text .now) (c .before .before .before .before .before .before .parse-fstring .last .1 .1 .1 .1 .0) (c .before .before .before .before .before .before .parse-fstring .last .1 .1 .1 .1 .1 .0) (a .k) (c .before .before .before .before .before .before .parse-fstring .result) (sym (c .before .before .before .before .before .before .before .before .before .before .before .is-of .ensures) ∙ (c .before .before .before .before .before .before .before .before .before .before .if1 .taken)) ((c .before .before .before .before .before .before .parse-fstring .ensures) .0), fstring-rows _ (a .fr) (a .s .now) _ _ (a .fields) (c .before .before .before .before .before .before .parse-fstring .result) (sym (c .before .before .before .before .before .before .before .before .before .before .before .is-of .ensures) ∙ (c .before .before .before .before .before .before .before .before .before .before .if1 .taken)) ((c .before .before .before .before .before .before .parse-fstring .ensures) .1)))  -- returns
     (λ c κs. search needs)  -- parse-string-requires
     (λ c. search needs)  -- enum-known-r
     (λ c. search needs)  -- enum-known-used
-    (λ c κs. let a = (c .before .before .before .before .before .before .before .before .before .before .before .before .before .before .args) in let R = (c .before .before .before .before .before .before .before .before .before .before .before .before .before .before .pre .0) in let C = content-of (a .fr .kind) (a .s .now) (a .k .used) (a .text .now) (c .before .before .before .before .before .before .parse-string .last .1 .1 .0) (c .before .before .used .given .0 .0) (rw (c .before .before .used .given .1) at (c .before .before .before .before .before .before .parse-string .ensures)) in (fits _ _ _ _ R, (omega (arith, C .up), omega (arith, C .up, C .short, R .load, R .small))))  -- literal-requires
+    (λ c κs. let a = (c .before .before .before .before .before .before .before .before .before .before .before .before .before .before .before .before .args) in let R = (c .before .before .before .before .before .before .before .before .before .before .before .before .before .before .before .before .pre .0) in let C = content-of _ (a .fr .kind) (a .s .now) (a .k .used) (a .text .now) (c .before .before .before .before .before .before .parse-string .last .1 .1 .0) (c .before .before .used .given .0 .0) (rw (c .before .before .used .given .1) at (c .before .before .before .before .before .before .parse-string .ensures)) in (fits _ _ _ _ R, (omega (arith, C .up), omega (arith, C .up, C .short, R .load, R .small))))  -- literal-requires
     (λ c. search needs)  -- same-length-4
-    (λ c. let a = (c .before .before .before .before .before .before .before .before .before .before .before .before .before .args) in (string-refuses (a .fr) (a .s .now) _ _ _ _ _ (c .before .r .given .0 .0) (sym (c .before .before .before .before .before .before .before .before .is-of .ensures) ∙ (c .before .before .before .before .before .before .before .if1 .left)) (not-read _ (a .k .used) (a .text .now) (c .before .before .before .before .before .parse-string .last .1 .1 .0) (c .before .r .given .0 .0) (rw (c .before .r .given .1) at (c .before .before .before .before .before .parse-string .ensures))), tt))  -- returns-2
+    (λ c. let a = (c .before .before .before .before .before .before .before .before .before .before .before .before .before .before .before .args) in (string-refuses _ (a .fr) (a .s .now) _ _ _ _ _ (c .before .r .given .0 .0) (sym (c .before .before .before .before .before .before .before .before .is-of .ensures) ∙ (c .before .before .before .before .before .before .before .if1 .left)) (not-read _ (a .k .used) (a .text .now) (c .before .before .before .before .before .parse-string .last .1 .1 .0) (c .before .r .given .0 .0) (rw (c .before .r .given .1) at (c .before .before .before .before .before .parse-string .ensures))), tt))  -- returns-2
     (λ c. search needs)  -- same-length-5
     (λ c. search needs)  -- same-length-6
-    (λ c. let a = (c .before .before .before .before .before .before .before .before .before .before .before .before .before .before .before .before .before .args) in let C = content-of (a .fr .kind) (a .s .now) (a .k .used) (a .text .now) (c .before .before .before .before .before .before .before .before .before .parse-string .last .1 .1 .0) (c .before .before .before .before .before .used .given .0 .0) (rw (c .before .before .before .before .before .used .given .1) at (c .before .before .before .before .before .before .before .before .before .parse-string .ensures)) in (string-body (a .fr) (a .s .now) (a .words .now) (a .text .now) (c .before .before .literal .last .0) (c .before .before .before .before .before .before .before .before .before .parse-string .last .1 .1 .0) (a .k) (c .before .before .literal .result) (c .before .before .before .before .before .used .given .0 .0) (a .fields) (sym (c .before .before .before .before .before .before .before .before .before .before .before .before .is-of .ensures) ∙ (c .before .before .before .before .before .before .before .before .before .before .before .if1 .left)) C ((c .before .before .literal .ensures) (C .content) (a .text .now) (C .up)), string-rows (a .fr) (a .s .now) (a .rows .now) (a .fields) _ _ _ _ (sym (c .before .before .before .before .before .before .before .before .before .before .before .before .is-of .ensures) ∙ (c .before .before .before .before .before .before .before .before .before .before .before .if1 .left)) C)))  -- returns-3
+    (λ c. let a = (c .before .before .before .before .before .before .before .before .before .before .before .before .before .before .before .before .before .before .before .args) in let C = content-of _ (a .fr .kind) (a .s .now) (a .k .used) (a .text .now) (c .before .before .before .before .before .before .before .before .before .parse-string .last .1 .1 .0) (c .before .before .before .before .before .used .given .0 .0) (rw (c .before .before .before .before .before .used .given .1) at (c .before .before .before .before .before .before .before .before .before .parse-string .ensures)) in (string-body _ (a .fr) (a .s .now) (a .words .now) (a .text .now) (c .before .before .literal .last .0) (c .before .before .before .before .before .before .before .before .before .parse-string .last .1 .1 .0) (a .k) (c .before .before .literal .result) (c .before .before .before .before .before .used .given .0 .0) (a .fields) (sym (c .before .before .before .before .before .before .before .before .before .before .before .before .is-of .ensures) ∙ (c .before .before .before .before .before .before .before .before .before .before .before .if1 .left)) C ((c .before .before .literal .ensures) (C .content) (a .text .now) (C .up)), string-rows _ (a .fr) (a .s .now) (a .rows .now) (a .fields) _ _ _ _ (sym (c .before .before .before .before .before .before .before .before .before .before .before .before .is-of .ensures) ∙ (c .before .before .before .before .before .before .before .before .before .before .before .if1 .left)) C)))  -- returns-3

@@ -7,7 +7,7 @@ use native.Mathlib.Omega.{arith}
 use borrow.Author.Tests.{le-leb}
 use lib.ListN.{length, length-append}
 use Rattle.definition.specs.Chars.{noCode, code, next}
-use Rattle.definition.specs.Escapes.{Read, got, refused, Meaning, escape}
+use Rattle.definition.specs.Escapes.{Naming, Read, got, refused, Meaning, escape}
 use Rattle.definition.specs.Body.{Move, goes, stops, calls, ends, withEscape, StringCase, stringCase, stringMove, stringN, TextCase, deep, opens, last, doubled, lone, textCase, textMove, enough}
 use Rattle.definition.proofs.CharLaws.{next-from, next-in}
 use Rattle.definition.proofs.Moves.{textSize, Ahead, string-ahead, text-ahead}
@@ -45,28 +45,28 @@ unfolding withEscape
 escape-onto kind s i c (got m j) = refl
 escape-onto kind s i c (refused x) = refl
 
-string-onto : (kind : ℕ) (s : List ℕ) (i : ℕ) (c : List ℕ) → stringMove kind s i c ≡ onto c (stringMove kind s i [])
+string-onto : (look : Naming) → (kind : ℕ) (s : List ℕ) (i : ℕ) (c : List ℕ) → stringMove look kind s i c ≡ onto c (stringMove look kind s i [])
 unfolding stringMove
-string-onto kind s i c = go (stringCase kind s i) refl
+string-onto look kind s i c = go (stringCase kind s i) refl
   where
-    go : (x : StringCase) → stringCase kind s i ≡ x → stringMove kind s i c ≡ onto c (stringMove kind s i [])
+    go : (x : StringCase) → stringCase kind s i ≡ x → stringMove look kind s i c ≡ onto c (stringMove look kind s i [])
     go StringCase.over e = rw (e, stringMove)
-    go StringCase.escapes e = rw (e, stringMove) (escape-onto kind s i c (escape kind s (next s i)))
+    go StringCase.escapes e = rw (e, stringMove) (escape-onto kind s i c (escape look kind s (next s i)))
     go StringCase.foreign e = rw (e, stringMove)
     go StringCase.plain e = rw (e, stringMove)
 
-text-onto : (kind : ℕ) (s : List ℕ) (depth i : ℕ) (c : List ℕ) → textMove kind s depth i c ≡ onto c (textMove kind s depth i [])
+text-onto : (look : Naming) → (kind : ℕ) (s : List ℕ) (depth i : ℕ) (c : List ℕ) → textMove look kind s depth i c ≡ onto c (textMove look kind s depth i [])
 unfolding textMove
-text-onto kind s depth i c = go (textCase kind s depth i) refl
+text-onto look kind s depth i c = go (textCase kind s depth i) refl
   where
-    go : (x : TextCase) → textCase kind s depth i ≡ x → textMove kind s depth i c ≡ onto c (textMove kind s depth i [])
+    go : (x : TextCase) → textCase kind s depth i ≡ x → textMove look kind s depth i c ≡ onto c (textMove look kind s depth i [])
     go deep e = rw (e, textMove)
     go TextCase.over e = rw (e, textMove)
     go opens e = rw (e, textMove)
     go last e = rw (e, textMove)
     go doubled e = rw (e, textMove)
     go lone e = rw (e, textMove)
-    go TextCase.escapes e = rw (e, textMove) (escape-onto kind s i c (escape kind s (next s i)))
+    go TextCase.escapes e = rw (e, textMove) (escape-onto kind s i c (escape look kind s (next s i)))
     go TextCase.plain e = rw (e, textMove)
 
 -- THE MOVE THAT AN ANSWER TELLS
@@ -127,46 +127,46 @@ module _ (Same : ℕ → List ℕ → Type 0) (s : List ℕ) (from used : ℕ) (
   long = rw (u .wrote) (length-over text₀ used (u .content))
 
 -- A STRING'S MOVES
-abbrev pub StringFrom : ℕ → List ℕ → ℕ → List ℕ → Type 0
-StringFrom kind s i content = stringN (enough s) kind s 0 [] ≡ stringN (enough s) kind s i content
+abbrev pub StringFrom : (look : Naming) → ℕ → List ℕ → ℕ → List ℕ → Type 0
+StringFrom look kind s i content = stringN look (enough s) kind s 0 [] ≡ stringN look (enough s) kind s i content
 
-module _ (kind : ℕ) (s : List ℕ) (used : ℕ) (text₀ text : List ℕ) (i end : ℕ) (u : Upto (StringFrom kind s) s 0 used text₀ text i end) (text′ : List ℕ) (r : Piece) (d : Does (stringMove kind s i []) s i end text text′ r) where
-  string-told : (q : Piece) → r ≡ q → Told s i end text text′ (stringMove kind s i []) q
-  string-told q e = told s i end text text′ (stringMove kind s i []) r q e d
+module _ (look : Naming) (kind : ℕ) (s : List ℕ) (used : ℕ) (text₀ text : List ℕ) (i end : ℕ) (u : Upto (StringFrom look kind s) s 0 used text₀ text i end) (text′ : List ℕ) (r : Piece) (d : Does (stringMove look kind s i []) s i end text text′ r) where
+  string-told : (q : Piece) → r ≡ q → Told s i end text text′ (stringMove look kind s i []) q
+  string-told q e = told s i end text text′ (stringMove look kind s i []) r q e d
 
-  string-is : (m : Move (List ℕ)) → stringMove kind s i [] ≡ m → stringMove kind s i (u .content) ≡ onto (u .content) m
-  string-is m e = string-onto kind s i (u .content) ∙ ap (onto (u .content)) e
+  string-is : (m : Move (List ℕ)) → stringMove look kind s i [] ≡ m → stringMove look kind s i (u .content) ≡ onto (u .content) m
+  string-is m e = string-onto look kind s i (u .content) ∙ ap (onto (u .content)) e
 
-  pub string-more : (k : Cursor) (e : ℕ) → r ≡ On k e → (i < k .at) × Upto (StringFrom kind s) s 0 used text₀ text′ (k .at) e
+  pub string-more : (k : Cursor) (e : ℕ) → r ≡ On k e → (i < k .at) × Upto (StringFrom look kind s) s 0 used text₀ text′ (k .at) e
   string-more k e q =
-      on (StringFrom kind s) s 0 used text₀ text i end u ⊥ (length s ≤ i) text′ k e (stringMove kind s i []) (string-told (On k e) q)
-      (rw string-onto at (string-ahead kind s i (u .content)))
-      (λ j t l h. u .same ∙ string-on kind s i (u .content) j t l (string-onto kind s i (u .content) ∙ h))
+      on (StringFrom look kind s) s 0 used text₀ text i end u ⊥ (length s ≤ i) text′ k e (stringMove look kind s i []) (string-told (On k e) q)
+      (rw (string-onto look) at (string-ahead look kind s i (u .content)))
+      (λ j t l h. u .same ∙ string-on look kind s i (u .content) j t l (string-onto look kind s i (u .content) ∙ h))
 
-  pub string-refused : (x : Refusal) → r ≡ Refused x → StringIs (stringN (enough s) kind s 0 []) used text₀ text′ (Not x)
-  string-refused x q = rw (u .same ∙ string-stop kind s i (u .content) _ (string-is _ (string-told (Refused x) q))) refl
+  pub string-refused : (x : Refusal) → r ≡ Refused x → StringIs (stringN look (enough s) kind s 0 []) used text₀ text′ (Not x)
+  string-refused x q = rw (u .same ∙ string-stop look kind s i (u .content) _ (string-is _ (string-told (Refused x) q))) refl
 
   -- neither is the end, since no field opens in a string
-  pub string-over : (tagOf the-type r ≡ 1) ⊎ (tagOf the-type r ≡ 2) → StringIs (stringN (enough s) kind s 0 []) used text₀ text′ (Done end)
+  pub string-over : (tagOf the-type r ≡ 1) ⊎ (tagOf the-type r ≡ 2) → StringIs (stringN look (enough s) kind s 0 []) used text₀ text′ (Done end)
   string-over h = go r refl h
     where
-      go : (q : Piece) → r ≡ q → (tagOf the-type q ≡ 1) ⊎ (tagOf the-type q ≡ 2) → StringIs (stringN (enough s) kind s 0 []) used text₀ text′ (Done end)
+      go : (q : Piece) → r ≡ q → (tagOf the-type q ≡ 1) ⊎ (tagOf the-type q ≡ 2) → StringIs (stringN look (enough s) kind s 0 []) used text₀ text′ (Done end)
       go (On k e) q h = ⊎-elim (λ z. absurd (omega arith)) (λ z. absurd (omega arith)) h
-      go (Field k) q h = absurd (rw (string-told (Field k) q .0) at (string-ahead kind s i []))
+      go (Field k) q h = absurd (rw (string-told (Field k) q .0) at (string-ahead look kind s i []))
       go Over q h =
           let w = string-told Over q in
-          rw (u .same ∙ string-end kind s i (u .content) (string-is ends (w .0))) (rw (u .ended), w .1 ∙ u .wrote)
+          rw (u .same ∙ string-end look kind s i (u .content) (string-is ends (w .0))) (rw (u .ended), w .1 ∙ u .wrote)
       go (Refused x) q h = ⊎-elim (λ z. absurd (omega arith)) (λ z. absurd (omega arith)) h
 
 -- AN F-STRING'S MOVES
-module _ (kind : ℕ) (s : List ℕ) (depth from used : ℕ) (text₀ text : List ℕ) (i end : ℕ) (u : Upto (TextFrom kind s depth from) s from used text₀ text i end) (text′ : List ℕ) (r : Piece) (d : Does (textMove kind s depth i []) s i end text text′ r) where
-  text-told : (q : Piece) → r ≡ q → Told s i end text text′ (textMove kind s depth i []) q
-  text-told q e = told s i end text text′ (textMove kind s depth i []) r q e d
+module _ (look : Naming) (kind : ℕ) (s : List ℕ) (depth from used : ℕ) (text₀ text : List ℕ) (i end : ℕ) (u : Upto (TextFrom look kind s depth from) s from used text₀ text i end) (text′ : List ℕ) (r : Piece) (d : Does (textMove look kind s depth i []) s i end text text′ r) where
+  text-told : (q : Piece) → r ≡ q → Told s i end text text′ (textMove look kind s depth i []) q
+  text-told q e = told s i end text text′ (textMove look kind s depth i []) r q e d
 
-  text-is : (m : Move (List ℕ)) → textMove kind s depth i [] ≡ m → textMove kind s depth i (u .content) ≡ onto (u .content) m
-  text-is m e = text-onto kind s depth i (u .content) ∙ ap (onto (u .content)) e
+  text-is : (m : Move (List ℕ)) → textMove look kind s depth i [] ≡ m → textMove look kind s depth i (u .content) ≡ onto (u .content) m
+  text-is m e = text-onto look kind s depth i (u .content) ∙ ap (onto (u .content)) e
 
-  stopped : (m : Move (List ℕ)) → textMove kind s depth i (u .content) ≡ m → text′ ≡ text → StopsBy m kind s depth from used text₀ text′ i end
+  stopped : (m : Move (List ℕ)) → textMove look kind s depth i (u .content) ≡ m → text′ ≡ text → StopsBy look m kind s depth from used text₀ text′ i end
   stopped m e w =
       record {
         upto = record {
@@ -181,25 +181,25 @@ module _ (kind : ℕ) (s : List ℕ) (depth from used : ℕ) (text₀ text : Lis
         move = e;
       }
 
-  pub text-more : (k : Cursor) (e : ℕ) → r ≡ On k e → (i < k .at) × Upto (TextFrom kind s depth from) s from used text₀ text′ (k .at) e
+  pub text-more : (k : Cursor) (e : ℕ) → r ≡ On k e → (i < k .at) × Upto (TextFrom look kind s depth from) s from used text₀ text′ (k .at) e
   text-more k e q =
-      on (TextFrom kind s depth from) s from used text₀ text i end u (i < length s) (Unit {0}) text′ k e (textMove kind s depth i []) (text-told (On k e) q)
-      (rw text-onto at (text-ahead kind s depth i (u .content) (u .inside)))
-      (λ j t l h ps. u .same ps ∙ text-on kind s depth i (u .content) ps j t l (text-onto kind s depth i (u .content) ∙ h))
+      on (TextFrom look kind s depth from) s from used text₀ text i end u (i < length s) (Unit {0}) text′ k e (textMove look kind s depth i []) (text-told (On k e) q)
+      (rw (text-onto look) at (text-ahead look kind s depth i (u .content) (u .inside)))
+      (λ j t l h ps. u .same ps ∙ text-on look kind s depth i (u .content) ps j t l (text-onto look kind s depth i (u .content) ∙ h))
 
-  pub text-opens : (k : Cursor) → r ≡ Field k → RunIs kind s depth from used text₀ text′ (AtField k end)
+  pub text-opens : (k : Cursor) → r ≡ Field k → RunIs look kind s depth from used text₀ text′ (AtField k end)
   text-opens k q =
       let w = text-told (Field k) q in
       let e = text-is calls (w .0) in
       record {
         brace = i;
-        there = rw e at (text-ahead kind s depth i (u .content) (u .inside));
+        there = rw e at (text-ahead look kind s depth i (u .content) (u .inside));
         after = w .1;
         stops = stopped calls e (w .2);
       }
 
-  pub text-over : r ≡ Over → StopsBy ends kind s depth from used text₀ text′ i end
+  pub text-over : r ≡ Over → StopsBy look ends kind s depth from used text₀ text′ i end
   text-over q = let w = text-told Over q in stopped ends (text-is ends (w .0)) (w .1)
 
-  pub text-refused : (x : Refusal) → r ≡ Refused x → RunIs kind s depth from used text₀ text′ (None x)
-  text-refused x q ps = u .same ps ∙ text-stop kind s depth i (u .content) ps _ (text-is _ (text-told (Refused x) q))
+  pub text-refused : (x : Refusal) → r ≡ Refused x → RunIs look kind s depth from used text₀ text′ (None x)
+  text-refused x q ps = u .same ps ∙ text-stop look kind s depth i (u .content) ps _ (text-is _ (text-told (Refused x) q))

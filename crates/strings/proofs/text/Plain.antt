@@ -12,6 +12,7 @@ use lib.ListN.{length, drop, length-append}
 use lib.Seq.{drop-cons, take-add, drop-drop}
 use Rattle.definition.specs.Numbers.{isBytes}
 use Rattle.definition.specs.Chars.{byte, part, atEnd, code, next, char, before}
+use Rattle.definition.specs.Escapes.{Naming}
 use Rattle.definition.specs.Body.{goes, stringCase, stringMove, textCase, textMove}
 use Rattle.definition.proofs.CharLaws.{cases, no, between, next-from, next-past, next-in, next-ascii, code-ascii, code-is, before-in}
 use Rattle.definition.proofs.Moves.{part-short}
@@ -152,37 +153,37 @@ module _ (kind : ℕ) (s : List ℕ) where
         }
 
   -- a plain character of a string, and of f-string text
-  module _ (i : ℕ) (c : List ℕ) (h : i < length s) (e : special kind (byte s i) ≡ false) where
+  module _ (look : Naming) (i : ℕ) (c : List ℕ) (h : i < length s) (e : special kind (byte s i) ≡ false) where
     foreign-not : (isBytes kind && leb 0x80 (code s i)) ≡ false
     foreign-not =
         cases (isBytes kind)
         (λ t. let a = rw t at (plain kind (byte s i) e .ascii) in rw (code-ascii s i (leb-false _ _ a), t) a)
         (λ t. rw t)
 
-    string-plain : stringMove kind s i c ≡ goes (next s i) (c ++ char s i)
+    string-plain : stringMove look kind s i c ≡ goes (next s i) (c ++ char s i)
     unfolding stringMove stringCase
     string-plain =
         rw (lt-leb _ _ h, code-is s i 92 (omega arith), plain kind (byte s i) e .backslash, foreign-not, stringMove, stringCase)
 
-    string-step : StringFrom kind s i c → StringFrom kind s (next s i) (c ++ char s i)
-    string-step m = m ∙ string-on kind s i c (next s i) (c ++ char s i) (next-in s i (omega arith)) string-plain
+    string-step : StringFrom look kind s i c → StringFrom look kind s (next s i) (c ++ char s i)
+    string-step m = m ∙ string-on look kind s i c (next s i) (c ++ char s i) (next-in s i (omega arith)) string-plain
 
-    text-plain : (depth : ℕ) → depth < 2 → textMove kind s depth i c ≡ goes (next s i) (c ++ char s i)
+    text-plain : (depth : ℕ) → depth < 2 → textMove look kind s depth i c ≡ goes (next s i) (c ++ char s i)
     unfolding textMove textCase
     text-plain depth d =
         let p = plain kind (byte s i) e in
         rw (lt-leb _ _ d, lt-leb _ _ h, code-is s i 123 (omega arith), p .left, code-is s i 125 (omega arith), p .right, code-is s i 92 (omega arith), p .backslash, textMove, textCase)
 
-    text-step : (depth from : ℕ) → depth < 2 → TextFrom kind s depth from i c → TextFrom kind s depth from (next s i) (c ++ char s i)
-    text-step depth from d m ps = m ps ∙ text-on kind s depth i c ps (next s i) (c ++ char s i) (next-in s i (omega arith)) (text-plain depth d)
+    text-step : (depth from : ℕ) → depth < 2 → TextFrom look kind s depth from i c → TextFrom look kind s depth from (next s i) (c ++ char s i)
+    text-step depth from d m ps = m ps ∙ text-on look kind s depth i c ps (next s i) (c ++ char s i) (next-in s i (omega arith)) (text-plain depth d)
 
 -- AFTER A RUN
-module _ (kind : ℕ) (s : List ℕ) (used : ℕ) (text₀ text : List ℕ) (i end : ℕ) where
-  pub string-run : Upto (StringFrom kind s) s 0 used text₀ text i end → (text′ : List ℕ) (r : Reached) → PlainIs kind s i end text text′ r
-      → Upto (StringFrom kind s) s 0 used text₀ text′ (r .cursor .at) (r .used)
-  string-run = after-run kind s (StringFrom kind s) (string-step kind s) 0 used text₀ text i end
+module _ (look : Naming) (kind : ℕ) (s : List ℕ) (used : ℕ) (text₀ text : List ℕ) (i end : ℕ) where
+  pub string-run : Upto (StringFrom look kind s) s 0 used text₀ text i end → (text′ : List ℕ) (r : Reached) → PlainIs kind s i end text text′ r
+      → Upto (StringFrom look kind s) s 0 used text₀ text′ (r .cursor .at) (r .used)
+  string-run = after-run kind s (StringFrom look kind s) (string-step kind s look) 0 used text₀ text i end
 
-  pub text-run : (depth from : ℕ) → depth < 2 → Upto (TextFrom kind s depth from) s from used text₀ text i end → (text′ : List ℕ) (r : Reached) → PlainIs kind s i end text text′ r
-      → Upto (TextFrom kind s depth from) s from used text₀ text′ (r .cursor .at) (r .used)
+  pub text-run : (depth from : ℕ) → depth < 2 → Upto (TextFrom look kind s depth from) s from used text₀ text i end → (text′ : List ℕ) (r : Reached) → PlainIs kind s i end text text′ r
+      → Upto (TextFrom look kind s depth from) s from used text₀ text′ (r .cursor .at) (r .used)
   text-run depth from d =
-      after-run kind s (TextFrom kind s depth from) (λ j c h e. text-step kind s j c h e depth from d) from used text₀ text i end
+      after-run kind s (TextFrom look kind s depth from) (λ j c h e. text-step kind s look j c h e depth from d) from used text₀ text i end

@@ -12,7 +12,9 @@ twelve-fields-spec =
     (tie.spec
     (λ c. search needs)  -- enum-known-l
     (λ c. search needs)  -- enum-told
+    (λ c. search needs)  -- enum-known-number
     (λ c. search needs)  -- enum-known-count
     (λ c. rw (c .before .x .given .1) refl)  -- returns
     (λ c. rw (c .enum-told .given .1) refl)  -- returns-2
-    (λ c. rw (c .before .x2 .given .1) refl))  -- returns-3
+    (λ c. rw (c .before .x2 .given .1) refl)  -- returns-3
+    (λ c. rw (c .before .x3 .given .1) refl))  -- returns-4

@@ -10,12 +10,12 @@ fstring-rows-spec =
     tie.close
     (tie.spec
     (λ c. search needs)  -- slice-aggregate-read-alone
-    (λ c κs. (c .before .before .before .pre .0))  -- read-alone-requires
+    (λ c κs. (c .before .before .before .before .before .pre .0))  -- read-alone-requires
     (λ c. search needs)  -- enum-known-t
     (λ c κs. search needs)  -- put-refusal-requires
     (λ c. search needs)  -- add-result
     (λ c. search needs)  -- enum-known-n
-    (λ c. let e = rw (c .before .n .given .1) at (c .before .before .before .before .read-alone .ensures) in let h = e .few in let p = (c .before .before .before .before .before .before .before .before .pre .1) in omega arith)  -- add-to
+    (λ c. let e = rw (c .before .n .given .1) at (c .before .before .before .before .read-alone .ensures) in let h = e .few in let p = (c .before .before .before .before .before .before .before .before .before .before .pre .1) in omega arith)  -- add-to
     (λ c. let e = rw (c .before .before .n .given .1) at (c .before .before .before .before .before .read-alone .ensures) in puts-short _ _ _ _ (omega (arith, e .counted)) (c .if1 .taken))  -- returns
     (λ c. search needs)  -- mul-from
     (λ c. search needs)  -- mul-end
@@ -23,8 +23,8 @@ fstring-rows-spec =
     (λ c. search needs)  -- sub-read-alone
     (λ c. search needs)  -- part-read-alone-start
     (λ c. search needs)  -- part-read-alone-end
-    (λ c κs. (c .before .before .before .before .before .before .before .before .before .before .pre .0))  -- read-alone-requires-2
+    (λ c κs. (c .before .before .before .before .before .before .before .before .before .before .before .before .pre .0))  -- read-alone-requires-2
     (λ c. search needs)  -- same-length
     (λ c. rw (rw (c .before .before .before .before .before .t .given .1) at (c .before .before .before .before .before .before .before .before .read-alone .ensures)) (puts-one _ _ _ _ (c .before .before .put-refusal .ensures)))  -- returns-2
     (λ c. search needs)  -- same-length-2
-    (λ c. puts-lent _ _ _ _ _ _ _ _ (c .before .before .read-alone2 .last .1 .1 .1 .1 .0) (c .before .before .read-alone2 .result) (rw (c .before .before .before .before .before .before .n .given .1) at (c .before .before .before .before .before .before .before .before .before .read-alone .ensures)) (c .before .before .before .before .if1 .left) (c .before .before .read-alone2 .ensures)))  -- returns-3
+    (λ c. puts-lent _ _ _ _ _ _ _ _ _ (c .before .before .read-alone2 .last .1 .1 .1 .1 .0) (c .before .before .read-alone2 .result) (rw (c .before .before .before .before .before .before .n .given .1) at (c .before .before .before .before .before .before .before .before .before .read-alone .ensures)) (c .before .before .before .before .if1 .left) (c .before .before .read-alone2 .ensures)))  -- returns-3

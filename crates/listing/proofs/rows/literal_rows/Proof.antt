@@ -10,7 +10,7 @@ literal-rows-spec =
     tie.close
     (tie.spec
     (λ c κs. search needs)  -- is-fstring-requires
-    (λ c κs. (sym (c .before .before .is-fstring .ensures) ∙ (c .before .if1 .taken), (c .before .before .before .before .before .pre)))  -- fstring-rows-requires
+    (λ c κs. (sym (c .before .before .is-fstring .ensures) ∙ (c .before .if1 .taken), (c .before .before .before .before .before .before .before .pre)))  -- fstring-rows-requires
     (λ c. search needs)  -- same-length
     (λ c. (c .before .before .fstring-rows .ensures))  -- returns
-    (λ c. rw (not-read _ _ _ (sym (c .before .is-fstring .ensures) ∙ (c .if1 .left))) (puts-none _ _)))  -- returns-2
+    (λ c. rw (not-read _ _ _ _ (sym (c .before .is-fstring .ensures) ∙ (c .if1 .left))) (puts-none _ _)))  -- returns-2

@@ -1,6 +1,7 @@
 -- `listing::rows::source_rows` meets its contract. Assumes nothing.
 use borrow.Author.Needs.{needs}
 use native.Mathlib.Omega.{arith}
+use Rattle.escapes.specs.Answers.{namesBy}
 use Rattle.listing.proofs.Filling.{source-told, source-lies, source-bounded, source-puts}
 use Rattle.listing.proofs.rows.source_rows.Statement.{statement}
 use Rattle.listing.proofs.rows.source_rows.Tie as tie
@@ -9,16 +10,16 @@ pub source-rows-spec : {M : Type 1} → statement M
 source-rows-spec =
     tie.close
     (tie.spec
-    (λ c. let p = (c .before .before .pre .placed) in search needs)  -- mul-at
-    (λ c. let p = (c .before .before .pre .placed) in search needs)  -- mul-if1
-    (λ c. let p = (c .before .before .before .pre .placed) in search needs)  -- slice-read-if1
-    (λ c. source-told _ _ _ _ (c .if1 .taken))  -- returns
-    (λ c κs. (c .before .before .before .before .before .pre .placed))  -- field-at-requires
-    (λ c. let p = (c .before .before .before .before .before .before .pre .few) in search needs)  -- add-within
-    (λ c. let p = (c .before .before .before .before .before .before .pre .few) in search needs)  -- cast-within
-    (λ c κs. (rw (c .before .field-at .ensures) (source-lies _ _ _ (c .before .before .before .if1 .left) ((c .before .before .before .before .before .before .before .pre) .fits) ((c .before .before .before .before .before .before .before .pre) .not-long)), omega (arith, (c .before .before .before .before .before .before .before .pre .few))))  -- otherwise-row-requires
+    (λ c. let p = (c .before .before .before .before .pre .placed) in search needs)  -- mul-at
+    (λ c. let p = (c .before .before .before .before .pre .placed) in search needs)  -- mul-if1
+    (λ c. let p = (c .before .before .before .before .before .pre .placed) in search needs)  -- slice-read-if1
+    (λ c. source-told _ _ _ _ _ (c .if1 .taken))  -- returns
+    (λ c κs. (c .before .before .before .before .before .before .before .pre .placed))  -- field-at-requires
+    (λ c. let p = (c .before .before .before .before .before .before .before .before .pre .few) in search needs)  -- add-within
+    (λ c. let p = (c .before .before .before .before .before .before .before .before .pre .few) in search needs)  -- cast-within
+    (λ c κs. (rw (c .before .field-at .ensures) (source-lies (namesBy (c .before .before .before .before .before .before .before .before .before .args .lent) (c .before .before .before .before .before .before .before .before .before .args .file .now) (c .before .before .before .before .before .before .before .before .before .args .index .now)) _ _ _ (c .before .before .before .if1 .left) ((c .before .before .before .before .before .before .before .before .before .pre) .fits) ((c .before .before .before .before .before .before .before .before .before .pre) .not-long)), omega (arith, (c .before .before .before .before .before .before .before .before .before .pre .few))))  -- otherwise-row-requires
     (λ c. search needs)  -- cast-cut-rows
-    (λ c κs. rw (c .before .before .before .before .before .field-at .ensures) (source-lies _ _ _ (c .before .before .before .before .before .before .before .if1 .left) ((c .before .before .before .before .before .before .before .before .before .before .before .pre) .fits) ((c .before .before .before .before .before .before .before .before .before .before .before .pre) .not-long) .closed))  -- source-end-requires
-    (λ c κs. rw ((c .before .source-end .ensures), (c .before .before .before .before .before .before .before .field-at .ensures)) (source-bounded _ _ _ (c .before .before .before .before .before .before .before .before .before .if1 .left) _ (c .before .before .before .before .before .before .before .before .before .before .before .before .before .pre) _ _ (rw (c .before .before .before .before .before .before .before .field-at .ensures) at (c .before .before .before .before .before .otherwise-row .ensures))))  -- cut-rows-requires
+    (λ c κs. rw (c .before .before .before .before .before .field-at .ensures) (source-lies (namesBy (c .before .before .before .before .before .before .before .before .before .before .before .before .before .args .lent) (c .before .before .before .before .before .before .before .before .before .before .before .before .before .args .file .now) (c .before .before .before .before .before .before .before .before .before .before .before .before .before .args .index .now)) _ _ _ (c .before .before .before .before .before .before .before .if1 .left) ((c .before .before .before .before .before .before .before .before .before .before .before .before .before .pre) .fits) ((c .before .before .before .before .before .before .before .before .before .before .before .before .before .pre) .not-long) .closed))  -- source-end-requires
+    (λ c κs. rw ((c .before .source-end .ensures), (c .before .before .before .before .before .before .before .field-at .ensures)) (source-bounded (namesBy (c .before .before .before .before .before .before .before .before .before .before .before .before .before .before .before .args .lent) (c .before .before .before .before .before .before .before .before .before .before .before .before .before .before .before .args .file .now) (c .before .before .before .before .before .before .before .before .before .before .before .before .before .before .before .args .index .now)) _ _ _ (c .before .before .before .before .before .before .before .before .before .if1 .left) _ (c .before .before .before .before .before .before .before .before .before .before .before .before .before .before .before .pre) _ _ (rw (c .before .before .before .before .before .before .before .field-at .ensures) at (c .before .before .before .before .before .otherwise-row .ensures))))  -- cut-rows-requires
     (λ c. search needs)  -- same-length
-    (λ c. source-puts _ _ _ (c .before .before .before .before .before .before .before .before .before .before .before .before .if1 .left) _ (c .before .before .before .before .before .before .before .before .before .before .before .before .before .before .before .before .pre) _ _ (rw (c .before .before .before .before .before .before .before .before .before .before .field-at .ensures) at (c .before .before .before .before .before .before .before .before .otherwise-row .ensures)) _ _ (rw ((c .before .before .before .before .source-end .ensures), (c .before .before .before .before .before .before .before .before .before .before .field-at .ensures)) at (c .before .before .cut-rows .ensures))))  -- returns-2
+    (λ c. source-puts _ _ _ _ (c .before .before .before .before .before .before .before .before .before .before .before .before .if1 .left) _ (c .before .before .before .before .before .before .before .before .before .before .before .before .before .before .before .before .before .before .pre) _ _ (rw (c .before .before .before .before .before .before .before .before .before .before .field-at .ensures) at (c .before .before .before .before .before .before .before .before .otherwise-row .ensures)) _ _ (rw ((c .before .before .before .before .source-end .ensures), (c .before .before .before .before .before .before .before .before .before .before .field-at .ensures)) at (c .before .before .cut-rows .ensures))))  -- returns-2

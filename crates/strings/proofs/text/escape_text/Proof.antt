@@ -7,6 +7,7 @@ use Rattle.definition.specs.Body.{withEscape}
 use Rattle.definition.proofs.Moves.{escape-sound}
 use Rattle.buffers.proofs.Over.{over-nil}
 use Rattle.escapes.specs.Answers.{says}
+use Rattle.escapes.specs.Answers.{namesBy}
 use Rattle.strings.proofs.text.Laws.{within}
 use Rattle.strings.proofs.text.escape_text.Statement.{statement}
 use Rattle.strings.proofs.text.escape_text.Tie as tie
@@ -21,11 +22,11 @@ escape-text-spec =
     (λ c κs. search needs)  -- add-code-requires
     (λ c. search needs)  -- enum-known-escaped-2
     (λ c κs.
-    let p = c .before .before .before .before .before .before .before .pre in
+    let p = c .before .before .before .before .before .before .before .before .before .pre in
     let w = within _ _ _ (p .0) in
     let e = sym (c .before .before .before .before .parse-escaped-char .ensures) ∙ ap says (c .before .before .escaped2 .given .1) in
-    let a = c .before .before .before .before .before .before .before .args in
-    let h = rw e at (escape-sound (a .kind) (a .s .now) (a .after .at) (w .1)) in
+    let a = c .before .before .before .before .before .before .before .before .before .args in
+    let h = rw e at (escape-sound (namesBy (a .lent) (a .file .now) (a .index .now)) (a .kind) (a .s .now) (a .after .at) (w .1)) in
     search needs)  -- take-requires
     (λ c. search needs)  -- enum-known-escaped-3
     (λ c. search needs)  -- enum-known-escaped-4

@@ -10,7 +10,7 @@ use Rattle.strings.proofs.text.string_piece.Statement.{statement}
 use Rattle.strings.proofs.text.string_piece.Tie as tie
 
 -- the character
-step : (c : tie.After-is-escape) → let a = c .before .before .before .before .before .before .before .args in let g = c .before .before .c .given .0 in Stepped (a .s .now) (a .from .at) (g .0) (g .1 .0)
+step : (c : tie.After-is-escape) → let a = c .before .before .before .before .before .before .before .before .before .args in let g = c .before .before .c .given .0 in Stepped (a .s .now) (a .from .at) (g .0) (g .1 .0)
 step c = step-char _ _ _ _ (sym (c .before .before .before .before .next-char .ensures) ∙ c .before .before .c .given .1)
 
 pub string-piece-spec : {M : Type 1} → statement M

@@ -4,6 +4,7 @@ use native.Mathlib.Omega.{arith}
 use mathlib.Core.Path.{refl}
 use Prim.Native.Nat.{_-_}
 use lib.ListN.{length}
+use Rattle.escapes.specs.Answers.{namesBy}
 use Rattle.strings.specs.Text.{Upto, TextFrom}
 use Rattle.strings.proofs.text.Laws.{start, long, text-more, text-opens, text-over, text-refused}
 use Rattle.strings.proofs.text.Plain.{end-later, text-run}
@@ -11,11 +12,11 @@ use Rattle.strings.proofs.text.text_run.Statement.{statement}
 use Rattle.strings.proofs.text.text_run.Tie as tie
 
 abbrev Inv-loop : tie.InvT-loop
-Inv-loop s nested kind text₀ used cursor₀ end₀ text cursor end =
-    Upto (TextFrom kind s nested (cursor₀ .at)) s (cursor₀ .at) used text₀ text (cursor .at) end
+Inv-loop s nested kind text₀ used lent file index cursor₀ end₀ text cursor end =
+    Upto (TextFrom (namesBy lent file index) kind s nested (cursor₀ .at)) s (cursor₀ .at) used text₀ text (cursor .at) end
 
 abbrev μ-loop : tie.MeasureT-loop
-μ-loop s nested kind text₀ used cursor₀ end₀ text cursor end = length s - cursor .at
+μ-loop s nested kind text₀ used lent file index cursor₀ end₀ text cursor end = length s - cursor .at
 
 pub text-run-spec : {M : Type 1} → statement M
 text-run-spec =
@@ -23,24 +24,24 @@ text-run-spec =
     (tie.spec
     Inv-loop
     μ-loop
-    (λ c. start _ _ _ _ _ (λ ps. refl) (c .before .before .pre .0))  -- loop-holds
+    (λ c. start _ _ _ _ _ (λ ps. refl) (c .before .before .before .before .pre .0))  -- loop-holds
     (λ c κs. search needs)  -- is-plain-at-requires
     (λ c κs. let u = c .before .before .before .loop .inv in search needs)  -- plain-text-requires
     (λ c.
-    let a = c .before .before .before .before .before .before .before .before .before .before .args in
+    let a = c .before .before .before .before .before .before .before .before .before .before .before .before .args in
     let p = c .before .before .before .before .before .before .is-plain-at .ensures (c .before .before .before .before .before .if1 .taken) in
     omega (arith, p .0, c .before .before .before .plain-text .ensures .0, end-later (a .kind) (a .s .now) _ (p .0) (p .1)))  -- loop-less
-    (λ c. text-run _ _ _ _ _ _ _ _ _ (omega (arith, c .before .before .before .before .before .before .before .before .before .before .pre)) (c .before .before .before .before .before .before .before .loop .inv) _ (c .before .before .before .plain-text .result) (c .before .before .before .plain-text .ensures))  -- loop-again
+    (λ c. text-run _ _ _ _ _ _ _ _ _ _ (omega (arith, c .before .before .before .before .before .before .before .before .before .before .before .before .pre)) (c .before .before .before .before .before .before .before .loop .inv) _ (c .before .before .before .plain-text .result) (c .before .before .before .plain-text .ensures))  -- loop-again
     (λ c κs. let u = c .before .before .before .loop .inv in search needs)  -- text-piece-requires
     (λ c. search needs)  -- enum-known-piece
-    (λ c. let m = text-more _ _ _ _ _ _ _ _ _ (c .before .before .before .before .before .before .before .before .before .loop .inv) _ _ (c .before .before .before .before .before .text-piece .ensures) _ _ (c .before .piece .given .1) in omega arith)  -- loop-less-2
-    (λ c. text-more _ _ _ _ _ _ _ _ _ (c .before .before .before .before .before .before .before .before .before .loop .inv) _ _ (c .before .before .before .before .before .text-piece .ensures) _ _ (c .before .piece .given .1) .1)  -- loop-again-2
+    (λ c. let m = text-more _ _ _ _ _ _ _ _ _ _ (c .before .before .before .before .before .before .before .before .before .loop .inv) _ _ (c .before .before .before .before .before .text-piece .ensures) _ _ (c .before .piece .given .1) in omega arith)  -- loop-less-2
+    (λ c. text-more _ _ _ _ _ _ _ _ _ _ (c .before .before .before .before .before .before .before .before .before .loop .inv) _ _ (c .before .before .before .before .before .text-piece .ensures) _ _ (c .before .piece .given .1) .1)  -- loop-again-2
     (λ c. search needs)  -- enum-known-piece-2
     (λ c. let l = long _ _ _ _ _ _ _ _ (c .before .before .before .before .before .before .before .before .before .loop .inv) in search needs)  -- same-length
-    (λ c. text-opens _ _ _ _ _ _ _ _ _ (c .before .before .before .before .before .before .before .before .before .loop .inv) _ _ (c .before .before .before .before .before .text-piece .ensures) _ (c .before .piece2 .given .1))  -- returns
+    (λ c. text-opens _ _ _ _ _ _ _ _ _ _ (c .before .before .before .before .before .before .before .before .before .loop .inv) _ _ (c .before .before .before .before .before .text-piece .ensures) _ (c .before .piece2 .given .1))  -- returns
     (λ c. search needs)  -- enum-told
     (λ c. let l = long _ _ _ _ _ _ _ _ (c .before .before .before .before .before .before .before .before .loop .inv) in search needs)  -- same-length-2
-    (λ c. text-over _ _ _ _ _ _ _ _ _ (c .before .before .before .before .before .before .before .before .loop .inv) _ _ (c .before .before .before .before .text-piece .ensures) (c .enum-told .given .1))  -- returns-2
+    (λ c. text-over _ _ _ _ _ _ _ _ _ _ (c .before .before .before .before .before .before .before .before .loop .inv) _ _ (c .before .before .before .before .text-piece .ensures) (c .enum-told .given .1))  -- returns-2
     (λ c. search needs)  -- enum-known-piece-3
     (λ c. let l = long _ _ _ _ _ _ _ _ (c .before .before .before .before .before .before .before .before .before .loop .inv) in search needs)  -- same-length-3
-    (λ c. text-refused _ _ _ _ _ _ _ _ _ (c .before .before .before .before .before .before .before .before .before .loop .inv) _ _ (c .before .before .before .before .before .text-piece .ensures) _ (c .before .piece3 .given .1)))  -- returns-3
+    (λ c. text-refused _ _ _ _ _ _ _ _ _ _ (c .before .before .before .before .before .before .before .before .before .loop .inv) _ _ (c .before .before .before .before .before .text-piece .ensures) _ (c .before .piece3 .given .1)))  -- returns-3
