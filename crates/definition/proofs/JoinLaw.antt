@@ -121,24 +121,27 @@ unfolding outcomeOf roomFor roomed Enough
 room w t (refuses r) h = refl
 room w t (accepts x) h = rw (le-ltb (w / 8) (length (x .records)) (h .0), le-ltb t (length (x .text)) (h .1))
 
--- DEMAND 3, over descriptors and with buffers, each of the three readings into its own: what the whole returns and leaves is the join's
-pub into-join : (look : Naming) → (script : List ℕ) (x : Literal) (xs : List Literal) (y : Literal) (ys : List Literal) (w t w₁ t₁ w₂ t₂ : List ℕ)
+-- with buffers, each of three readings into its own: what the whole leaves is the join's
+pub called-join : (n : ℕ) (o o₁ o₂ : Outcome Answer) (w t w₁ t₁ w₂ t₂ : List ℕ) → o ≡ joinOutcomes n o₁ o₂
+    → Enough (length w) (length t) o → Enough (length w₁) (length t₁) o₁ → Enough (length w₂) (length t₂) o₂
+    → called (roomed (length w) (length t) o) w t ≡ called (joinOutcomes n (roomed (length w₁) (length t₁) o₁) (roomed (length w₂) (length t₂) o₂)) w t
+called-join n o o₁ o₂ w t w₁ t₁ w₂ t₂ e h h₁ h₂ =
+    ap (λ p. called p w t)
+    (room (length w) (length t) o h ∙ e ∙ ap₂ (joinOutcomes n) (sym (room (length w₁) (length t₁) o₁ h₁)) (sym (room (length w₂) (length t₂) o₂ h₂)))
+
+-- DEMAND 3, over descriptors and with buffers: what the whole returns and leaves is the join's
+pub into-join : (look : Naming) (script : List ℕ) (x : Literal) (xs : List Literal) (y : Literal) (ys : List Literal) (w t w₁ t₁ w₂ t₂ : List ℕ)
     → entry script ((x ∷ xs) ++ (y ∷ ys)) ≡ none
     → Enough (length w) (length t) (read look script ((x ∷ xs) ++ (y ∷ ys)))
     → Enough (length w₁) (length t₁) (read look script (x ∷ xs))
     → Enough (length w₂) (length t₂) (read look script (y ∷ ys))
     → readInto look script ((x ∷ xs) ++ (y ∷ ys)) w t ≡ called (joinOutcomes (length (x ∷ xs)) (readInto look script (x ∷ xs) w₁ t₁ .outcome) (readInto look script (y ∷ ys) w₂ t₂ .outcome)) w t
 unfolding readInto called
-into-join look script x xs y ys w t w₁ t₁ w₂ t₂ passed h h₁ h₂ =
-    ap (λ o. called o w t)
-    (room (length w) (length t) (read look script ((x ∷ xs) ++ (y ∷ ys))) h
-    ∙ read-join look script x xs y ys passed
-    ∙ ap₂ (joinOutcomes (length (x ∷ xs)))
-    (sym (room (length w₁) (length t₁) (read look script (x ∷ xs)) h₁))
-    (sym (room (length w₂) (length t₂) (read look script (y ∷ ys)) h₂)))
+into-join look script x xs y ys w t w₁ t₁ w₂ t₂ passed =
+    called-join (length (x ∷ xs)) (read look script ((x ∷ xs) ++ (y ∷ ys))) (read look script (x ∷ xs)) (read look script (y ∷ ys)) w t w₁ t₁ w₂ t₂ (read-join look script x xs y ys passed)
 
 -- FLAT NUMBERS: the literals of two lists of numbers
-sixes-append : (ns ms : List ℕ) (xs ys : List Literal) → sixes ns ≡ some xs → sixes ms ≡ some ys → sixes (ns ++ ms) ≡ some (xs ++ ys)
+pub sixes-append : (ns ms : List ℕ) (xs ys : List Literal) → sixes ns ≡ some xs → sixes ms ≡ some ys → sixes (ns ++ ms) ≡ some (xs ++ ys)
 unfolding sixes oneMore
 sixes-append [] ms xs ys p q = let z : xs ≡ [] = cc in rw z q
 sixes-append (a ∷ []) ms xs ys p q = cc

@@ -76,4 +76,5 @@ pub mod NameSearch
 pub mod NameChecked
 pub mod NamesShown
 pub mod NameTable
+pub mod NamedTable
 pub mod NamedShown

@@ -10,12 +10,12 @@ use Rattle.definition.specs.Entry.{refusal}
 use Rattle.definition.specs.Names.{parted, hexValue, lineOf, entries, has, lookupIn, lookupOf, lookupFile, twice, atMost, insert, byName, indexed, build, check, indexAfter, buildInto, indexNumbers, upTo, nameAt, nameOf, boundN, bound, entryOf, scalarAt, searched}
 
 -- lines by their first two fields, of fifteen
-pub lines : List String → List ℕ
+unfoldable pub lines : List String → List ℕ
 unfolding ascii
 lines [] = []
 lines (s ∷ ss) = ascii s ++ ascii ";;;;;;;;;;;;;\n" ++ lines ss
 
-pub few : List ℕ
+unfoldable pub few : List ℕ
 few = lines ("0041;B" ∷ "1F4a9;A" ∷ "FFFF;<n>" ∷ "10FFFF;AB" ∷ [])
 
 pub record Asked : Type 0 where

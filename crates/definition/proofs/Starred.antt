@@ -14,7 +14,7 @@ use Rattle.definition.specs.Records.{Role, top, raw, inner, touching, co
 use Rattle.definition.specs.Entry.{Literal, opening, placeOf, body, refusal, moved, notEmpty, notMany, firstBad, bad, allGood, total, notLong, formed, illFormed, allUtf8, anyOf, firstStart, notMixed, firstOf, entry}
 use Rattle.definition.specs.Reading.{Outcome, accepts, refuses, openedAt, refusalIn, readLiteral, andThen, readFrom, sortOf, uMark, lastEnd, allChars, answered, read}
 
-abbrev literal : (kind offset size start end : ℕ) → Literal
+abbrev pub literal : (kind offset size start end : ℕ) → Literal
 literal kind offset size start end = record { kind = kind; triple = 0; offset = offset; size = size; start = start; end = end }
 
 -- the body of one literal of a kind, start 0, flag 0, whose end is after the closing quote
@@ -22,17 +22,17 @@ abbrev one : (look : Naming) → ℕ → String → Outcome Answer
 unfolding ascii prefix
 one look kind text = let s = ascii text in read look s (literal kind 0 (length s) 0 (prefix kind + length s + 2) ∷ [])
 
-abbrev rec : Role → (kind offset size start end mode parts place : ℕ) → Record
+abbrev pub rec : Role → (kind offset size start end mode parts place : ℕ) → Record
 rec role kind offset size start end mode parts place =
     record { role = role; kind = kind; offset = offset; size = size; start = start; end = end; mode = mode; parts = parts; place = place }
 
 -- an acceptance that starts at 0
-abbrev accepted : Sort → (end chars : ℕ) → List Record → List ℕ → Outcome Answer
+abbrev pub accepted : Sort → (end chars : ℕ) → List Record → List ℕ → Outcome Answer
 accepted sort end chars records text =
     accepts (record { sort = sort; uMark = 0; start = 0; end = end; records = records; text = text; chars = chars })
 
 -- a refusal in the first line of the first body: its column is the characters before
-abbrev refusedAs : (number place a b opened column : ℕ) → Outcome Answer
+abbrev pub refusedAs : (number place a b opened column : ℕ) → Outcome Answer
 refusedAs number place a b opened column =
     refuses (record { number = number; literal = 0; place = place; a = a; b = b; opened = opened; line = 0; column = column; chars = column })
 
@@ -41,7 +41,7 @@ pub record Row : Type 0 where
   pub is : Outcome Answer
 
 infix 3 _gives_
-abbrev _gives_ : Outcome Answer → Outcome Answer → Row
+abbrev pub _gives_ : Outcome Answer → Outcome Answer → Row
 reading gives is = record { reading = reading; is = is }
 
 pub starred : (look : Naming) → List Row
