@@ -1,7 +1,9 @@
 /* Calls the library through the header and checks each answer, word and byte. */
+#define _DEFAULT_SOURCE /* MAP_ANONYMOUS */
 #include <stdio.h>
 #include <stdlib.h>
 #include <string.h>
+#include <sys/mman.h>
 
 #include "stumpgarret.h"
 
@@ -530,6 +532,413 @@ static void lists_refusals(void)
     fields_refused(STUMPGARRET_SCRIPT_TOO_LONG, 0, 3);
 }
 
+/* A file of names: a prefix of a name behind it, codes of four to six digits in either case, and lines
+   without a name, one of them with a surrogate's code. */
+#define FIELDS ";So;0;ON;;;;;N;;;;;\n"
+#define SNOWMAN "2603;SNOWMAN" FIELDS
+#define CONTROL "0000;<control>;Cc;0;BN;;;;;N;NULL;;;;\n"
+#define SNAKE "01f40D;SNAKE" FIELDS
+#define SURROGATE "D800;<Non Private Use High Surrogate, First>;Cs;0;L;;;;;N;;;;;\n"
+#define COMET "02604;COMET" FIELDS
+#define SNOW "2745;SNOW" FIELDS
+static const char names_file[] = SNOWMAN CONTROL SNAKE SURROGATE COMET SNOW;
+enum {
+    SNOWMAN_AT = 0,
+    SNAKE_AT = sizeof(SNOWMAN CONTROL) - 1,
+    COMET_AT = sizeof(SNOWMAN CONTROL SNAKE SURROGATE) - 1,
+    SNOW_AT = sizeof(SNOWMAN CONTROL SNAKE SURROGATE COMET) - 1,
+    ENTRIES = 4
+};
+static const uint32_t names_index[ENTRIES] = {COMET_AT, SNAKE_AT, SNOW_AT, SNOWMAN_AT};
+
+/* Builds the index of a file with so many numbers lent, all filled before. */
+static void build_with(const char *file, size_t lent)
+{
+    memset(words, FILL, sizeof words);
+    memset(answer, FILL, sizeof answer);
+    stumpgarret_names_build((const uint8_t *)file, strlen(file), words, lent, answer);
+}
+
+/* An index of so many entries, and nothing else changed. */
+static void built(const uint32_t *index, uint32_t entries)
+{
+    const uint32_t numbers[] = {STUMPGARRET_ACCEPTED, entries};
+    numbers_are("answer", answer, numbers, COUNT(numbers));
+    filled("byte of the answer", answer, sizeof numbers, sizeof answer, 0);
+    numbers_are("number", words, index, entries);
+    filled("byte of the index", words, entries * sizeof *words, sizeof words, FILL);
+    if (answer[STUMPGARRET_NAMES_ENTRIES] != entries)
+        fail("named number", STUMPGARRET_NAMES_ENTRIES, answer[STUMPGARRET_NAMES_ENTRIES], entries);
+}
+
+/* A number and zeros in the answer, zeros in so many of the words, and nothing else changed. */
+static void names_refused(uint32_t number, size_t lent)
+{
+    numbers_are("answer", answer, &number, 1);
+    filled("byte of the answer", answer, sizeof number, sizeof answer, 0);
+    filled("byte of the words", words, 0, lent * sizeof *words, 0);
+    filled("byte of the words", words, lent * sizeof *words, sizeof words, FILL);
+}
+
+/* Files that are refused whatever their index is. */
+static const struct {
+    const char *file;
+    uint32_t number;
+} bad_files[] = {
+    {"\n", STUMPGARRET_LINE_MALFORMED},
+    {"2603;SNOWMAN;So;0;ON;;;;;N;;;;;", STUMPGARRET_LINE_MALFORMED},
+    {SNAKE "2603;SNOWMAN;So;0;ON;;;;;N;;;;;", STUMPGARRET_LINE_MALFORMED},
+    {SNAKE "\n" SNOW, STUMPGARRET_LINE_MALFORMED},
+    {"2603;SNOWMAN;So;0;ON;;;;;N;;;;\n", STUMPGARRET_LINE_MALFORMED},
+    {"2603;SNOWMAN;So;0;ON;;;;;N;;;;;;\n", STUMPGARRET_LINE_MALFORMED},
+    {"2603;" FIELDS, STUMPGARRET_LINE_MALFORMED},
+    {"603;SNOWMAN" FIELDS, STUMPGARRET_LINE_MALFORMED},
+    {"0002603;SNOWMAN" FIELDS, STUMPGARRET_LINE_MALFORMED},
+    {"260G;SNOWMAN" FIELDS, STUMPGARRET_LINE_MALFORMED},
+    {" 2603;SNOWMAN" FIELDS, STUMPGARRET_LINE_MALFORMED},
+    {"D800;SNOWMAN" FIELDS, STUMPGARRET_LINE_MALFORMED},
+    {"dfff;SNOWMAN" FIELDS, STUMPGARRET_LINE_MALFORMED},
+    {"110000;SNOWMAN" FIELDS, STUMPGARRET_LINE_MALFORMED},
+    {"26 3;<control>" FIELDS, STUMPGARRET_LINE_MALFORMED},
+    {SNOWMAN SNOWMAN "\n", STUMPGARRET_LINE_MALFORMED},
+    {SNOWMAN SNOWMAN, STUMPGARRET_NAME_TWICE},
+    {SNOWMAN SNAKE COMET "2745;SNOWMAN" FIELDS, STUMPGARRET_NAME_TWICE},
+};
+
+static void builds_names(void)
+{
+    static const uint32_t first[] = {0};
+    for (size_t lent = 0; lent < ENTRIES; lent++) {
+        build_with(names_file, lent);
+        names_refused(STUMPGARRET_TOO_LITTLE_INDEX_ROOM, lent);
+    }
+    for (size_t lent = ENTRIES; lent < ENTRIES + 3; lent++) {
+        build_with(names_file, lent);
+        built(names_index, ENTRIES);
+    }
+    build_with("", 0);
+    built(names_index, 0);
+    build_with("", 3);
+    built(names_index, 0);
+    build_with(CONTROL SURROGATE CONTROL, 0);
+    built(names_index, 0);
+    /* the least line with a name, for which twenty bytes of a file are counted */
+    build_with("0000;A;;;;;;;;;;;;;\n", 20 / 20);
+    built(first, 1);
+    build_with("10FFFF;A;;;;;;;;;;;;;\n", 1);
+    built(first, 1);
+    for (size_t i = 0; i < COUNT(bad_files); i++)
+        for (size_t lent = 0; lent < 4; lent++) {
+            build_with(bad_files[i].file, lent);
+            names_refused(bad_files[i].number, lent);
+        }
+}
+
+/* The answer of a check, which writes nothing else. */
+static void check_is(const char *file, const uint32_t *index, size_t entries, uint32_t number)
+{
+    const uint32_t expected[] = {number, number ? 0 : (uint32_t)entries};
+    memset(answer, FILL, sizeof answer);
+    stumpgarret_names_check((const uint8_t *)file, strlen(file), index, entries, answer);
+    numbers_are("answer", answer, expected, COUNT(expected));
+    filled("byte of the answer", answer, sizeof expected, sizeof answer, 0);
+}
+
+static void checks_names(void)
+{
+    uint32_t index[ENTRIES + 1];
+    memcpy(index, names_index, sizeof names_index);
+    index[ENTRIES] = 0;
+    check_is(names_file, index, ENTRIES, STUMPGARRET_ACCEPTED);
+    check_is(names_file, index, ENTRIES + 1, STUMPGARRET_WRONG_INDEX);
+    check_is(names_file, index, ENTRIES - 1, STUMPGARRET_WRONG_INDEX);
+    check_is(names_file, index, 0, STUMPGARRET_WRONG_INDEX);
+    check_is("", index, 0, STUMPGARRET_ACCEPTED);
+    check_is("", index, 1, STUMPGARRET_WRONG_INDEX);
+    check_is(CONTROL, index, 0, STUMPGARRET_ACCEPTED);
+    check_is(CONTROL, index, 1, STUMPGARRET_WRONG_INDEX);
+    for (size_t i = 0; i < ENTRIES; i++) {
+        static const uint32_t wrong[] = {1, sizeof SNOWMAN - 1, sizeof names_file, UINT32_MAX};
+        for (size_t j = 0; j < COUNT(wrong); j++) {
+            index[i] = wrong[j];
+            check_is(names_file, index, ENTRIES, STUMPGARRET_WRONG_INDEX);
+        }
+        index[i] = names_index[(i + 1) % ENTRIES];
+        check_is(names_file, index, ENTRIES, STUMPGARRET_WRONG_INDEX);
+        index[(i + 1) % ENTRIES] = names_index[i];
+        check_is(names_file, index, ENTRIES, STUMPGARRET_WRONG_INDEX);
+        memcpy(index, names_index, sizeof names_index);
+    }
+    check_is(names_file, index, ENTRIES, STUMPGARRET_ACCEPTED);
+    for (size_t i = 0; i < COUNT(bad_files); i++)
+        for (size_t entries = 0; entries < ENTRIES; entries++)
+            check_is(bad_files[i].file, index, entries, bad_files[i].number);
+}
+
+/* Offsets of 32 bits do not reach every byte of such a file, which is not looked at. */
+static void refuses_long_files(void)
+{
+    size_t length = (size_t)1 << 32;
+    void *whole = mmap(NULL, length, PROT_NONE, MAP_PRIVATE | MAP_ANONYMOUS | MAP_NORESERVE, -1, 0);
+    if (whole == MAP_FAILED) {
+        perror("test: 2^32 bytes");
+        exit(1);
+    }
+    const uint8_t *file = (const uint8_t *)whole;
+    static const uint32_t literal[] = {STUMPGARRET_FSTRING, 0, 0, 0, 0, 3};
+    memset(words, FILL, sizeof words);
+    memset(text, FILL, sizeof text);
+    memset(answer, FILL, sizeof answer);
+    stumpgarret_names_build(file, length, words, 3, answer);
+    names_refused(STUMPGARRET_TOO_LITTLE_INDEX_ROOM, 3);
+    check_is("", words, 3, STUMPGARRET_WRONG_INDEX);
+    memset(answer, FILL, sizeof answer);
+    stumpgarret_names_check(file, length, words, 0, answer);
+    names_refused(STUMPGARRET_WRONG_INDEX, 3);
+    memset(answer, FILL, sizeof answer);
+    stumpgarret_read_named(file, 0, literal, COUNT(literal), file, length, literal, 0, words, 8, text,
+                           2, answer);
+    names_refused(STUMPGARRET_WRONG_INDEX, 8);
+    filled("text byte", text, 0, 2, 0);
+    memset(answer, FILL, sizeof answer);
+    stumpgarret_fields_named(file, 0, file, length, literal, 0, words, 10, answer);
+    names_refused(STUMPGARRET_WRONG_INDEX, 10);
+    munmap(whole, length);
+}
+
+typedef void reading(const uint8_t *, size_t, const uint32_t *, size_t, const uint8_t *, size_t,
+                     const uint32_t *, size_t, uint32_t *, size_t, uint8_t *, size_t, uint32_t *);
+
+/* Reads with a file of names, with so many words and text bytes lent, all filled before. */
+static void named_with(reading *call, const char *script, const uint32_t *literals,
+                       size_t literals_length, const char *file, const uint32_t *index,
+                       size_t entries, size_t words_length, size_t text_length)
+{
+    memset(words, FILL, sizeof words);
+    memset(text, FILL, sizeof text);
+    memset(answer, FILL, sizeof answer);
+    call((const uint8_t *)script, strlen(script), literals, literals_length, (const uint8_t *)file,
+         strlen(file), index, entries, words, words_length, text, text_length, answer);
+}
+
+static void reads_named(void)
+{
+    static const char script[] = "'\\N{SNOW}' f'\\N{SNAKE}{x}\\N{COMET}'";
+    static const uint32_t literals[] = {
+        STUMPGARRET_STRING, 0, 1, 8, 0, 10,
+        STUMPGARRET_FSTRING, 0, 13, 21, 11, 35,
+    };
+    static const uint32_t numbers[STUMPGARRET_ANSWER_NUMBERS] = {
+        STUMPGARRET_ACCEPTED, STUMPGARRET_JOINED, 0, 0, 35, 3, 11, 0, 29,
+    };
+    static const uint32_t records[] = {
+        STUMPGARRET_LITERAL_RECORD, 0, 7, 0, 35, 0, 0, 0,
+        STUMPGARRET_FIELD_RECORD, 7, 1, 11, 35, 0, 0, 23,
+        STUMPGARRET_LITERAL_RECORD, 8, 3, 0, 35, 0, 0, 0,
+    };
+    static const char read[] = "\xe2\x9d\x85\xf0\x9f\x90\x8dx\xe2\x98\x84";
+    static const uint32_t not_held[] = {STUMPGARRET_NAME_NOT_HELD, 0, 4, 0, 0, 0, 0, 3, 3};
+    static const uint32_t no_places[] = {
+        STUMPGARRET_TOO_FEW_RECORD_PLACES, 0, 0, 3, 11, 0, 0, 0, 29,
+    };
+    static const uint32_t no_text[] = {
+        STUMPGARRET_TOO_LITTLE_TEXT_ROOM, 0, 0, 3, 11, 0, 0, 0, 29,
+    };
+    reading *const calls[] = {stumpgarret_read_named, stumpgarret_read_searched};
+    for (size_t i = 0; i < COUNT(calls); i++) {
+        named_with(calls[i], script, literals, COUNT(literals), names_file, names_index, ENTRIES,
+                   WORDS, TEXT);
+        accepted(numbers, records, read);
+        named_with(calls[i], script, literals, COUNT(literals), names_file, names_index, ENTRIES, 23,
+                   11);
+        refused(no_places, COUNT(no_places), 23, 11);
+        named_with(calls[i], script, literals, COUNT(literals), names_file, names_index, ENTRIES, 24,
+                   10);
+        refused(no_text, COUNT(no_text), 24, 10);
+        /* a name of the constant list that the file does not have, small letters, and no file */
+        static const uint32_t degree[] = {STUMPGARRET_STRING, 0, 1, 15, 0, 17};
+        named_with(calls[i], "'\\N{DEGREE SIGN}'", degree, COUNT(degree), names_file, names_index,
+                   ENTRIES, 8, 3);
+        refused(not_held, COUNT(not_held), 8, 3);
+        static const uint32_t small[] = {STUMPGARRET_STRING, 0, 1, 8, 0, 10};
+        named_with(calls[i], "'\\N{snow}'", small, COUNT(small), names_file, names_index, ENTRIES, 8,
+                   3);
+        refused(not_held, COUNT(not_held), 8, 3);
+        named_with(calls[i], script, literals, COUNT(literals), "", names_index, 0, 8, 3);
+        refused(not_held, COUNT(not_held), 8, 3);
+    }
+    read_with(script, literals, COUNT(literals), 8, 3);
+    refused(not_held, COUNT(not_held), 8, 3);
+}
+
+/* A body asks for a name of at most 88 bytes, whatever the file has. */
+static void reads_long_names(void)
+{
+    char file[128], script[128];
+    for (size_t length = 87; length < 90; length++) {
+        memset(file, 'A', sizeof file);
+        memcpy(file, "2603;", 5);
+        memcpy(file + 5 + length, FIELDS, sizeof FIELDS);
+        memset(script, 'A', sizeof script);
+        memcpy(script, "'\\N{", 4);
+        memcpy(script + 4 + length, "}'", 3);
+        uint32_t body = (uint32_t)length + 4, place = body + 1;
+        const uint32_t literal[] = {STUMPGARRET_STRING, 0, 1, body, 0, body + 2}, index[] = {0};
+        const uint32_t one[STUMPGARRET_ANSWER_NUMBERS] = {
+            STUMPGARRET_ACCEPTED, STUMPGARRET_PLAIN, 0, 0, body + 2, 1, 3, 0, body,
+        };
+        const uint32_t record[] = {STUMPGARRET_LITERAL_RECORD, 0, 3, 0, body + 2, 0, 0, 0};
+        const uint32_t too_long[] = {STUMPGARRET_UNICODE_ERROR, 0, place, 0, 0, 0, 0, body, body};
+        named_with(stumpgarret_read_named, script, literal, COUNT(literal), file, index, 1, WORDS,
+                   TEXT);
+        if (length <= 88)
+            accepted(one, record, "\xe2\x98\x83");
+        else
+            refused(too_long, COUNT(too_long), WORDS, TEXT);
+    }
+}
+
+/* What a reading with names gives is what the check says of file and index, after the entry checks, and
+   else what a search gives. */
+static void named_is_checked_and_searched(void)
+{
+    static const char *const files[] = {
+        names_file, SNOWMAN, SNOW, "", CONTROL, SNOWMAN SNOWMAN, "\n", "2603;SNOWMAN", SNAKE "x",
+    };
+    static const uint32_t indexes[][ENTRIES] = {
+        {COMET_AT, SNAKE_AT, SNOW_AT, SNOWMAN_AT},
+        {SNOWMAN_AT, SNAKE_AT, SNOW_AT, COMET_AT},
+        {0, 0, 0, 0},
+        {5, UINT32_MAX, sizeof SNOWMAN - 1, 1},
+    };
+    static const struct {
+        uint32_t kind, start;
+        const char *body;
+    } bodies[] = {
+        {STUMPGARRET_STRING, 0, "\\N{SNOWMAN}"},
+        {STUMPGARRET_FSTRING, 0, "{x}\\N{SNOW}\\N{COMET}"},
+        {STUMPGARRET_FSTRING, 0, "{x:{y}\\N{SNAKE}}"},
+        {STUMPGARRET_FSTRING, 0, "{x}"},
+        {STUMPGARRET_STRING, 0, "\\N{OHM SIGN}"},
+        {STUMPGARRET_STRING, 0, "\\N{}"},
+        {STUMPGARRET_BYTES, 0, "\\N{SNOW}"},
+        {STUMPGARRET_RAW_STRING, 0, "\\N{SNOW}"},
+        {STUMPGARRET_STRING, 0, "\\N{SNOW"},
+        {STUMPGARRET_FSTRING, 0, "}"},
+        {STUMPGARRET_STRING, 0, ""},
+        {STUMPGARRET_STRING, 0, "\xff"},
+        {STUMPGARRET_STRING, 9, "a"},
+        {7, 0, "a"},
+    };
+    static const size_t rooms[][2] = {{0, 0}, {7, 64}, {16, 3}, {64, 64}};
+    static uint32_t searched_words[WORDS], searched_answer[STUMPGARRET_ANSWER_NUMBERS];
+    static uint8_t searched_text[TEXT];
+    int seen[STUMPGARRET_READ_OTHERWISE] = {0};
+    for (size_t f = 0; f < COUNT(files); f++)
+    for (size_t x = 0; x < COUNT(indexes); x++)
+    for (size_t entries = 0; entries <= ENTRIES; entries++)
+    for (size_t b = 0; b < COUNT(bodies); b++)
+    for (size_t r = 0; r < COUNT(rooms); r++) {
+        const char *body = bodies[b].body;
+        uint32_t length = (uint32_t)strlen(body);
+        const uint32_t literal[] = {bodies[b].kind, 0, 0, length, bodies[b].start, length + 3};
+        size_t words_length = rooms[r][0], text_length = rooms[r][1];
+        stumpgarret_names_check((const uint8_t *)files[f], strlen(files[f]), indexes[x], entries,
+                                answer);
+        uint32_t checked = answer[STUMPGARRET_ANSWER_NUMBER];
+        named_with(stumpgarret_read_searched, body, literal, COUNT(literal), files[f], indexes[x],
+                   entries, words_length, text_length);
+        memcpy(searched_words, words, sizeof words);
+        memcpy(searched_text, text, sizeof text);
+        memcpy(searched_answer, answer, sizeof answer);
+        uint32_t searched = answer[STUMPGARRET_ANSWER_NUMBER];
+        named_with(stumpgarret_read_named, body, literal, COUNT(literal), files[f], indexes[x],
+                   entries, words_length, text_length);
+        seen[answer[STUMPGARRET_ANSWER_NUMBER]] = 1;
+        if (checked && (searched < STUMPGARRET_EMPTY_LIST || searched > STUMPGARRET_MIXED_BYTES)) {
+            refused(&checked, 1, words_length, text_length);
+            continue;
+        }
+        numbers_are("answer", answer, searched_answer, COUNT(searched_answer));
+        numbers_are("word", words, searched_words, WORDS);
+        for (size_t i = 0; i < TEXT; i++)
+            if (text[i] != searched_text[i])
+                fail("text byte", i, text[i], searched_text[i]);
+    }
+    static const uint32_t met[] = {
+        STUMPGARRET_ACCEPTED, STUMPGARRET_BAD_DESCRIPTOR, STUMPGARRET_NOT_UTF8,
+        STUMPGARRET_STRING_ERROR, STUMPGARRET_NAME_NOT_HELD, STUMPGARRET_SINGLE_RBRACE,
+        STUMPGARRET_TOO_FEW_RECORD_PLACES, STUMPGARRET_TOO_LITTLE_TEXT_ROOM,
+        STUMPGARRET_LINE_MALFORMED, STUMPGARRET_NAME_TWICE, STUMPGARRET_WRONG_INDEX,
+    };
+    for (size_t i = 0; i < COUNT(met); i++)
+        if (!seen[met[i]])
+            fail("number", met[i], 0, 1);
+}
+
+/* Lists the fields of so many bytes with a file of names and so many numbers lent, all filled before. */
+static void fields_named_with(const char *script, size_t length, const char *file,
+                              const uint32_t *index, size_t entries, size_t lent)
+{
+    memset(words, FILL, sizeof words);
+    memset(answer, FILL, sizeof answer);
+    stumpgarret_fields_named((const uint8_t *)script, length, (const uint8_t *)file, strlen(file),
+                             index, entries, words, lent, answer);
+}
+
+static void lists_fields_named(void)
+{
+    static const char script[] = "f'{x}\\N{SNOWMAN}{f\"\\N{SNOW}{y}\"}' '\\N{}' f'\\N{OHM SIGN}'";
+    size_t length = strlen(script);
+    static const uint32_t numbers[STUMPGARRET_ANSWER_NUMBERS] = {STUMPGARRET_ACCEPTED, 5, 2, 3, 56};
+    static const uint32_t rows[] = {
+        STUMPGARRET_REASON_NONE, 0, 3, 1, 0, 0, 0, 0, 5, 0,
+        STUMPGARRET_REASON_NONE, 0, 17, 14, 0, 0, 0, 0, 32, 0,
+        STUMPGARRET_REASON_REFUSED, 41, 46, STUMPGARRET_NAME_NOT_HELD, 0, 0, 0, 0, 0, 0,
+        STUMPGARRET_REASON_REFUSED, 0, 19, STUMPGARRET_READ_OTHERWISE, 0, 0, 0, 0, 0, 2,
+        STUMPGARRET_REASON_NONE, 17, 28, 1, 0, 0, 0, 0, 30, 2,
+    };
+    fields_named_with(script, length, names_file, names_index, ENTRIES, WORDS);
+    numbers_are("answer", answer, numbers, COUNT(numbers));
+    numbers_are("row", words, rows, COUNT(rows));
+    filled("byte of the rows", words, sizeof rows, sizeof words, FILL);
+    fields_named_with(script, length, names_file, names_index, ENTRIES, COUNT(rows) - 1);
+    fields_refused(STUMPGARRET_TOO_LITTLE_LIST_ROOM, 5, COUNT(rows) - 1);
+
+    /* without the file the constant list, and with an empty one none */
+    static const uint32_t held[STUMPGARRET_ANSWER_NUMBERS] = {STUMPGARRET_ACCEPTED, 1, 1, 3, 56};
+    static const uint32_t none[STUMPGARRET_ANSWER_NUMBERS] = {STUMPGARRET_ACCEPTED, 2, 2, 3, 56};
+    fields_with(script, length, WORDS);
+    numbers_are("answer", answer, held, COUNT(held));
+    fields_named_with(script, length, "", names_index, 0, WORDS);
+    numbers_are("answer", answer, none, COUNT(none));
+
+    for (size_t i = 0; i < COUNT(bad_files); i++) {
+        fields_named_with(script, length, bad_files[i].file, names_index, 1, 40);
+        names_refused(bad_files[i].number, 40);
+    }
+    for (size_t entries = 0; entries < ENTRIES; entries++) {
+        fields_named_with("", 0, names_file, names_index, entries, 40);
+        names_refused(STUMPGARRET_WRONG_INDEX, 40);
+    }
+    static char longest[STUMPGARRET_MOST_SCRIPT_BYTES + 1];
+    memset(longest, ' ', sizeof longest);
+    fields_named_with(longest, sizeof longest, "\n", names_index, 0, 3);
+    fields_refused(STUMPGARRET_SCRIPT_TOO_LONG, 0, 3);
+    fields_named_with(longest, sizeof longest - 1, "\n", names_index, 0, 3);
+    names_refused(STUMPGARRET_LINE_MALFORMED, 3);
+
+    /* a script that asks for no name */
+    static const char plain[] = "'VDD ' f'{mv:.{n}f}' rf'\\N{SNOW}' f'{(]}' f'{z";
+    static uint32_t expected[WORDS], expected_answer[STUMPGARRET_ANSWER_NUMBERS];
+    fields_with(plain, strlen(plain), WORDS);
+    memcpy(expected, words, sizeof words);
+    memcpy(expected_answer, answer, sizeof answer);
+    fields_named_with(plain, strlen(plain), names_file, names_index, ENTRIES, WORDS);
+    numbers_are("answer", answer, expected_answer, COUNT(expected_answer));
+    numbers_are("word", words, expected, WORDS);
+}
+
 int main(void)
 {
     reads_two();
@@ -544,6 +953,13 @@ int main(void)
     refuses_scripts();
     lists_fields();
     lists_refusals();
+    builds_names();
+    checks_names();
+    refuses_long_files();
+    reads_named();
+    reads_long_names();
+    named_is_checked_and_searched();
+    lists_fields_named();
     printf("bindings/c: %d checks passed\n", checks);
     return 0;
 }

@@ -1,6 +1,6 @@
 /* Lists every formatted field of a whole Python script; reads runs of its string literals to records:
-   texts, formatted fields, format specs; tells where the signs of each field stand; and lists the
-   literals of a script from an offset on.
+   texts, formatted fields, format specs; tells where the signs of each field stand; lists the
+   literals of a script from an offset on; and takes the names of characters from a file that is lent.
    For C99 and C++11 on x86-64 Linux:
 
        cc -I bindings/include program.c target/staticlib/libstumpgarret.a
@@ -103,7 +103,7 @@ enum stumpgarret_answer {
 
     STUMPGARRET_ANSWER_CHARS = 8,   /* how many characters were read: of all bodies, also for 30 and
                                        31; for 10 to 28 of the literals before and of the refused
-                                       one up to the place; for 1 to 7 none */
+                                       one up to the place; for 1 to 7, 60, 61 and 63 none */
 
     STUMPGARRET_ANSWER_NUMBERS = 12 /* how many */
 };
@@ -137,7 +137,9 @@ enum stumpgarret_refusal {
                                            after the letter; or a name is over 88 bytes, place:
                                            after its closing brace */
     STUMPGARRET_NON_ASCII_IN_BYTES = 12, /* place: after it */
-    STUMPGARRET_NAME_NOT_HELD = 13,     /* the name in \N{..}; place: after its opening brace */
+    STUMPGARRET_NAME_NOT_HELD = 13,     /* the name in \N{..} is not in the file that is lent, or, where
+                                           none is, not one of fourteen; place: after its opening
+                                           brace */
     STUMPGARRET_UNCLOSED_LBRACE = 20,   /* place: after the last character taken; first detail: why,
                                            one of stumpgarret_unclosed */
     STUMPGARRET_INVALID_CONVERSION_FLAG = 21, /* place: after it */
@@ -162,6 +164,16 @@ enum stumpgarret_refusal {
                                             literal starts */
     STUMPGARRET_NO_LITERAL = 52,        /* at the offset, which is the place */
     STUMPGARRET_TOO_LITTLE_LIST_ROOM = 53, /* see STUMPGARRET_LIST_NEEDED */
+
+    /* Of the calls that are lent a file of names, with no literal, no place and no details. 60 is told
+       of the whole file, then 61, then 62 or 63. */
+    STUMPGARRET_LINE_MALFORMED = 60,    /* or a name's code is no scalar value: a surrogate's, or above
+                                           10FFFF */
+    STUMPGARRET_NAME_TWICE = 61,
+    STUMPGARRET_TOO_LITTLE_INDEX_ROOM = 62, /* of stumpgarret_names_build: fewer numbers than entries;
+                                               or the file has 2^32 bytes or more */
+    STUMPGARRET_WRONG_INDEX = 63,       /* the lent index is not the file's; or the file has 2^32 bytes
+                                           or more */
 
     /* Of stumpgarret_fields: 49, and 53, see STUMPGARRET_FIELDS_NEEDED; 6, 10 to 28, 50 and 51 as rows,
        and as a row only: */
@@ -319,6 +331,79 @@ enum stumpgarret_fields_answer {
 void stumpgarret_fields(const uint8_t *script, size_t script_length,
                         uint32_t *rows, size_t rows_length,
                         uint32_t answer[STUMPGARRET_ANSWER_NUMBERS]);
+
+/* A file of names is the text of UnicodeData.txt, as Unicode publishes it. Each line is ended by a
+   byte 10 and has fifteen fields parted by ; signs: the first is a code in four to six hex digits, the
+   second a name, which is not empty. One that begins with < is no name, and needs no scalar value. No
+   name stands twice. Names compare byte for byte; a body asks for one of at most 88 bytes. An empty
+   file is one that holds no name.
+
+   Its index has a number for each line with a name, the offset where the line begins, ordered by
+   name: by bytes, unsigned, a prefix first. As many numbers as are lent are its entries, so that a
+   file has exactly one index.
+
+   The calls above, which are lent no file, know fourteen names. */
+
+/* The answer of stumpgarret_names_build and stumpgarret_names_check. */
+enum stumpgarret_names_answer {
+    STUMPGARRET_NAMES_ENTRIES = 1   /* how many entries the index has */
+};
+
+/* Builds the index of a file of names. A line with a name has at least twenty bytes, so room for
+   file_length / 20 numbers is always enough.
+
+   Refusals: 62 for a file of 2^32 bytes or more, before all else; then 60, 61, and 62 if there are
+   fewer numbers than entries. On acceptance the index stands in front in `index`, and what follows it
+   is unchanged. On refusal every one of `index` is 0. `answer` always gets twelve numbers.
+
+   The caller sees to the same as for stumpgarret_read: `index` and `answer` overlap nothing else that
+   is passed. Any bytes and any length get an answer. */
+void stumpgarret_names_build(const uint8_t *file, size_t file_length,
+                             uint32_t *index, size_t index_length,
+                             uint32_t answer[STUMPGARRET_ANSWER_NUMBERS]);
+
+/* Checks a file of names and an index that is lent. Refusals: 63 for a file of 2^32 bytes or more,
+   before all else; then 60, 61, and 63 for any index but the file's. What stumpgarret_names_build
+   accepts and writes is accepted. `answer` always gets twelve numbers, and nothing else is written.
+
+   The caller sees to the same as for stumpgarret_read; `file` and `index` may overlap. */
+void stumpgarret_names_check(const uint8_t *file, size_t file_length,
+                             const uint32_t *index, size_t index_length,
+                             uint32_t answer[STUMPGARRET_ANSWER_NUMBERS]);
+
+/* Reads as stumpgarret_read does, with the names of the file. File and index are checked after 7 and
+   before 10 to 28, whether or not a body has a \N: 60, 61 and 63 come as in stumpgarret_names_check,
+   with no literal, no place, no details and no characters. Words, text and answer are as for
+   stumpgarret_read. What is only read, `script`, `literals`, `file` and `index`, may overlap. */
+void stumpgarret_read_named(const uint8_t *script, size_t script_length,
+                            const uint32_t *literals, size_t literals_length,
+                            const uint8_t *file, size_t file_length,
+                            const uint32_t *index, size_t index_length,
+                            uint32_t *words, size_t words_length,
+                            uint8_t *text, size_t text_length,
+                            uint32_t answer[STUMPGARRET_ANSWER_NUMBERS]);
+
+/* The same without the check, for a file and an index that passed stumpgarret_names_check or were
+   built: the answer is then that of stumpgarret_read_named, and a check is not paid for at each call.
+   Any others get an answer too. A name is then what a search by halves finds of it in whatever is
+   lent, and 13 does not mean that the file has no such name. 60, 61 and 63 never come. */
+void stumpgarret_read_searched(const uint8_t *script, size_t script_length,
+                               const uint32_t *literals, size_t literals_length,
+                               const uint8_t *file, size_t file_length,
+                               const uint32_t *index, size_t index_length,
+                               uint32_t *words, size_t words_length,
+                               uint8_t *text, size_t text_length,
+                               uint32_t answer[STUMPGARRET_ANSWER_NUMBERS]);
+
+/* Lists every field of a whole script as stumpgarret_fields does, with the names of the file. File and
+   index are checked once: after 49 come 60, 61 and 63 as in stumpgarret_names_check, with all else of
+   the answer 0, and then what stumpgarret_fields gives. Rows and answer are as there. What is only
+   read, `script`, `file` and `index`, may overlap. */
+void stumpgarret_fields_named(const uint8_t *script, size_t script_length,
+                              const uint8_t *file, size_t file_length,
+                              const uint32_t *index, size_t index_length,
+                              uint32_t *rows, size_t rows_length,
+                              uint32_t answer[STUMPGARRET_ANSWER_NUMBERS]);
 
 #ifdef __cplusplus
 }
