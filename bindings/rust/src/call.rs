@@ -1,4 +1,5 @@
 //! The C interface, as `bindings/include/stumpgarret.h` describes it.
+use crate::names::Names;
 
 /// The numbers that describe a literal, the words of a record, the numbers of a row and of an answer.
 pub(crate) const LITERAL: usize = 6;
@@ -38,6 +39,46 @@ extern "C" {
     fn stumpgarret_fields(
         script: *const u8,
         script_length: usize,
+        rows: *mut u32,
+        rows_length: usize,
+        answer: *mut u32,
+    );
+    fn stumpgarret_names_build(
+        file: *const u8,
+        file_length: usize,
+        index: *mut u32,
+        index_length: usize,
+        answer: *mut u32,
+    );
+    fn stumpgarret_names_check(
+        file: *const u8,
+        file_length: usize,
+        index: *const u32,
+        index_length: usize,
+        answer: *mut u32,
+    );
+    fn stumpgarret_read_searched(
+        script: *const u8,
+        script_length: usize,
+        literals: *const u32,
+        literals_length: usize,
+        file: *const u8,
+        file_length: usize,
+        index: *const u32,
+        index_length: usize,
+        words: *mut u32,
+        words_length: usize,
+        text: *mut u8,
+        text_length: usize,
+        answer: *mut u32,
+    );
+    fn stumpgarret_fields_named(
+        script: *const u8,
+        script_length: usize,
+        file: *const u8,
+        file_length: usize,
+        index: *const u32,
+        index_length: usize,
         rows: *mut u32,
         rows_length: usize,
         answer: *mut u32,
@@ -109,6 +150,86 @@ pub(crate) fn fields(script: &[u8], rows: &mut [u32]) -> [u32; ANSWER] {
         stumpgarret_fields(
             script.as_ptr(),
             script.len(),
+            rows.as_mut_ptr(),
+            rows.len(),
+            answer.as_mut_ptr(),
+        );
+    }
+    answer
+}
+
+pub(crate) fn names_build(file: &[u8], index: &mut [u32]) -> [u32; ANSWER] {
+    let mut answer = [0; ANSWER];
+    // SAFETY: as above.
+    unsafe {
+        stumpgarret_names_build(
+            file.as_ptr(),
+            file.len(),
+            index.as_mut_ptr(),
+            index.len(),
+            answer.as_mut_ptr(),
+        );
+    }
+    answer
+}
+
+pub(crate) fn names_check(file: &[u8], index: &[u32]) -> [u32; ANSWER] {
+    let mut answer = [0; ANSWER];
+    // SAFETY: as above.
+    unsafe {
+        stumpgarret_names_check(
+            file.as_ptr(),
+            file.len(),
+            index.as_ptr(),
+            index.len(),
+            answer.as_mut_ptr(),
+        );
+    }
+    answer
+}
+
+pub(crate) fn read_searched(
+    script: &[u8],
+    literals: &[u32],
+    names: &Names<'_>,
+    words: &mut [u32],
+    text: &mut [u8],
+) -> [u32; ANSWER] {
+    let (file, index) = (names.file(), names.index());
+    let mut answer = [0; ANSWER];
+    // SAFETY: as above.
+    unsafe {
+        stumpgarret_read_searched(
+            script.as_ptr(),
+            script.len(),
+            literals.as_ptr(),
+            literals.len(),
+            file.as_ptr(),
+            file.len(),
+            index.as_ptr(),
+            index.len(),
+            words.as_mut_ptr(),
+            words.len(),
+            text.as_mut_ptr(),
+            text.len(),
+            answer.as_mut_ptr(),
+        );
+    }
+    answer
+}
+
+pub(crate) fn fields_named(script: &[u8], names: &Names<'_>, rows: &mut [u32]) -> [u32; ANSWER] {
+    let (file, index) = (names.file(), names.index());
+    let mut answer = [0; ANSWER];
+    // SAFETY: as above.
+    unsafe {
+        stumpgarret_fields_named(
+            script.as_ptr(),
+            script.len(),
+            file.as_ptr(),
+            file.len(),
+            index.as_ptr(),
+            index.len(),
             rows.as_mut_ptr(),
             rows.len(),
             answer.as_mut_ptr(),

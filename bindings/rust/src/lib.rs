@@ -71,20 +71,26 @@
 //!
 //! [`literals_at`] finds the literals in a script, so that none is cut out by hand, and [`read_at`]
 //! reads what it finds.
+//!
+//! Of the names of characters in `\N{..}` the library itself has fourteen. [`Names`] is a file with all
+//! of them, which [`fields_named`], [`parse_strings_named`], [`read_into_named`] and
+//! [`read_at_named`] take.
 
 mod answer;
 mod call;
 mod listing;
 mod literal;
+mod names;
 mod refusal;
 mod run;
 mod signs;
 
 pub use answer::{Answer, ConversionFlag, Field, Record, Records, Sort, Spec};
-pub use listing::{fields, Listed, ListedField, ListedRefusal, Listing, Row, Rows};
+pub use listing::{fields, fields_named, Listed, ListedField, ListedRefusal, Listing, Row, Rows};
 pub use literal::{Literal, StringKind};
+pub use names::Names;
 pub use refusal::{Reason, Refusal, Unclosed};
-pub use run::{literals_at, read_at, Run};
+pub use run::{literals_at, read_at, read_at_named, Run};
 pub use signs::{field_signs, ConversionReason, FieldSigns};
 
 use std::borrow::Cow;
@@ -101,11 +107,44 @@ pub fn parse_strings(
     script: impl AsRef<[u8]>,
     literals: &[Literal],
 ) -> Result<Answer<'static>, Refusal> {
-    let script = script.as_ref();
+    parsed(script.as_ref(), literals, None)
+}
+
+/// Reads as [`parse_strings`] does, with the names of a file: [`Reason::NameNotHeld`] then means that
+/// the file does not have the name.
+///
+/// ```
+/// use stumpgarret::{parse_strings_named, Literal, Names, Reason, StringKind};
+///
+/// let names = Names::build(&b"2603;SNOWMAN;So;0;ON;;;;;N;;;;;\n"[..])?;
+/// let read = |script: &str| {
+///     let literal = Literal::within(StringKind::String, false, 0..script.len());
+///     parse_strings_named(script, &[literal], &names)
+/// };
+/// assert_eq!(read(r"'\N{SNOWMAN}'")?.text(), "\u{2603}".as_bytes());
+/// assert_eq!(read(r"'\N{OHM SIGN}'").unwrap_err().reason(), &Reason::NameNotHeld);
+/// # Ok::<(), stumpgarret::Refusal>(())
+/// ```
+pub fn parse_strings_named(
+    script: impl AsRef<[u8]>,
+    literals: &[Literal],
+    names: &Names<'_>,
+) -> Result<Answer<'static>, Refusal> {
+    parsed(script.as_ref(), literals, Some(names))
+}
+
+fn parsed(
+    script: &[u8],
+    literals: &[Literal],
+    names: Option<&Names<'_>>,
+) -> Result<Answer<'static>, Refusal> {
     let numbers = literal::numbers(literals);
     let (records, bytes) = room(literals);
     let (mut words, mut text) = (vec![0; records * call::RECORD], vec![0; bytes]);
-    let answer = call::read(script, &numbers, &mut words, &mut text);
+    let answer = match names {
+        None => call::read(script, &numbers, &mut words, &mut text),
+        Some(names) => call::read_searched(script, &numbers, names, &mut words, &mut text),
+    };
     Answer::new(answer, Cow::Owned(words), Cow::Owned(text))
 }
 
@@ -136,6 +175,19 @@ pub fn read_into<'a>(
 ) -> Result<Answer<'a>, Refusal> {
     let numbers = literal::numbers(literals);
     let answer = call::read(script.as_ref(), &numbers, words, text);
+    Answer::new(answer, Cow::Borrowed(words), Cow::Borrowed(text))
+}
+
+/// Reads as [`read_into`] does, with the names of a file.
+pub fn read_into_named<'a>(
+    script: impl AsRef<[u8]>,
+    literals: &[Literal],
+    names: &Names<'_>,
+    words: &'a mut [u32],
+    text: &'a mut [u8],
+) -> Result<Answer<'a>, Refusal> {
+    let numbers = literal::numbers(literals);
+    let answer = call::read_searched(script.as_ref(), &numbers, names, words, text);
     Answer::new(answer, Cow::Borrowed(words), Cow::Borrowed(text))
 }
 

@@ -1,5 +1,6 @@
 use crate::answer::ConversionFlag;
 use crate::call;
+use crate::names::Names;
 use crate::refusal::{self, Reason, Refusal};
 use crate::signs::FieldSigns;
 use crate::MOST_SCRIPT_BYTES;
@@ -38,11 +39,40 @@ use std::str;
 ///
 /// A script of more than [`MOST_SCRIPT_BYTES`](crate::MOST_SCRIPT_BYTES) is refused.
 pub fn fields<S: AsRef<[u8]> + ?Sized>(script: &S) -> Result<Listing<'_>, Refusal> {
-    let script = as_python_reads(script.as_ref());
+    listed(script.as_ref(), None)
+}
+
+/// Lists as [`fields`] does, with the names of a file.
+///
+/// The library has no listing without a check: each call checks file and index anew, in some
+/// milliseconds for the file that Unicode publishes. A script without a `\N` asks for no name; of it
+/// [`fields`] lists the same.
+///
+/// ```
+/// use stumpgarret::{fields, fields_named, Names};
+///
+/// let names = Names::build(&b"2603;SNOWMAN;So;0;ON;;;;;N;;;;;\n"[..])?;
+/// let script = r"f'{x:.0f}\N{SNOWMAN}'";
+/// assert!(fields_named(script, &names)?.is_complete());
+/// assert!(!fields(script)?.is_complete());
+/// # Ok::<(), stumpgarret::Refusal>(())
+/// ```
+pub fn fields_named<'a, S: AsRef<[u8]> + ?Sized>(
+    script: &'a S,
+    names: &Names<'_>,
+) -> Result<Listing<'a>, Refusal> {
+    listed(script.as_ref(), Some(names))
+}
+
+fn listed<'a>(script: &'a [u8], names: Option<&Names<'_>>) -> Result<Listing<'a>, Refusal> {
+    let script = as_python_reads(script);
     // No script has more rows than bytes.
     let room = if script.len() > MOST_SCRIPT_BYTES { 0 } else { script.len() };
     let mut numbers = vec![0; room * call::ROW];
-    let answer = call::fields(&script, &mut numbers);
+    let answer = match names {
+        None => call::fields(&script, &mut numbers),
+        Some(names) => call::fields_named(&script, names, &mut numbers),
+    };
     match answer[0] {
         0 => Listing::new(script, &numbers, answer).ok_or_else(Refusal::unknown),
         _ => Err(Refusal::new(answer)),
@@ -68,7 +98,7 @@ fn as_python_reads(script: &[u8]) -> Cow<'_, [u8]> {
     Cow::Owned(read)
 }
 
-/// What [`fields`] lists.
+/// What [`fields`] and [`fields_named`] list.
 #[derive(Clone, Debug, PartialEq, Eq)]
 pub struct Listing<'a> {
     script: Cow<'a, [u8]>,

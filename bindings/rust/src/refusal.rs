@@ -2,7 +2,8 @@ use crate::call;
 use std::error::Error;
 use std::fmt;
 
-/// Why literals were refused. Where rustpython-parser has such an error, the name is its.
+/// Why literals, a script or a file of names were refused. Where rustpython-parser has such an error,
+/// the name is its.
 #[derive(Clone, Debug, PartialEq, Eq, Hash)]
 #[non_exhaustive]
 pub enum Reason {
@@ -25,7 +26,7 @@ pub enum Reason {
     /// A hex digit is missing, a code is no character's, or a name is too long.
     UnicodeError,
     NonAsciiInBytes,
-    /// The name in `\N{..}` is none of those held.
+    /// The name in `\N{..}` is not in the file of names, or, where there is none, not one of fourteen.
     NameNotHeld,
     /// A `{` that is not closed as it must be, and why.
     UnclosedLbrace(Unclosed),
@@ -66,6 +67,16 @@ pub enum Reason {
     TooLittleListRoom {
         numbers: usize,
     },
+    /// A line of a file of names is malformed or not ended, or a name's code is no scalar value: a
+    /// surrogate's, or above 10FFFF.
+    LineMalformed,
+    /// A name stands twice in a file of names.
+    NameTwice,
+    /// There is no room for the index of a file of names: of [`Names::build`](crate::Names::build), for a
+    /// file of 2^32 bytes or more.
+    TooLittleIndexRoom,
+    /// An index that is not that of its file of names, or one of a file of 2^32 bytes or more.
+    WrongIndex,
     /// Python 3.11 reads a field otherwise, or not at all: only in a [`Listing`](crate::Listing).
     ReadOtherwise,
     /// An answer that this crate cannot read, so the library linked is not the one it is for.
@@ -110,6 +121,16 @@ impl fmt::Display for Reason {
             Self::NoLiteral => "no literal stands there",
             Self::TooLittleListRoom { numbers } => {
                 return write!(f, "the list buffer is too small: {} numbers are needed", numbers)
+            }
+            Self::LineMalformed => {
+                "a line of the file of names is malformed, or a name's code is no scalar value"
+            }
+            Self::NameTwice => "a name stands twice in the file of names",
+            Self::TooLittleIndexRoom => {
+                "there is no room for the index, or the file of names has 2^32 bytes or more"
+            }
+            Self::WrongIndex => {
+                "the index is not that of the file of names, or that has 2^32 bytes or more"
             }
             Self::ReadOtherwise => "Python reads the field otherwise, or not at all",
             Self::UnknownAnswer => "the library linked gives answers that this crate does not know",
@@ -277,6 +298,10 @@ pub(crate) fn reason(number: u32, [a, b]: [u32; 2], needed: u32) -> Option<Reaso
         51 => Reason::NewlineInLiteral,
         52 => Reason::NoLiteral,
         53 => Reason::TooLittleListRoom { numbers: needed as usize },
+        60 => Reason::LineMalformed,
+        61 => Reason::NameTwice,
+        62 => Reason::TooLittleIndexRoom,
+        63 => Reason::WrongIndex,
         75 => Reason::ReadOtherwise,
         _ => return None,
     })
@@ -285,6 +310,9 @@ pub(crate) fn reason(number: u32, [a, b]: [u32; 2], needed: u32) -> Option<Reaso
 impl fmt::Display for Refusal {
     fn fmt(&self, f: &mut fmt::Formatter<'_>) -> fmt::Result {
         let Refusal { number, reason, literal, place, opened, line, column, .. } = self;
+        if (60..=63).contains(number) {
+            return write!(f, "{} (refusal {})", reason, number);
+        }
         write!(f, "{} (refusal {}, literal {}, place {}", reason, number, literal, place)?;
         match number {
             23 => write!(f, ", line {}, column {}, opened at place {})", line, column, opened),

@@ -1,7 +1,7 @@
 use crate::call;
 use crate::literal::{self, Literal};
 use crate::refusal::{Reason, Refusal};
-use crate::{parse_strings, Answer};
+use crate::{parsed, Answer, Names};
 
 /// Literals that stand side by side in a script.
 #[derive(Clone, Debug, PartialEq, Eq, Hash)]
@@ -52,9 +52,25 @@ pub fn literals_at(script: impl AsRef<[u8]>, offset: usize) -> Result<Run, Refus
 /// # Ok::<(), stumpgarret::Refusal>(())
 /// ```
 pub fn read_at(script: impl AsRef<[u8]>, offset: usize) -> Result<(Run, Answer<'static>), Refusal> {
-    let script = script.as_ref();
+    listed_and_read(script.as_ref(), offset, None)
+}
+
+/// Lists and reads as [`read_at`] does, with the names of a file.
+pub fn read_at_named(
+    script: impl AsRef<[u8]>,
+    offset: usize,
+    names: &Names<'_>,
+) -> Result<(Run, Answer<'static>), Refusal> {
+    listed_and_read(script.as_ref(), offset, Some(names))
+}
+
+fn listed_and_read(
+    script: &[u8],
+    offset: usize,
+    names: Option<&Names<'_>>,
+) -> Result<(Run, Answer<'static>), Refusal> {
     let run = literals_at(script, offset)?;
-    let answer = parse_strings(script, &run.literals)?;
+    let answer = parsed(script, &run.literals, names)?;
     Ok((run, answer))
 }
 

@@ -2,6 +2,7 @@
 mod common;
 mod fields;
 mod literals;
+mod names;
 mod readings;
 mod refusals;
 mod room;
