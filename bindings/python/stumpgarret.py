@@ -1,13 +1,14 @@
 #!/usr/bin/env python3
 """Lists every formatted field in the string literals of Python 3.11 scripts, by the proved library stumpgarret.
 
-    python3 stumpgarret.py [--why] [--json] [--html FILE] [--check] SCRIPT...
+    python3 stumpgarret.py [--why] [--json] [--html FILE] [--names FILE] [--check] SCRIPT...
 
 `python3 stumpgarret.py --help` says what is printed, and what the exit status means. Any Python from 3.7 on will do.
 
 In a program, `fields` gives the same list, or raises `Incomplete`; `list_script` gives what is refused as well.
 `rows` is the library's call behind both: every row of a whole script, by places. `read` reads one run of literals, and
-`literals` lists the adjacent literals of a script from an offset on.
+`literals` lists the adjacent literals of a script from an offset on. `Names` is a file of the names of characters, for
+those in `\\N{..}`: without one the library has fourteen.
 
     >>> import stumpgarret
     >>> for field in stumpgarret.fields("print(f'{mv / 12.5:.0f} {n!r}')", "bench.py"):
@@ -22,6 +23,7 @@ else the one under target/python of the clone, where `bindings/python/build` put
 from __future__ import annotations
 
 import argparse
+import array
 import ast
 import codecs
 import collections
@@ -29,6 +31,7 @@ import ctypes
 import enum
 import functools
 import io
+import itertools
 import json
 import operator
 import os
@@ -132,7 +135,8 @@ class Signs:
 class Field:
     """A formatted field, with its literal's range. `conversion` is "s", "r", "a" or None; a self-documenting field
     that has neither conversion nor spec has "r", and `reason` says why. `spec` has the parts of the format spec, and is
-    None if there is no `:`. `place` is just after the field's `{`, and `signs` are its other places."""
+    None if there is no `:`. `place` is just after the field's `{`, and `signs` are its other places. Read with `Names`
+    it has neither reason nor signs, both None: the library has no call for them."""
 
     expression: str
     conversion: str | None
@@ -140,8 +144,8 @@ class Field:
     start: int
     end: int
     place: int
-    reason: Reason
-    signs: Signs
+    reason: Reason | None
+    signs: Signs | None
 
 
 @dataclass(frozen=True)
@@ -217,7 +221,7 @@ REFUSALS = {
     10: ("StringError", "an escape is not finished"),
     11: ("UnicodeError", "an escape lacks a digit, has a code above 10FFFF, or a name over 88 bytes"),
     12: ("non-ASCII in bytes", ""),
-    13: ("name not held", "the library does not have this name of a character"),
+    13: ("name not held", "the file of names, or without one the library, does not have this name of a character"),
     20: ("UnclosedLbrace", "{unclosed}"),
     21: ("InvalidConversionFlag", "a conversion is not s, r or a"),
     22: ("EmptyExpression", "a field's expression is empty or blank"),
@@ -234,6 +238,10 @@ REFUSALS = {
     51: ("newline in a literal of one quote", ""),
     52: ("no literal at the offset", ""),
     53: ("list buffer too short", ""),
+    60: ("line malformed", "a line of the file of names is malformed or not ended, or a name's code is no scalar value"),
+    61: ("name twice", "a name stands twice in the file of names"),
+    62: ("index buffer too short", "the index has no room, or the file of names has 2^32 bytes or more"),
+    63: ("wrong index", "the index is not that of the file of names, or the file has 2^32 bytes or more"),
     75: (
         "read otherwise by Python",
         "Python reads this field otherwise or not at all, by a #, a backslash, a triple-quoted literal with its own quote "
@@ -245,6 +253,7 @@ IN_A_BODY = range(10, 29)
 NEVER_CLOSED = 50, 51
 READ_OTHERWISE = 75
 OF_A_LIST = *range(49, 54), READ_OTHERWISE
+OF_NAMES = range(60, 64)
 
 # Why a brace counts as unclosed, by the first detail of 20.
 UNCLOSED = {
@@ -257,7 +266,7 @@ UNCLOSED = {
 
 
 class Refusal(Exception):
-    """The library refused a run: a number of `REFUSALS` and its name, the index of the literal from 0, the place,
+    """The library refused a run, or a file of names: a number of `REFUSALS` and its name, the index of the literal from 0, the place,
     two details, the place's line and column in the literal's body, both from 0, the place just after the bracket
     that is closed by another, and how many characters were read. What has no literal, place, details, line, column,
     bracket or characters has 0 there."""
@@ -295,6 +304,8 @@ class Refusal(Exception):
         return line + self.line, self.column + (1 if self.line else column)
 
     def __str__(self) -> str:
+        if self.number in OF_NAMES:
+            return f"refused: {self.meaning}"
         at = f"refused in literal {self.literal} at {self.place}"
         if self.number in IN_A_BODY:
             at += ", line {} and column {} of its body".format(*self.position(1, 1))
@@ -327,21 +338,74 @@ NUMBERS_OF_A_LITERAL = 6
 MOST_BODY_BYTES = 1_048_576
 FIRST_LITERALS = 16
 FIRST_ROWS = 256
+LEAST_LINE_OF_A_NAME = 20
 
 
-def read(script: bytes | str, literals: Iterable[Literal]) -> Answer:
-    """Reads a run of literals, whose bodies lie in `script`; a str stands for its UTF-8 bytes.
+class Names:
+    """A file of the names of characters, as Unicode publishes it by the name UnicodeData.txt, with its index: the offset
+    of each line that has a name, ordered by name. Only `build` and `check` make one, so that file and index have passed
+    the check; nothing changes them afterwards.
+
+    Names compare byte for byte, so small letters are others. A script asks for one of at most 88 bytes."""
+
+    __slots__ = "_file", "_index"
+
+    def __init__(self):
+        raise TypeError("Names are made by Names.build or Names.check")
+
+    @classmethod
+    def build(cls, file: bytes) -> Names:
+        """Builds the index of a file. Raises `Refusal`: 60 for a malformed line, 61 for a name that stands twice, 62 for
+        a file of 2**32 bytes or more."""
+        file = _file(file)
+        index = (ctypes.c_uint32 * (len(file) // LEAST_LINE_OF_A_NAME if len(file) < 2**32 else 0))()
+        entries = _names_call("names_build", file, index)
+        return cls._made(file, (ctypes.c_uint32 * entries).from_buffer_copy(index))
+
+    @classmethod
+    def check(cls, file: bytes, index: Iterable[int]) -> Names:
+        """Checks an index that was kept. Raises `Refusal`: 60 and 61 as `build` does, 63 for any index but the file's;
+        and ValueError for an offset that does not fit into 32 bits."""
+        file = _file(file)
+        offsets = _offsets(index)
+        lent = (ctypes.c_uint32 * len(offsets)).from_buffer_copy(offsets)
+        _names_call("names_check", file, lent)
+        return cls._made(file, lent)
+
+    @classmethod
+    def _made(cls, file: bytes, index: ctypes.Array) -> Names:
+        names = cls.__new__(cls)
+        names._file, names._index = file, index
+        return names
+
+    @property
+    def file(self) -> bytes:
+        return self._file
+
+    @property
+    def index(self) -> tuple[int, ...]:
+        """The offsets, to be kept for `check`."""
+        return tuple(self._index)
+
+
+def read(script: bytes | str, literals: Iterable[Literal], names: Names | None = None) -> Answer:
+    """Reads a run of literals, whose bodies lie in `script`; a str stands for its UTF-8 bytes. With names they are looked
+    for in their file, which is not checked again.
 
     Raises `Refusal` if the library refuses them, and ValueError for a number that does not fit into 32 bits."""
     script = _bytes(script)
     numbers = _numbers(literals)
-    answer, words, text = _call(script, numbers)
+    lent_names = _lent(names)
+    answer, words, text = _call(script, numbers, lent_names)
     if answer[0]:
         number, literal, place, a, b, opened, line, column, chars, *_ = answer
         raise Refusal(number, literal, place, (a, b), line, column, opened, chars)
     _, sort, u_mark, start, end, _, _, _, chars, *_ = answer
     records = (words[at : at + WORDS_OF_A_RECORD] for at in range(0, len(words), WORDS_OF_A_RECORD))
-    signs = iter(_signs(script, numbers, sum(kind == 2 for kind in words[::WORDS_OF_A_RECORD])))
+    if lent_names:
+        signs = itertools.repeat((None, None))
+    else:
+        signs = iter(_signs(script, numbers, sum(kind == 2 for kind in words[::WORDS_OF_A_RECORD])))
     parts = tuple(_record(own, records, text, signs) for own in records)
     return Answer(Sort(sort), bool(u_mark), start, end, parts, chars)
 
@@ -359,14 +423,17 @@ def literals(script: bytes | str, offset: int) -> Listing:
     return Listing(tuple(_listed(*own) for own in _cut(numbers, NUMBERS_OF_A_LITERAL, count)), stop)
 
 
-def rows(script: bytes | str) -> Rows:
+def rows(script: bytes | str, names: Names | None = None) -> Rows:
     """Every row of a whole script; a str stands for its UTF-8 bytes. Line ends are taken as they stand: where Python
-    would read a carriage return as a newline, so must the caller (`list_script` does).
+    would read a carriage return as a newline, so must the caller (`list_script` does). With names the library checks
+    file and index at each call; of a script that has no `\\N` the rows are the same without them.
 
     Raises `Refusal` 49 if the script has more bytes than the library takes."""
     script = _bytes(script)
     room = FIRST_ROWS * NUMBERS_OF_A_ROW
-    answer, numbers = _list_call("fields", [script, len(script)], room, NUMBERS_OF_A_ROW)
+    lent_names = _lent(names)
+    call = "fields_named" if lent_names else "fields"
+    answer, numbers = _list_call(call, [script, len(script), *lent_names], room, NUMBERS_OF_A_ROW)
     _, count, _, literals, cut_to, *_ = answer
     return Rows(tuple(_row(*own) for own in _cut(numbers, NUMBERS_OF_A_ROW, count)), literals, cut_to)
 
@@ -408,6 +475,39 @@ def _undecoded(script: bytes) -> bytes:
     return bytes(script)
 
 
+def _file(file: bytes) -> bytes:
+    if not isinstance(file, (bytes, bytearray, memoryview)):
+        raise TypeError(f"a file's content is wanted, as bytes, not {_type(file)}")
+    return bytes(file)
+
+
+def _offsets(index: Iterable[int]) -> array.array:
+    if not isinstance(index, Iterable):
+        raise TypeError(f"a list of offsets is wanted, not {_type(index)}")
+    try:
+        return array.array("I", iter(index))
+    except OverflowError as error:
+        raise ValueError("an offset of the index is no number of 32 bits") from error
+
+
+def _lent(names: Names | None) -> list[object]:
+    """What is lent of names: nothing without any."""
+    if names is None:
+        return []
+    if not isinstance(names, Names):
+        raise TypeError(f"Names are wanted, not {_type(names)}")
+    return [names._file, len(names._file), names._index, len(names._index)]
+
+
+def _names_call(name: str, file: bytes, index: ctypes.Array) -> int:
+    """How many entries the index has."""
+    answer = (ctypes.c_uint32 * 12)()
+    _function(name)(file, len(file), index, len(index), answer)
+    if answer[0]:
+        raise Refusal(answer[0], 0, 0, (0, 0))
+    return answer[1]
+
+
 def _numbers(literals: Iterable[Literal]) -> list[int]:
     if not isinstance(literals, Iterable):
         raise TypeError(f"a list of Literals is wanted, not {_type(literals)}")
@@ -438,28 +538,30 @@ def _room(numbers: list[int]) -> tuple[int, int]:
     return (body_bytes + len(numbers) // NUMBERS_OF_A_LITERAL, 2 * body_bytes) if body_bytes <= MOST_BODY_BYTES else (0, 0)
 
 
-def _call(script: bytes, numbers: list[int]) -> tuple[list[int], list[int], bytes]:
+def _call(script: bytes, numbers: list[int], lent_names: list[object]) -> tuple[list[int], list[int], bytes]:
     """The answer, and of an acceptance the words and the text."""
     records, text_bytes = _room(numbers)
     listed = (ctypes.c_uint32 * len(numbers))(*numbers)
     words = (ctypes.c_uint32 * (records * WORDS_OF_A_RECORD))()
     text = (ctypes.c_char * text_bytes)()
     answer = (ctypes.c_uint32 * 12)()
-    _function("read")(script, len(script), listed, len(listed), words, len(words), text, len(text), answer)
+    lent = [script, len(script), listed, len(listed), *lent_names]
+    _function("read_searched" if lent_names else "read")(*lent, words, len(words), text, len(text), answer)
     if answer[0]:
         return list(answer), [], b""
     return list(answer), words[: answer[5] * WORDS_OF_A_RECORD], text[: answer[6]]
 
 
-def _signs(script: bytes, numbers: list[int], fields: int) -> list[list[int]]:
-    """The rows of so many fields, which are all fields of literals that are accepted; no call for none."""
+def _signs(script: bytes, numbers: list[int], fields: int) -> list[tuple[Reason, Signs]]:
+    """Reason and signs of so many fields, which are all fields of literals that are accepted; no call for none."""
     if not fields:
         return []
     listed = (ctypes.c_uint32 * len(numbers))(*numbers)
     rows = (ctypes.c_uint32 * (fields * NUMBERS_OF_A_ROW))()
     answer = (ctypes.c_uint32 * 12)()
     _function("signs")(script, len(script), listed, len(listed), rows, len(rows), answer)
-    return _cut(rows[:], NUMBERS_OF_A_ROW, fields)
+    found = (_row(*own) for own in _cut(rows[:], NUMBERS_OF_A_ROW, fields))
+    return [(row.reason, row.signs) for row in found]
 
 
 def _list_call(name: str, lent: list[bytes | int], room: int, size: int) -> tuple[list[int], list[int]]:
@@ -476,21 +578,24 @@ def _list_call(name: str, lent: list[bytes | int], room: int, size: int) -> tupl
 
 
 def _record(
-    own: list[int], following: Iterator[list[int]], text: bytes, signs: Iterator[list[int]]
+    own: list[int],
+    following: Iterator[list[int]],
+    text: bytes,
+    signs: Iterator[tuple[Reason | None, Signs | None]],
 ) -> Text | Field | Bytes:
-    """The record of eight words; a field takes its row, and the records of its spec from the following ones."""
+    """The record of eight words; a field takes its reason and signs, and the records of its spec from the following ones."""
     kind, offset, length, start, end, mark, parts, place = own
     own_text = text[offset : offset + length]
     if kind == 4:
         return Bytes(own_text, start, end)
     if kind == 1:
         return Text(own_text.decode(), start, end, bool(mark))
-    row = _row(*next(signs))
+    reason, own_signs = next(signs)
     spec = None
     if parts:
         spec_parts = next(following)[6]
         spec = tuple(_record(next(following), following, text, signs) for _ in range(spec_parts))
-    return Field(own_text.decode(), _conversion(mark), spec, start, end, place, row.reason, row.signs)
+    return Field(own_text.decode(), _conversion(mark), spec, start, end, place, reason, own_signs)
 
 
 TEXT, NUMBERS, LENGTH = ctypes.c_char_p, ctypes.POINTER(ctypes.c_uint32), ctypes.c_size_t
@@ -500,6 +605,13 @@ CALLS = {
     "signs": [TEXT, LENGTH, NUMBERS, LENGTH, NUMBERS, LENGTH, NUMBERS],
     "literals": [TEXT, LENGTH, ctypes.c_uint32, NUMBERS, LENGTH, NUMBERS],
     "fields": [TEXT, LENGTH, NUMBERS, LENGTH, NUMBERS],
+    "names_build": [TEXT, LENGTH, NUMBERS, LENGTH, NUMBERS],
+    "names_check": [TEXT, LENGTH, NUMBERS, LENGTH, NUMBERS],
+    **dict.fromkeys(
+        ["read_named", "read_searched"],
+        [TEXT, LENGTH, NUMBERS, LENGTH, TEXT, LENGTH, NUMBERS, LENGTH, NUMBERS, LENGTH, TEXT, LENGTH, NUMBERS],
+    ),
+    "fields_named": [TEXT, LENGTH, TEXT, LENGTH, NUMBERS, LENGTH, NUMBERS, LENGTH, NUMBERS],
 }
 
 
@@ -631,23 +743,27 @@ class Undecodable(ValueError):
     """A script's bytes are no text: its coding is unknown, or its bytes are not of that coding."""
 
 
-def fields(source: bytes | str, name: str = "<script>") -> list[ScriptField]:
+def fields(source: bytes | str, name: str = "<script>", names: Names | None = None) -> list[ScriptField]:
     """Every field of a script, in the order in which they begin. A field in another's expression (in an f-string
     there) or in another's spec is an item of its own, and comes after the other.
 
-    The name stands in messages. Raises `Incomplete` if anything is refused, with all that was found, and `Undecodable`
-    for bytes that are no text."""
-    found = list_script(source)
+    The name stands in messages. With names those in `\\N{..}` are looked for in their file. Raises `Incomplete` if
+    anything is refused, with all that was found, and `Undecodable` for bytes that are no text."""
+    found = list_script(source, names)
     if not found.complete:
         raise Incomplete(name, found.fields, found.refused)
     return found.fields
 
 
-def list_script(source: bytes | str) -> ScriptList:
+def list_script(source: bytes | str, names: Names | None = None) -> ScriptList:
     """Every field of a script, and what is refused. Raises `Undecodable` for bytes that are no text."""
-    script = _bytes(text_of(source))
+    return _list(_bytes(text_of(source)), names)
+
+
+def _list(script: bytes, names: Names | None) -> ScriptList:
+    """The list of UTF-8 bytes that are read as they stand."""
     try:
-        found = rows(script)
+        found = rows(script, names)
     except Refusal as refusal:
         return ScriptList((_refused(refusal, (1, 1), "no field of the script is listed", None, 0),), 0, False)
     by_place = sorted(found.rows, key=lambda row: (row.place, isinstance(row, RefusalRow)))
@@ -814,6 +930,9 @@ def _braced(field: ScriptField) -> str:
 
 COMPLETE, INCOMPLETE, UNREAD = range(3)
 STANDARD_INPUT = "-"
+# Where Debian's package unicode-data puts it.
+SYSTEM_NAMES = "/usr/share/unicode/UnicodeData.txt"
+ASKS_FOR_A_NAME = b"\\N"
 DESCRIPTION = """
 Lists every formatted field of the f-strings of Python scripts. The operator `%`, `str.format` and `format()` format
 too, and are not listed.
@@ -824,9 +943,14 @@ A line for each field, with tabs between: path:line:column of its expression, th
 self-documenting `=` is shown behind the expression. A control character is shown as Python's escape, a newline as \n,
 and a backslash as two: a written \n is \\n. What is refused is told on standard error.
 
+A name of a character, as in \N{DEGREE SIGN}, is looked for in a file of names, byte for byte. That is FILE, else
+SYSTEM_NAMES (Debian: unicode-data) if it is there; else fourteen names are known.
+A name that is not found is refused (13), and so is a file that is none (60, 61): nothing is listed by another then.
+
 Exit status: 0 if these are all fields of all scripts, 1 if something was refused (or --check found a difference),
-2 for a wrong use, for a script that cannot be read or decoded, and without the shared library.
-"""
+2 for a wrong use, for a script that cannot be read or decoded, for a file of names that cannot be read or is refused,
+and without the shared library.
+""".replace("SYSTEM_NAMES", SYSTEM_NAMES)
 
 
 def main(arguments: list[str] | None = None) -> int:
@@ -837,8 +961,10 @@ def main(arguments: list[str] | None = None) -> int:
             stream.reconfigure(errors="backslashreplace")
     on_page = [] if given.html else None
     try:
+        if given.names is not None:
+            given.lent_names()
         status = max(_print_script(path, given, on_page) for path in given.scripts)
-    except Unavailable as error:
+    except (Unavailable, UnusableNames) as error:
         print(f"stumpgarret: {error}", file=sys.stderr)
         return UNREAD
     return max(status, _write_page(given.html, on_page)) if given.html else status
@@ -847,6 +973,7 @@ def main(arguments: list[str] | None = None) -> int:
 def _arguments(arguments: list[str] | None) -> argparse.Namespace:
     parser = argparse.ArgumentParser(
         prog="stumpgarret",
+        usage="%(prog)s [--why] [--json] [--html FILE] [--names FILE] [--check] SCRIPT...",
         description=DESCRIPTION,
         epilog=EPILOG,
         formatter_class=argparse.RawDescriptionHelpFormatter,
@@ -854,10 +981,18 @@ def _arguments(arguments: list[str] | None) -> argparse.Namespace:
     parser.add_argument("--why", action="store_true", help="add the reason of each conversion")
     parser.add_argument("--json", action="store_true", help="a JSON object for each field, and for each refusal")
     parser.add_argument("--html", metavar="FILE", help="in place of the list write a page, to a file that ends in .html")
+    parser.add_argument("--names", metavar="FILE", help="take names of characters from a UnicodeData.txt")
     parser.add_argument("--check", action="store_true", help="compare with Python's own ast (Python 3.11 only)")
-    parser.add_argument("--version", action="version", version=f"%(prog)s {__version__}")
-    parser.add_argument("scripts", nargs="+", metavar="SCRIPT", help="a path, or - for standard input")
+    parser.add_argument("--version", action="store_true", help="say the version, and where names are taken from")
+    parser.add_argument("scripts", nargs="*", metavar="SCRIPT", help="a path, or - for standard input")
     given = parser.parse_args(arguments)
+    given.names_path = _names_path(given.names)
+    given.lent_names = functools.lru_cache(maxsize=None)(lambda: _names_of(given.names_path))
+    if given.version:
+        print(f"stumpgarret {__version__}", f"names of characters: {_names_said(given.names_path)}", sep="\n")
+        parser.exit()
+    if not given.scripts:
+        parser.error("the following arguments are required: SCRIPT")
     if given.html is not None and not given.html.endswith(".html"):
         parser.error(f"--html needs a file that ends in .html before the scripts, and this is {given.html}")
     if given.html and (given.json or given.why):
@@ -867,12 +1002,42 @@ def _arguments(arguments: list[str] | None) -> argparse.Namespace:
     return given
 
 
+class UnusableNames(Exception):
+    """A file of names that cannot be read, or that is refused."""
+
+
+def _names_path(named: str | None) -> str | None:
+    """The file that is named, else the system's if it is there."""
+    return named if named is not None else SYSTEM_NAMES if os.path.exists(SYSTEM_NAMES) else None
+
+
+def _names_said(path: str | None) -> str:
+    return "fourteen, of the library" if path is None else _one_line(path)
+
+
+def _names_of(path: str | None) -> Names | None:
+    if path is None:
+        return None
+    try:
+        with open(path, "rb") as file:
+            return Names.build(file.read())
+    except OSError as error:
+        raise UnusableNames(f"the file of names {_one_line(path)} cannot be read: {error.strerror}") from error
+    except Refusal as refusal:
+        said = "nothing more is listed; --names FILE names another"
+        raise UnusableNames(f"the file of names {_one_line(path)} is {refusal}; {said}") from refusal
+
+
 def _print_script(path: str, given: argparse.Namespace, on_page: list[dict[str, object]] | None) -> int:
     """Prints what is known of a script, or puts it on the page; gives the exit status for it."""
     name = "<stdin>" if path == STANDARD_INPUT else path
     try:
         source = _content(path)
-        found = list_script(source)
+        script = _bytes(text_of(source))
+        # Without names where none is asked for: the list is the same, and no file is read.
+        asks = ASKS_FOR_A_NAME in script
+        names = given.lent_names() if asks else None
+        found = _list(script, names)
     except (OSError, Undecodable) as error:
         failure = getattr(error, "strerror", None) or str(error)
         _complain(name, f" {failure}")
@@ -892,6 +1057,8 @@ def _print_script(path: str, given: argparse.Namespace, on_page: list[dict[str, 
         _complain(name, said)
     if on_page is not None:
         shown = {"name": name, "content": source, "text": text_of(source), "differences": differing}
+        if asks:
+            shown["names"] = _names_said(given.names_path), names and names.file
         rows_of_table = [_page_row(entry) for entry in found.entries]
         on_page.append({**shown, "entries": found.entries, "rows": rows_of_table, "complete": status == COMPLETE})
     return status

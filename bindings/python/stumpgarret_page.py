@@ -66,7 +66,8 @@ TAB = "\t"
 class Script:
     """What the page shows of a script. `failure` says why it was not read; else `text` has its lines, `entries` are the
     fields and refusals by place, and `rows` what the table shows of each: of a field expression, conversion, why, and
-    spec, of a refusal its words. `differences` is None if Python was not asked."""
+    spec, of a refusal its words. `differences` is None if Python was not asked. `names` is None if the script asks for no
+    name of a character; else it says where they are taken from, and has the content of the file if it is one."""
 
     name: str
     failure: str = ""
@@ -76,6 +77,7 @@ class Script:
     rows: list = ()
     differences: list[str] | None = None
     complete: bool = False
+    names: tuple[str, bytes | None] | None = None
 
     @property
     def fields(self) -> int:
@@ -140,13 +142,20 @@ def _section(script: Script, key: str) -> list[str]:
     lines = [f'<h2 id="{key}">{_shown(script.name)}</h2>', _verdict(script.complete, script.verdict)]
     if script.failure:
         return lines
-    digest = hashlib.sha256(script.content).hexdigest()
-    lines.append(f'<p class="small">SHA-256 <code>{digest}</code>, {_count(len(script.content), "byte")}</p>')
+    lines.append(f'<p class="small">{_digest(script.content)}</p>')
+    if script.names is not None:
+        said, content = script.names
+        digest = "" if content is None else f", {_digest(content)}"
+        lines.append(f'<p class="small">Names of characters: {_shown(said)}{digest}</p>')
     if script.differences is not None:
         lines += [f'<p class="no">{_shown(script.name)}:{_shown(one)}</p>' for one in script.differences]
         lines += [] if script.differences else ['<p class="small">Python\'s own <code>ast</code> has the same fields.</p>']
     beside = ['<div class="table">', *_table(script, key), "</div>"]
     return [*lines, '<div class="both">', *_source(script, key), *beside, "</div>"]
+
+
+def _digest(content: bytes) -> str:
+    return f'SHA-256 <code>{hashlib.sha256(content).hexdigest()}</code>, {_count(len(content), "byte")}'
 
 
 def _verdict(complete: bool, said: str) -> str:

@@ -56,6 +56,27 @@ class Server:
     def fields(self, script, script_length, rows, rows_length, answer):
         self.ask_script(2**32 - 2, script[:script_length], 0, rows, answer)
 
+    def names_build(self, file, file_length, index, index_length, answer):
+        self.ask_named(2**32 - 3, [file, index, b"", b"", b"", b""], answer, index)
+
+    def names_check(self, file, file_length, index, index_length, answer):
+        self.ask_named(2**32 - 4, [file, index, b"", b"", b"", b""], answer, index)
+
+    def read_named(self, *lent):
+        self.read_with_names(2**32 - 5, *lent)
+
+    def read_searched(self, *lent):
+        self.read_with_names(2**32 - 6, *lent)
+
+    def read_with_names(self, verb, script, _1, numbers, _2, file, _3, index, _4, words, _5, text, _6, answer):
+        self.ask_named(verb, [file, index, numbers, script, words, text], answer, index, words, text)
+
+    def fields_named(self, script, script_length, file, file_length, index, index_length, rows, rows_length, answer):
+        self.ask_named(2**32 - 7, [file, index, b"", script, rows, b""], answer, index, rows)
+
+    def ask_named(self, verb, lent, *written):
+        self.ask(struct.pack("<7I", verb, *map(len, lent)) + b"".join(map(bytes, lent)), *written)
+
     def ask_script(self, verb, script, offset, numbers, answer):
         head = struct.pack("<4I", verb, len(script), len(numbers), offset)
         self.ask(head + script + bytes(numbers), answer, numbers)

@@ -123,9 +123,9 @@ class Plain(Command):
         self.assertIn("SCRIPT", self.wrong_use())
         self.assertIn("--unknown", self.wrong_use("--unknown", "a.py"))
 
-    def said(self, option):
+    def said(self, *options):
         with contextlib.redirect_stdout(io.StringIO()) as out, self.assertRaises(SystemExit) as caught:
-            stumpgarret.main([option])
+            stumpgarret.main([*options])
         self.assertEqual(caught.exception.code, 0)
         return out.getvalue()
 
@@ -135,9 +135,22 @@ class Plain(Command):
             self.assertIn(said, out)
         self.assertIn("of the f-strings of Python scripts. The operator `%`, `str.format` and `format()`", out)
         self.assertRegex(out, r"format\s+too, and are not listed")
+        names = "/usr/share/unicode/UnicodeData.txt (Debian: unicode-data) if it is there; else fourteen names are known."
+        self.assertIn(f"That is FILE, else\n{names}\n", out)
+        self.assertRegex(out, r"--names FILE +take names of characters from a UnicodeData.txt")
 
     def test_version(self):
-        self.assertEqual(self.said("--version"), f"stumpgarret {stumpgarret.__version__}\n")
+        """It says too where names of characters are taken from."""
+        version = f"stumpgarret {stumpgarret.__version__}\nnames of characters: "
+        pathlib.Path("names.txt").touch()
+        for system, options, names in (
+            ("names.txt", [], "names.txt"),
+            ("none.txt", [], "fourteen, of the library"),
+            ("names.txt", ["--names", "other\n.txt"], r"other\n.txt"),
+        ):
+            with mock.patch.object(stumpgarret, "SYSTEM_NAMES", system):
+                self.assertEqual(self.said("--version", *options), f"{version}{names}\n")
+                self.assertEqual(self.said(*options, "--version"), f"{version}{names}\n")
 
     def test_no_library(self):
         unavailable = mock.Mock(side_effect=stumpgarret.Unavailable("it is missing"))

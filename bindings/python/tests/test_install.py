@@ -34,6 +34,12 @@ examples/bench.py:5:20\tmv=\t!r\t
 examples/bench.py:5:26\tstatus\t!r\t:>{2 + len(status)}
 examples/bench.py:5:37\t2 + len(status)\t\t
 """
+SYSTEM_NAMES = pathlib.Path(stumpgarret.SYSTEM_NAMES)
+VERSION = f"""\
+stumpgarret {stumpgarret.__version__}
+names of characters: {SYSTEM_NAMES if SYSTEM_NAMES.exists() else "fourteen, of the library"}
+"""
+NAMES = "2603;SNOWMAN;So;0;ON;;;;;N;;;;;\n"
 # A stand-in for rt, which writes the static library in two halves.
 RT = """#!/bin/sh
 test "$*" = "staticlib stumpgarret" || exit 2
@@ -136,8 +142,18 @@ class Fields(Copy):
     def test_by_a_link(self):
         link = self.work / "link"
         link.symlink_to(self.built / "fields")
-        said = f"stumpgarret {stumpgarret.__version__}\n"
-        self.assertEqual(run(link, "--version", cwd="/", PATH=self.few), (0, said, ""))
+        self.assertEqual(run(link, "--version", cwd="/", PATH=self.few), (0, VERSION, ""))
+
+    def test_names(self):
+        """The machine's own file of names is read, under an emulator too, or the one that is named."""
+        folder = self.folder()
+        (folder / "a.py").write_text("f'{x}\\N{SNOWMAN}'")
+        (folder / "names.txt").write_text(NAMES)
+        self.assertFalse((self.built / "target/python/root/usr/share/unicode").exists())
+        call = run(self.built / "fields", "a.py", user=OTHER_USER, cwd=folder, PATH=self.few)
+        self.assertEqual(call[:2], (0, "a.py:1:4\tx\t\t\n") if SYSTEM_NAMES.exists() else (1, ""))
+        call = run(self.built / "fields", "--names", "names.txt", "a.py", user=OTHER_USER, cwd=folder, PATH=self.few)
+        self.assertEqual(call, (0, "a.py:1:4\tx\t\t\n", ""))
 
     def test_built_once(self):
         """Of calls at once one builds; the others wait for it, and then there is a whole library."""
@@ -249,6 +265,21 @@ class Install(Copy):
             call = run(command, "examples/bench.py", user=OTHER_USER, cwd=examples, PATH=self.few)
             self.assertEqual(call, (0, BENCH_FIELDS, ""))
 
+    def test_names(self):
+        command = self.prefix / "bin/stumpgarret"
+        folder = self.folder()
+        (folder / "a.py").write_text("f'{x}\\N{SNOWMAN}'")
+        (folder / "names.txt").write_text(NAMES)
+        (folder / "twice.txt").write_text(2 * NAMES)
+        given = {"user": OTHER_USER, "cwd": folder, "PATH": self.few}
+        self.assertEqual(run(command, "--version", **given), (0, VERSION, ""))
+        call = run(command, "a.py", **given)
+        self.assertEqual(call[:2], (0, "a.py:1:4\tx\t\t\n") if SYSTEM_NAMES.exists() else (1, ""))
+        self.assertEqual(run(command, "--names", "names.txt", "a.py", **given), (0, "a.py:1:4\tx\t\t\n", ""))
+        status, out, err = run(command, "--names", "twice.txt", "a.py", **given)
+        self.assertEqual((status, out), (2, ""))
+        self.assertIn("stumpgarret: the file of names twice.txt is refused: 61 name twice: ", err)
+
     def test_page(self):
         page = self.work / "pages/page.html"
         page.parent.mkdir()
@@ -309,6 +340,10 @@ class Install(Copy):
         program = "import stumpgarret as s; print(s.__file__, [field.spec for field in s.fields(\"f'{x:3}'\")])"
         call = run(*self.python, "-B", "-c", program, cwd="/", PATH=self.few, PYTHONPATH=folder)
         self.assertEqual(call, (0, f"{folder}/stumpgarret.py ['3']\n", ""))
+        named = r"f'{x:3}\N{SNOWMAN}'"
+        program = f"import stumpgarret as s; print(len(s.fields({named!r}, names=s.Names.build({NAMES.encode()!r}))))"
+        call = run(*self.python, "-B", "-c", program, cwd="/", PATH=self.few, PYTHONPATH=folder)
+        self.assertEqual(call, (0, "1\n", ""))
 
     @unittest.skipIf(EMULATED, "this machine's own Python cannot load the library")
     def test_import(self):

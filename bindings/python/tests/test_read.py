@@ -80,7 +80,7 @@ class Rows(unittest.TestCase):
             with self.subTest(numbers=numbers[:12]):
                 met.add(answer[0])
                 self.compare(script_of(pieces), literals, answer, words, text)
-        self.assertEqual(met, {0, *stumpgarret.REFUSALS} - {2, *NO_ROOM, *stumpgarret.OF_A_LIST})
+        self.assertEqual(met, {0, *stumpgarret.REFUSALS} - {2, *NO_ROOM, *stumpgarret.OF_A_LIST, *stumpgarret.OF_NAMES})
 
     def compare(self, script, literals, answer, words, text):
         if answer[0] == 0:
@@ -95,7 +95,8 @@ class Rows(unittest.TestCase):
         self.assertEqual(numbers, answer)
 
     def test_numbers(self):
-        self.assertEqual(set(stumpgarret.REFUSALS) - set(stumpgarret.OF_A_LIST), expected.NUMBERS)
+        others = {*stumpgarret.OF_A_LIST, *stumpgarret.OF_NAMES}
+        self.assertEqual(set(stumpgarret.REFUSALS) - others, expected.NUMBERS)
 
 
 class Answers(unittest.TestCase):
@@ -171,7 +172,8 @@ class Answers(unittest.TestCase):
 
     def test_every_refusal_has_words(self):
         for number in stumpgarret.REFUSALS:
-            self.assertRegex(str(Refusal(number, 0, 3, (40, 41))), f"^refused in literal 0 at 3.*: {number} [^{{}}]+")
+            at = "" if number in stumpgarret.OF_NAMES else " in literal 0 at 3.*"
+            self.assertRegex(str(Refusal(number, 0, 3, (40, 41))), f"^refused{at}: {number} [^{{}}]+")
         self.assertRegex(str(Refusal(99, 0, 3, (0, 0))), ": 99 unknown to this module$")
 
     def test_numbers_too_large(self):

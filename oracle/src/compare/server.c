@@ -1,6 +1,6 @@
 /* Answers readings over a pipe, little-endian on both ends. What is lent to the library
-   stands between 16 filled bytes on each side. A changed byte there, or in the script or
-   the list, ends the program with status 3.
+   stands between 16 filled bytes on each side. A changed byte there, or in what is only
+   read, ends the program with status 3.
 
    Request: u32 list length, u32 script bytes, u32 words lent, u32 text bytes lent,
    the list, the script, the words and the text as they are before the call.
@@ -17,6 +17,13 @@
    The same with u32 FFFFFFFE in front asks for every field of the script: the numbers are lent for
    the rows, and the offset is not used.
 
+   Requests with a file of names: u32 FFFFFFFD to build its index, FFFFFFFC to check a lent one,
+   FFFFFFFB to read with both checked, FFFFFFFA to read with both searched, FFFFFFF9 for every field
+   of a script; then u32 file bytes, u32 index numbers, u32 list length, u32 script bytes, u32
+   words lent, u32 text bytes lent, 0 for those that the call does not have; then the file, the
+   index, the list, the script, the words and the text. A row buffer is lent as the words.
+   Answer: 12 u32, the index, the words, the text after the call.
+
    Requests may come together; what was answered goes out before more is waited for. */
 #include <stdint.h>
 #include <stdio.h>
@@ -28,6 +35,8 @@
 
 enum { GUARD = 16, FILL = 0x5A };
 static const uint32_t LITERALS = UINT32_MAX, FIELDS = UINT32_MAX - 1, ROWS = UINT32_MAX;
+static const uint32_t BUILD = UINT32_MAX - 2, CHECK = UINT32_MAX - 3,
+                      SEARCHED = UINT32_MAX - 5, FIELDS_NAMED = UINT32_MAX - 6;
 
 static void *lend(size_t size)
 {
@@ -178,6 +187,54 @@ static void answer_script(const uint32_t size[4])
     give_back(script, size[1], "the script");
 }
 
+/* What is lent to a call with a file of names, in the order in which it comes. */
+enum { FILE_BYTES, INDEX, LIST, SCRIPT, WORDS, TEXT, LENT };
+
+static void answer_named(const uint32_t head[4])
+{
+    static const char *const names[LENT] = {"the file", "the index", "the list",
+                                            "the script", "the words", "the text"};
+    uint32_t verb = head[0], count[LENT];
+    memcpy(count, head + 1, 3 * sizeof *count);
+    take(count + 3, 3 * sizeof *count);
+    size_t size[LENT];
+    void *lent[LENT], *before[LENT];
+    for (int i = 0; i < LENT; i++) {
+        size[i] = (i == INDEX || i == LIST || i == WORDS ? 4 : 1) * (size_t)count[i];
+        lent[i] = lend(size[i]);
+        before[i] = lend(size[i]);
+        take(lent[i], size[i]);
+        memcpy(before[i], lent[i], size[i]);
+    }
+    uint32_t *answer = lend(48);
+    memset(answer, 0xFF, 48);
+    if (verb == BUILD)
+        stumpgarret_names_build(lent[FILE_BYTES], count[FILE_BYTES], lent[INDEX], count[INDEX],
+                                answer);
+    else if (verb == CHECK)
+        stumpgarret_names_check(lent[FILE_BYTES], count[FILE_BYTES], lent[INDEX], count[INDEX],
+                                answer);
+    else if (verb == FIELDS_NAMED)
+        stumpgarret_fields_named(lent[SCRIPT], count[SCRIPT], lent[FILE_BYTES], count[FILE_BYTES],
+                                 lent[INDEX], count[INDEX], lent[WORDS], count[WORDS], answer);
+    else
+        (verb == SEARCHED ? stumpgarret_read_searched : stumpgarret_read_named)(
+            lent[SCRIPT], count[SCRIPT], lent[LIST], count[LIST], lent[FILE_BYTES],
+            count[FILE_BYTES], lent[INDEX], count[INDEX], lent[WORDS], count[WORDS], lent[TEXT],
+            count[TEXT], answer);
+    put(answer, 48);
+    put(lent[INDEX], size[INDEX]);
+    put(lent[WORDS], size[WORDS]);
+    put(lent[TEXT], size[TEXT]);
+    give_back(answer, 48, "the answer");
+    for (int i = 0; i < LENT; i++) {
+        if (i < WORDS && !(i == INDEX && verb == BUILD))
+            unchanged(lent[i], before[i], size[i], names[i]);
+        give_back(before[i], size[i], "a copy");
+        give_back(lent[i], size[i], names[i]);
+    }
+}
+
 int main(void)
 {
     setvbuf(stdout, NULL, _IOFBF, 1 << 20);
@@ -186,6 +243,8 @@ int main(void)
         take(size, sizeof size);
         if (size[0] == LITERALS || size[0] == FIELDS)
             answer_script(size);
+        else if (size[0] >= FIELDS_NAMED)
+            answer_named(size);
         else if (size[3] == ROWS)
             answer_rows(size);
         else
