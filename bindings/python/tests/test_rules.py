@@ -17,6 +17,7 @@ SPAN = re.compile(r"`([^`]+)`")
 CITED = re.compile(r"RULES (\d+(?:\.\d+)?)")
 FROM, ROOM, AT = re.compile(r"from (\d+)"), re.compile(r"room for (\d+) numbers"), re.compile(r"at (\d+)")
 LENT = re.compile(r"script '(.*)' list \[(.*)\](?: room (\d+) words, (\d+) bytes)?", re.DOTALL)
+LENT_FILE = re.compile(r"file '(.*)' index \[(.*)\]", re.DOTALL)
 MARK = re.compile(r"<(?:(LF|CR|TAB|NUL)|([0-9A-F]{2})|U\+([0-9A-F]{4,6})|(\d+) times (.+?))>")
 CHARACTERS = {"LF": "\n", "CR": "\r", "TAB": "\t", "NUL": "\0"}
 FIRST_CHAPTER, REFUSALS = 1, 11
@@ -75,6 +76,26 @@ def signs(script, listed, room=ROOM_FOR_ALL):
     numbers, rows, answer = (ctypes.c_uint32 * len(listed))(*listed), numbers_of(room), numbers_of(12)
     stumpgarret._function("signs")(script, len(script), numbers, len(numbers), rows, room, answer)
     return list(answer), list(rows)
+
+
+def build_index(file, room=ROOM_FOR_ALL):
+    index, answer = numbers_of(room), numbers_of(12)
+    stumpgarret._function("names_build")(file, len(file), index, room, answer)
+    return list(answer), list(index)
+
+
+def check_index(file, index):
+    numbers, answer = (ctypes.c_uint32 * len(index))(*index), numbers_of(12)
+    stumpgarret._function("names_check")(file, len(file), numbers, len(numbers), answer)
+    return list(answer)
+
+
+def read_named(script, listed, file, index):
+    numbers, words, answer = (ctypes.c_uint32 * len(listed))(*listed), numbers_of(ROOM_FOR_ALL), numbers_of(12)
+    text, offsets = lent(ctypes.c_char, ROOM_FOR_ALL), (ctypes.c_uint32 * len(index))(*index)
+    given = script, len(script), numbers, len(numbers), file, len(file), offsets, len(offsets)
+    stumpgarret._function("read_named")(*given, words, len(words), text, len(text), answer)
+    return list(answer), list(words), text.raw
 
 
 def literals_of(script):
@@ -212,6 +233,23 @@ def asked_script(shown):
     return ask
 
 
+def asked_file(cell, spans):
+    answer, index = build_index(plain(spans[0] if spans else ""), room_of(cell))
+    return refusal(answer) if answer[0] else in_words(index[: answer[1]]) or "nothing"
+
+
+def asked_lent_file(cell, spans):
+    file, index = LENT_FILE.fullmatch(spans[0]).groups()
+    return numbers_shown(check_index(plain(file), [int(number) for number in index.split(",") if number]), 2)
+
+
+def asked_named(cell, spans):
+    """With the index that is built of the file, none if it is refused."""
+    script, file = map(plain, spans)
+    answer, index = build_index(file)
+    return parts(*read_named(script, literals_of(script), file, index[: answer[1]]))
+
+
 def room_of(cell):
     room = ROOM.search(cell)
     return int(room[1]) if room else ROOM_FOR_ALL
@@ -256,6 +294,9 @@ TABLES = {
     ("Script", "Fields"): asked_script(
         lambda script, answer, rows: ", ".join(field(script, row) for row in groups(rows, 10, answer[1]))
     ),
+    ("File", "Index"): asked_file,
+    ("Lent file", "Numbers"): asked_lent_file,
+    ("Named", "Parts"): asked_named,
     ("Body", "Line"): lambda cell, spans: lines(plain(spans[0])).rstrip("\n"),
 }
 ASKING = {headings[0] for headings in TABLES}
@@ -354,8 +395,7 @@ class Definitions(unittest.TestCase):
                 self.assertRegex(definition(file), there, section.name)
 
     def test_each_file_is_named(self):
-        """But for those of a lent file of names, which no call takes yet."""
-        files = {path.name for path in SPECS.glob("*.antt")} - {"Lib.antt", "Names.antt", "IsIndex.antt"}
+        files = {path.name for path in SPECS.glob("*.antt")} - {"Lib.antt"}
         self.assertEqual({file for section in RULES for file, _ in section.defined}, files)
 
     def test_no_file_is_named_otherwise(self):
