@@ -1,5 +1,6 @@
 """Files of names: their index built and checked, readings and listings with them, and the command's."""
 
+import collections
 import ctypes
 import hashlib
 import os
@@ -9,6 +10,7 @@ import unicodedata
 import unittest
 from unittest import mock
 
+import names_model
 import test_command
 import test_page
 from support import calls_of, stumpgarret
@@ -16,6 +18,7 @@ from stumpgarret import Field, Literal, Names, Refusal, Text, fields, list_scrip
 
 PUBLISHED = pathlib.Path(stumpgarret.SYSTEM_NAMES)
 MOST_LITERALS = 1024
+RANDOM_FILES = 2000
 # Pieces of scripts; none asks for a name.
 PIECES = ["f'{x}'", "f'{a!r:>{w}}'", "rf'{y}\\n'", "f'{f\"{c=}\"}'", "f'{(]}'", "f'}'", "'", '"""', "# it's\n", "\\x41", "N{", "\n"]
 
@@ -208,6 +211,101 @@ class Readings(Refuses):
             for call in (rows, list_script):
                 self.wrong_type(said, call, "", wrong)
             self.wrong_type(said, fields, "", "a.py", wrong)
+
+
+class Random(unittest.TestCase):
+    """Random files and indexes against the model."""
+
+    def called(self, name, *lent):
+        answer = (ctypes.c_uint32 * 12)(*12 * [7])
+        stumpgarret._function(name)(*lent, answer)
+        return list(answer)
+
+    def reading(self, name, body, file, index):
+        """The answer, the words and the text of a string literal."""
+        run = 0, 0, 0, len(body), 0, len(body) + 2
+        listed, lent = (ctypes.c_uint32 * 6)(*run), (ctypes.c_uint32 * len(index))(*index)
+        words, text = (ctypes.c_uint32 * 9)(*9 * [7]), (ctypes.c_char * 9)(*9 * b"\7")
+        given = body, len(body), listed, 6, file, len(file), lent, len(lent), words, 9, text, 9
+        return self.called(name, *given), list(words), text.raw
+
+    def test_build_and_check(self):
+        chance = random.Random(60)
+        seen = collections.Counter()
+        for _ in range(RANDOM_FILES):
+            file = names_model.random_file(chance)
+            room = chance.choice([9, 9, chance.randrange(9)])
+            index = (ctypes.c_uint32 * room)(*room * [7])
+            answer = self.called("names_build", file, len(file), index, room)
+            built = names_model.build(file, room)
+            number, numbers = (0, built) if isinstance(built, list) else (built, [])
+            with self.subTest(file=file, room=room):
+                self.assertEqual(answer, [number, len(numbers), *10 * [0]])
+                self.assertEqual(list(index), room * [0] if number else numbers + (room - len(numbers)) * [7])
+            seen["build", number] += 1
+            lent = names_model.random_index(chance, file)
+            answer = self.called("names_check", file, len(file), (ctypes.c_uint32 * len(lent))(*lent), len(lent))
+            checked = names_model.check(file, lent)
+            with self.subTest(file=file, lent=lent):
+                accepted = isinstance(checked, list)
+                self.assertEqual(answer, [0 if accepted else checked, len(lent) if accepted else 0, *10 * [0]])
+            seen["check", answer[0]] += 1
+        met = [("build", number) for number in (0, 60, 61, 62)] + [("check", number) for number in (0, 60, 61, 63)]
+        self.assertGreater(min(seen[key] for key in met), RANDOM_FILES // 50, seen)
+
+    def test_many_names(self):
+        """A name that stands twice is told wherever its lines are, also where the index has no room or is wrong."""
+        chance = random.Random(61)
+        for count in (1, 2, 100, 4095, 4096, 4097, 9000):
+            names = [b"%d" % number for number in range(count)]
+            chance.shuffle(names)
+            for more in ([], [names[0]], [names[-1]], [chance.choice(names)]):
+                at = chance.randrange(count + 1)
+                listed = names[:at] + more + names[at:]
+                file = b"".join(b"2603;" + name + 13 * b";" + b"\n" for name in listed)
+                built = names_model.index_of(file)
+                for room in (len(listed), count - 1, 0):
+                    index = (ctypes.c_uint32 * room)()
+                    answer = self.called("names_build", file, len(file), index, room)
+                    number = 61 if more else 62 if room < count else 0
+                    self.assertEqual((answer[0], list(index)), (number, room * [0] if number else built))
+                for lent, number in (([*range(1, count + 1)], 63), ([], 63), ([] if more else built, 0)):
+                    numbers = (ctypes.c_uint32 * len(lent))(*lent)
+                    answer = self.called("names_check", file, len(file), numbers, len(lent))
+                    self.assertEqual(answer[0], 61 if more else number)
+
+    def test_search(self):
+        """By any index; where the check passes, a reading that checks gives the same, and else its number."""
+        chance = random.Random(63)
+        seen = collections.Counter()
+        for _ in range(RANDOM_FILES):
+            file = names_model.random_file(chance)
+            index = names_model.random_index(chance, file)
+            name = chance.choice([*names_model.NAMES, b"N", b""])
+            body = b"\\N{" + name + b"}"
+            if b"\xff" in name:
+                continue
+            code = names_model.searched(file, index, name)
+            found = self.reading("read_searched", body, file, index)
+            with self.subTest(file=file, index=index, name=name):
+                refused = [13, 0, 4, 0, 0, 0, 0, 3, 3, 0, 0, 0]
+                if code is None:
+                    self.assertEqual(found, (refused, 9 * [0], bytes(9)))
+                else:
+                    text = chr(code).encode()
+                    answer = [0, 0, 0, 0, len(body) + 2, 1, len(text), 0, len(body), 0, 0, 0]
+                    record = [1, 0, len(text), 0, len(body) + 2, 0, 0, 0, 7]
+                    self.assertEqual(found, (answer, record, text.ljust(9, b"\7")))
+                checked = names_model.check(file, index)
+                named = self.reading("read_named", body, file, index)
+                if isinstance(checked, list):
+                    self.assertEqual(named, found)
+                    held = {one: code for one, code, _ in names_model.names_of(file)}
+                    self.assertEqual(code, held.get(name))
+                else:
+                    self.assertEqual(named, ([checked, *11 * [0]], 9 * [0], bytes(9)))
+                seen[code is None, isinstance(checked, list)] += 1
+        self.assertGreater(min(seen[key] for key in ((0, 0), (0, 1), (1, 0), (1, 1))), RANDOM_FILES // 100, seen)
 
 
 class Scripts(Refuses):
