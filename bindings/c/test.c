@@ -798,6 +798,36 @@ static void reads_long_names(void)
     }
 }
 
+/* A search takes a file that is refused, and an index that is not the file's. */
+static void searches_unchecked(void)
+{
+    static const struct {
+        const char *file;
+        uint32_t index[2];
+        size_t entries;
+    } rows[] = {
+        {SNOW "no line", {0, 0}, 1},
+        {"2745;SNOW", {0, 0}, 1},
+        {SNOW SNOW, {sizeof SNOW - 1, 0}, 2},
+        {SNOW COMET, {0, 0}, 1},
+        {COMET SNOW, {UINT32_MAX, sizeof COMET - 1}, 2},
+    };
+    static const uint32_t literal[] = {STUMPGARRET_STRING, 0, 1, 8, 0, 10};
+    static const uint32_t numbers[STUMPGARRET_ANSWER_NUMBERS] = {
+        STUMPGARRET_ACCEPTED, STUMPGARRET_PLAIN, 0, 0, 10, 1, 3, 0, 8,
+    };
+    static const uint32_t record[] = {STUMPGARRET_LITERAL_RECORD, 0, 3, 0, 10, 0, 0, 0};
+    for (size_t i = 0; i < COUNT(rows); i++) {
+        named_with(stumpgarret_read_searched, "'\\N{SNOW}'", literal, COUNT(literal), rows[i].file,
+                   rows[i].index, rows[i].entries, WORDS, TEXT);
+        accepted(numbers, record, "\xe2\x9d\x85");
+        named_with(stumpgarret_read_named, "'\\N{SNOW}'", literal, COUNT(literal), rows[i].file,
+                   rows[i].index, rows[i].entries, WORDS, TEXT);
+        if (answer[STUMPGARRET_ANSWER_NUMBER] < STUMPGARRET_LINE_MALFORMED)
+            fail("number of row", i, answer[STUMPGARRET_ANSWER_NUMBER], STUMPGARRET_WRONG_INDEX);
+    }
+}
+
 /* What a reading with names gives is what the check says of file and index, after the entry checks, and
    else what a search gives. */
 static void named_is_checked_and_searched(void)
@@ -852,6 +882,8 @@ static void named_is_checked_and_searched(void)
         memcpy(searched_text, text, sizeof text);
         memcpy(searched_answer, answer, sizeof answer);
         uint32_t searched = answer[STUMPGARRET_ANSWER_NUMBER];
+        if (searched >= STUMPGARRET_LINE_MALFORMED)
+            fail("number of a search in file", f, searched, STUMPGARRET_NAME_NOT_HELD);
         named_with(stumpgarret_read_named, body, literal, COUNT(literal), files[f], indexes[x],
                    entries, words_length, text_length);
         seen[answer[STUMPGARRET_ANSWER_NUMBER]] = 1;
@@ -958,6 +990,7 @@ int main(void)
     refuses_long_files();
     reads_named();
     reads_long_names();
+    searches_unchecked();
     named_is_checked_and_searched();
     lists_fields_named();
     printf("bindings/c: %d checks passed\n", checks);
