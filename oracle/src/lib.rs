@@ -20,7 +20,7 @@ mod string {
     include!(env!("STUMPGARRET_PATCHED_STRING_RS"));
 }
 
-pub use standins::HELD_NAMES;
+pub use standins::{with_names, Names, HELD_NAMES};
 
 pub mod answer;
 pub mod listing;

@@ -1,7 +1,9 @@
 //! Stand-ins for what string.rs imports: no more of each than string.rs asks for.
 //! They are not the crates they stand for, so those are not compared.
 
+use std::cell::RefCell;
 use std::fmt::Display;
+use std::rc::Rc;
 
 use ast::Expr;
 use text_size::TextSize;
@@ -268,8 +270,26 @@ pub const HELD_NAMES: [(&str, char); 14] = [
     ("GREATER-THAN OR EQUAL TO", '\u{2265}'),
 ];
 
+/// The characters of names, as a lent file has them.
+pub type Names = dyn Fn(&str) -> Option<char>;
+
+thread_local! {
+    static LENT: RefCell<Option<Rc<Names>>> = const { RefCell::new(None) };
+}
+
+/// What is read meanwhile has these names in place of the held ones.
+pub fn with_names<T>(names: Rc<Names>, read: impl FnOnce() -> T) -> T {
+    LENT.set(Some(names));
+    let given = read();
+    LENT.set(None);
+    given
+}
+
 /// Stands in for `unicode_names2::character`.
 pub fn character(name: &str) -> Option<char> {
+    if let Some(names) = LENT.with_borrow(Clone::clone) {
+        return names(name);
+    }
     HELD_NAMES.iter().find(|(held, _)| *held == name).map(|&(_, code)| code)
 }
 
