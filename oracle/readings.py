@@ -80,13 +80,13 @@ def numbers_of(source):
     return numbers
 
 
-def ask(how, questions):
-    """The reference's readings; a question is (script bytes, list of numbers)."""
+def ask(how, questions, *names):
+    """The reference's readings, with the names of a file if one is named; a question is (script bytes, list of numbers)."""
     lines = [
         " ".join(map(str, numbers)) + " | " + script.hex() for script, numbers in questions
     ]
     answered = subprocess.run(
-        [os.path.join(TARGET, "ask"), how],
+        [os.path.join(TARGET, "ask"), how, *names],
         input="".join(line + "\n" for line in lines),
         capture_output=True,
         text=True,
@@ -95,8 +95,8 @@ def ask(how, questions):
     return [reading_of(line) for line in answered.stdout.splitlines()]
 
 
-def ask_sources(how, sources):
-    return ask(how, [(source.encode(), numbers_of(source)) for source in sources])
+def ask_sources(how, sources, *names):
+    return ask(how, [(source.encode(), numbers_of(source)) for source in sources], *names)
 
 
 def reading_of(line):

@@ -3,6 +3,8 @@
 //!   ask rust    what the published Rust gives (1, 2, 4 and 6 stand for lists it cannot take)
 //!   ask rules   what the rules expect, with room enough
 //!
+//! A file of names may follow: names are then those of the file.
+//!
 //! A question is the list's numbers and, last, the script in hexadecimal after a `|`:
 //!
 //!   1 0 2 3 0 6 | 6622 7b787d 22     (blanks between hexadecimal digits are passed over)
@@ -10,8 +12,13 @@
 //! The answer is `refused NUMBER LITERAL PLACE DETAIL DETAIL`, or
 //! `accepted SORT U_MARK FIRST_START LAST_END | WORDS | TEXT IN HEXADECIMAL`.
 
+#[allow(dead_code)]
+#[path = "files/model.rs"]
+mod model;
+
 use std::io::{self, BufRead, Write};
 use std::process::ExitCode;
+use std::rc::Rc;
 
 use oracle::answer::{Acceptance, Outcome};
 use oracle::rules;
@@ -23,17 +30,28 @@ fn main() -> ExitCode {
         Some("rust") => rules::reading_by_the_rust,
         Some("rules") => rules::reading,
         _ => {
-            eprintln!("usage: ask rust | ask rules");
+            eprintln!("usage: ask rust [FILE] | ask rules [FILE]");
             return ExitCode::from(2);
         }
     };
+    let names = std::env::args().nth(2).map(|path| names(&path));
     let mut answers = io::stdout().lock();
     for line in io::stdin().lock().lines() {
         let line = line.expect("a readable line");
         let (script, list) = question(&line).unwrap_or_else(|| panic!("not a question: {line}"));
-        writeln!(answers, "{}", answer(&read(&script, &list))).expect("a writable output");
+        let outcome = match &names {
+            Some(names) => oracle::with_names(names.clone(), || read(&script, &list)),
+            None => read(&script, &list),
+        };
+        writeln!(answers, "{}", answer(&outcome)).expect("a writable output");
     }
     ExitCode::SUCCESS
+}
+
+fn names(path: &str) -> Rc<oracle::Names> {
+    let file = std::fs::read(path).expect("a readable file of names");
+    let names = model::names(&file).expect("a sound file of names");
+    Rc::new(move |name| model::lookup(&names, name.as_bytes()))
 }
 
 fn question(line: &str) -> Option<(Vec<u8>, Vec<u32>)> {

@@ -24,6 +24,7 @@ TABLES = (
     differences.RANGES_FROM_PYTHON,
     differences.FROM_THE_RUST,
     differences.NAMES_HELD,
+    differences.NAMES_OF_THE_FILE,
     test_tokenize.ROWS,
     test_listing.ROWS,
 )
@@ -46,6 +47,10 @@ WITH_A_FIELD = {
     test_listing.QUOTE: [next(row[1] for row in test_listing.ROWS if "field lost" in row[0])],
     "13: name not held": [r"f'{x}\N{SNOWMAN}'"],
     "13: held name in small letters": [r"f'{x}\N{infinity}'"],
+    "13: name of the file in small letters": [r"f'{x}\N{snowman}'"],
+    "13: alias of a name": [r"f'{x}\N{LINE FEED}'"],
+    "13: ideograph that is named by rule": [r"f'{x}\N{CJK UNIFIED IDEOGRAPH-6E2C}'"],
+    "13: syllable that is named by rule": [r"f'{x}\N{HANGUL SYLLABLE GA}'"],
 }
 
 
