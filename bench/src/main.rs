@@ -1,15 +1,17 @@
 //! Times the library and the published Rust on the same inputs, in one process.
 //!
-//!   bench LIBRARY_RUNS LIBRARY_SCRIPTS
+//!   bench LIBRARY_RUNS LIBRARY_SCRIPTS [UNICODE_DATA]
 //!
 //! LIBRARY_RUNS has runs of literals, as crates/try_readings takes them. LIBRARY_SCRIPTS has scripts, as
-//! bench/library-scripts writes them. Where the Rust's source was not at hand, the library is timed alone.
+//! bench/library-scripts writes them. UNICODE_DATA is the file of names that Unicode publishes. Where the Rust's
+//! source was not at hand, the library is timed alone.
 
 #[allow(dead_code)]
 #[path = "../../bindings/rust/src/call.rs"]
 mod call;
 mod inputs;
 mod listing;
+mod names;
 mod reference {
     include!(env!("STUMPGARRET_REFERENCE_RS"));
 }
@@ -47,7 +49,7 @@ struct Times {
 }
 
 fn main() {
-    let usage = "usage: bench LIBRARY_RUNS LIBRARY_SCRIPTS";
+    let usage = "usage: bench LIBRARY_RUNS LIBRARY_SCRIPTS [UNICODE_DATA]";
     let runs = std::env::args().nth(1).expect(usage);
     let scripts = std::env::args().nth(2).expect(usage);
     let mut buffers = Buffers { words: vec![0; 8 << 20], text: vec![0; 4 << 20] };
@@ -67,6 +69,9 @@ fn main() {
         println!("bytes {:>8}: {:.3} ns/byte", size, per_byte(times.ours, &input));
     }
     listing::measure(&std::fs::read(scripts).expect("the scripts can be read"));
+    if let Some(names) = std::env::args().nth(3) {
+        names::measure(&std::fs::read(names).expect("the file of names can be read"));
+    }
 }
 
 fn measure(input: &Input, buffers: &mut Buffers) -> Times {
