@@ -53,24 +53,24 @@ Told tooLong = Unit {0}
 Told (wrongNames n) = 60 ≤ n
 Told (short m) = Unit {0}
 
-pub list-one : (x y : Fields) → Told x → Told y → (b b′ : List ℕ) → ((k : ℕ) → word (fieldsNumbers x) k ≡ word (fieldsNumbers y) k) → fieldsAfter x b ≡ fieldsAfter y b′ → x ≡ y
+pub one-list : (x y : Fields) → Told x → Told y → (b b′ : List ℕ) → ((k : ℕ) → word (fieldsNumbers x) k ≡ word (fieldsNumbers y) k) → fieldsAfter x b ≡ fieldsAfter y b′ → x ≡ y
 unfolding fieldsNumbers fieldsAfter
-list-one (fields rs l c) (fields qs m d) h k b b′ n e = let t = rows-same rs qs _ _ (n 1) e in λ i. fields (t i) (n 3 i) (n 4 i)
-list-one (fields rs l c) tooLong h k b b′ n e = let z = n 0 in absurd (omega arith)
-list-one (fields rs l c) (wrongNames m) h k b b′ n e = let z = n 0 in absurd (omega arith)
-list-one (fields rs l c) (short m) h k b b′ n e = let z = n 0 in absurd (omega arith)
-list-one tooLong (fields qs m d) h k b b′ n e = let z = n 0 in absurd (omega arith)
-list-one tooLong tooLong h k b b′ n e = refl
-list-one tooLong (wrongNames m) h k b b′ n e = let z = n 0 in absurd (omega arith)
-list-one tooLong (short m) h k b b′ n e = let z = n 0 in absurd (omega arith)
-list-one (wrongNames m) (fields qs l d) h k b b′ n e = let z = n 0 in absurd (omega arith)
-list-one (wrongNames m) tooLong h k b b′ n e = let z = n 0 in absurd (omega arith)
-list-one (wrongNames m) (wrongNames o) h k b b′ n e = ap wrongNames (n 0)
-list-one (wrongNames m) (short o) h k b b′ n e = let z = n 0 in absurd (omega arith)
-list-one (short m) (fields qs l d) h k b b′ n e = let z = n 0 in absurd (omega arith)
-list-one (short m) tooLong h k b b′ n e = let z = n 0 in absurd (omega arith)
-list-one (short m) (wrongNames o) h k b b′ n e = let z = n 0 in absurd (omega arith)
-list-one (short m) (short o) h k b b′ n e = ap short (n 9)
+one-list (fields rs l c) (fields qs m d) h k b b′ n e = let t = rows-same rs qs _ _ (n 1) e in λ i. fields (t i) (n 3 i) (n 4 i)
+one-list (fields rs l c) tooLong h k b b′ n e = let z = n 0 in absurd (omega arith)
+one-list (fields rs l c) (wrongNames m) h k b b′ n e = let z = n 0 in absurd (omega arith)
+one-list (fields rs l c) (short m) h k b b′ n e = let z = n 0 in absurd (omega arith)
+one-list tooLong (fields qs m d) h k b b′ n e = let z = n 0 in absurd (omega arith)
+one-list tooLong tooLong h k b b′ n e = refl
+one-list tooLong (wrongNames m) h k b b′ n e = let z = n 0 in absurd (omega arith)
+one-list tooLong (short m) h k b b′ n e = let z = n 0 in absurd (omega arith)
+one-list (wrongNames m) (fields qs l d) h k b b′ n e = let z = n 0 in absurd (omega arith)
+one-list (wrongNames m) tooLong h k b b′ n e = let z = n 0 in absurd (omega arith)
+one-list (wrongNames m) (wrongNames o) h k b b′ n e = ap wrongNames (n 0)
+one-list (wrongNames m) (short o) h k b b′ n e = let z = n 0 in absurd (omega arith)
+one-list (short m) (fields qs l d) h k b b′ n e = let z = n 0 in absurd (omega arith)
+one-list (short m) tooLong h k b b′ n e = let z = n 0 in absurd (omega arith)
+one-list (short m) (wrongNames o) h k b b′ n e = let z = n 0 in absurd (omega arith)
+one-list (short m) (short o) h k b b′ n e = ap short (n 9)
 
 pub fields-told : (look : Naming) (s : List ℕ) (room : ℕ) → Told (fieldsOf look s room)
 unfolding fieldsOf
@@ -86,4 +86,4 @@ pub fields-one : (look look′ : Naming) (script buffer script′ buffer′ : Li
     → fieldsInto look script buffer .rows ≡ fieldsInto look′ script′ buffer′ .rows → fieldsInto look script buffer .listed ≡ fieldsInto look′ script′ buffer′ .listed
 unfolding fieldsInto fieldsCall
 fields-one look look′ script buffer script′ buffer′ n e =
-    list-one (fieldsOf look script (length buffer)) (fieldsOf look′ script′ (length buffer′)) (fields-told look script (length buffer)) (fields-told look′ script′ (length buffer′)) buffer buffer′ n e
+    one-list (fieldsOf look script (length buffer)) (fieldsOf look′ script′ (length buffer′)) (fields-told look script (length buffer)) (fields-told look′ script′ (length buffer′)) buffer buffer′ n e

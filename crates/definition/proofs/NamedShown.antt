@@ -22,7 +22,7 @@ use Rattle.definition.proofs.CharLaws.{cases}
 use Rattle.definition.proofs.EntrySplit.{entry-left, entry-right}
 use Rattle.definition.proofs.JoinLaw.{read-join, called-join, sixes-append}
 use Rattle.definition.proofs.CompleteLaw.{CompleteCall, fields-complete}
-use Rattle.definition.proofs.ListingOne.{Told, list-one, fields-told}
+use Rattle.definition.proofs.ListingOne.{Told, one-list, fields-told}
 use Rattle.definition.proofs.NamesShown.{searched-checked}
 
 -- WHAT THE CHECK REFUSES has a number of 60 on, and nothing else
@@ -149,7 +149,7 @@ pub named-fields-one : (file index script buffer file′ index′ script′ buff
     → fieldsNamedInto file index script buffer .listed ≡ fieldsNamedInto file′ index′ script′ buffer′ .listed
 unfolding fieldsNamedInto fieldsCall
 named-fields-one file index script buffer file′ index′ script′ buffer′ n e =
-    list-one (fieldsNamedOf file index script (length buffer)) (fieldsNamedOf file′ index′ script′ (length buffer′)) (named-told file index script (length buffer)) (named-told file′ index′ script′ (length buffer′)) buffer buffer′ n e
+    one-list (fieldsNamedOf file index script (length buffer)) (fieldsNamedOf file′ index′ script′ (length buffer′)) (named-told file index script (length buffer)) (named-told file′ index′ script′ (length buffer′)) buffer buffer′ n e
 
 -- THE AUDITOR'S THEOREM with a file: a list was given, and the count of refusals is 0
 named-into : (file index s buffer : List ℕ) → ofNames file index ≡ none → fieldsNamedInto file index s buffer ≡ fieldsInto (lookupFile file) s buffer

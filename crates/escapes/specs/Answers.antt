@@ -1,7 +1,6 @@
 -- What an answer says, in the definition's terms.
 use Prim.Native.Nat.{ℕ}
-use mathlib.Core.Bool.{Bool, true, false}
-use mathlib.Core.List.{List}
+use mathlib.Core.List.{List, [], _∷_}
 use lib.ListN.{getD}
 use Rattle.definition.specs.Chars.{ascii}
 use Rattle.definition.specs.Escapes.{fault, Read, got, refused, Meaning, stands, stays, vanishes, held, Naming, heldNames}
@@ -20,7 +19,7 @@ says (Refused r) = refused (fault (r .number) (r .at))
 abbrev pub heldName : ℕ → List ℕ
 heldName k = ascii (getD held k ("", 0) .0)
 
--- the lookup of a reading: by a search of a file if one is lent, with an index beside it, else among the held names
-abbrev pub namesBy : (lent : Bool) (file index : List ℕ) → Naming
-namesBy true file index = searched file index
-namesBy false file index = heldNames
+-- the lookup of a reading: by a search of a lent file; where that is empty, among the held names
+unfoldable pub namesBy : (file index : List ℕ) → Naming
+namesBy [] index = heldNames
+namesBy (b ∷ file) index = searched (b ∷ file) index

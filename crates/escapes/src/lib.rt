@@ -187,19 +187,19 @@ fn code_of(name: &[u8]) -> u32
     NO_CODE
 }
 
-// The code of a name: in a file that is lent, by its index, else among the held ones.
-fn code_in(name: &[u8], lent: bool, file: &[u8], index: &[u32]) -> u32
-    ensures { λ r. ⌜ r ≡ namesBy lent (now (file .entry)) (now (index .entry)) (now (name .entry)) ⌝ }
+// The code of a name: in a lent file, by its index; where that is empty, among the held ones.
+fn code_in(name: &[u8], file: &[u8], index: &[u32]) -> u32
+    ensures { λ r. ⌜ r ≡ namesBy (now (file .entry)) (now (index .entry)) (now (name .entry)) ⌝ }
 {
-    if lent {
-        return names::look_up(file, index, name);
+    if file.len() == 0 {
+        return code_of(name);
     }
-    code_of(name)
+    names::look_up(file, index, name)
 }
 
 // A name in braces, after the `N`.
-fn parse_unicode_name(s: &[u8], from: Cursor, lent: bool, file: &[u8], index: &[u32]) -> Escaped
-    ensures { λ r. ⌜ says r ≡ unicodeName (namesBy lent (now (file .entry)) (now (index .entry))) (now (s .entry)) (from .at) ⌝ }
+fn parse_unicode_name(s: &[u8], from: Cursor, file: &[u8], index: &[u32]) -> Escaped
+    ensures { λ r. ⌜ says r ≡ unicodeName (namesBy (now (file .entry)) (now (index .entry))) (now (s .entry)) (from .at) ⌝ }
 {
     let at = from.at;
     let Step::Char(c, inner) = from.next_char(s) else {
@@ -218,23 +218,16 @@ fn parse_unicode_name(s: &[u8], from: Cursor, lent: bool, file: &[u8], index: &[
     if 88 < end - start {
         return refuse(UNICODE_ERROR, past);
     }
-    let code = code_in(&s[start..end], lent, file, index);
+    let code = code_in(&s[start..end], file, index);
     if code == NO_CODE {
         return refuse(NAME_NOT_HELD, start);
     }
     Escaped::Code(code, Cursor { at: past })
 }
 
-// The escape whose backslash was just taken; names are looked up in a file if one is lent, with an index beside it.
-pub fn parse_escaped_char(
-    s: &[u8],
-    from: Cursor,
-    kind: u32,
-    lent: bool,
-    file: &[u8],
-    index: &[u32],
-) -> Escaped
-    ensures { λ r. ⌜ says r ≡ escape (namesBy lent (now (file .entry)) (now (index .entry))) kind (now (s .entry)) (from .at) ⌝ }
+// The escape whose backslash was just taken; names are looked up in a lent file by its index, or where that is empty among the held ones.
+pub fn parse_escaped_char(s: &[u8], from: Cursor, kind: u32, file: &[u8], index: &[u32]) -> Escaped
+    ensures { λ r. ⌜ says r ≡ escape (namesBy (now (file .entry)) (now (index .entry))) kind (now (s .entry)) (from .at) ⌝ }
 {
     let Step::Char(c, next) = from.next_char(s) else {
         return refuse(STRING_ERROR, from.at);
@@ -271,7 +264,7 @@ pub fn parse_escaped_char(
             if bytes {
                 Escaped::Kept(next)
             } else {
-                parse_unicode_name(s, next, lent, file, index)
+                parse_unicode_name(s, next, file, index)
             }
         }
         10 => Escaped::Gone(next),

@@ -41,16 +41,16 @@ fn own_rows(s: &[u8], f: Field) -> usize
 }
 
 // The first rows of a block, with those of their sources.
-fn count_block(s: &[u8], block: &[u32], n: usize, lent: bool, file: &[u8], index: &[u32]) -> usize
-    requires { ⌜ Block (namesBy lent (now file) (now index)) (now s) (now block) n ⌝ }
-    ensures { λ r. ⌜ r ≡ total (namesBy lent (now (file .entry)) (now (index .entry))) (now (s .entry)) (rowsIn (now (block .entry)) 0 n) ⌝ }
+fn count_block(s: &[u8], block: &[u32], n: usize, file: &[u8], index: &[u32]) -> usize
+    requires { ⌜ Block (namesBy (now file) (now index)) (now s) (now block) n ⌝ }
+    ensures { λ r. ⌜ r ≡ total (namesBy (now (file .entry)) (now (index .entry))) (now (s .entry)) (rowsIn (now (block .entry)) 0 n) ⌝ }
 {
     let mut rows = 0;
     let mut i = 0;
     while i < n {
         let f = field_at(block, i);
         let own = own_rows(s, f);
-        let below = count_part(s, f.place as usize, source_end(f), lent, file, index);
+        let below = count_part(s, f.place as usize, source_end(f), file, index);
         rows += own + below;
         i += 1;
     }
@@ -58,31 +58,31 @@ fn count_block(s: &[u8], block: &[u32], n: usize, lent: bool, file: &[u8], index
 }
 
 // Up to 128 rows of an f-string from a number on, with those of their sources.
-fn count_window(s: &[u8], l: Literal, seen: usize, lent: bool, file: &[u8], index: &[u32]) -> Window
-    requires { ⌜ Found (now s) (literalOf l) × (isFString (l .kind) ≡ true) × (seen < 4294967296) × (1 ≤ seen → seen < length (readRows (namesBy lent (now file) (now index)) (now s) 0 (literalOf l))) ⌝ }
-    ensures { λ r. ⌜ Seen (namesBy lent (now (file .entry)) (now (index .entry))) (now (s .entry)) (readRows (namesBy lent (now (file .entry)) (now (index .entry))) (now (s .entry)) 0 (literalOf l)) seen r ⌝ }
+fn count_window(s: &[u8], l: Literal, seen: usize, file: &[u8], index: &[u32]) -> Window
+    requires { ⌜ Found (now s) (literalOf l) × (isFString (l .kind) ≡ true) × (seen < 4294967296) × (1 ≤ seen → seen < length (readRows (namesBy (now file) (now index)) (now s) 0 (literalOf l))) ⌝ }
+    ensures { λ r. ⌜ Seen (namesBy (now (file .entry)) (now (index .entry))) (now (s .entry)) (readRows (namesBy (now (file .entry)) (now (index .entry))) (now (s .entry)) 0 (literalOf l)) seen r ⌝ }
 {
     let mut block = [0u32; 1280];
-    match read_alone(s, l, 0, seen as u32, &mut block, lent, file, index) {
+    match read_alone(s, l, 0, seen as u32, &mut block, file, index) {
         Alone::Refused(_) => Window { all: 1, rows: 1 },
         Alone::Fields(n) => {
             let some = lesser(n - seen, 128);
-            let rows = count_block(s, &block, some, lent, file, index);
+            let rows = count_block(s, &block, some, file, index);
             Window { all: n, rows }
         }
     }
 }
 
 // The rows of a literal, with those of their sources. Only f-strings are read.
-fn count_literal(s: &[u8], l: Literal, lent: bool, file: &[u8], index: &[u32]) -> usize
+fn count_literal(s: &[u8], l: Literal, file: &[u8], index: &[u32]) -> usize
     requires { ⌜ Found (now s) (literalOf l) ⌝ }
-    ensures { λ r. ⌜ r ≡ total (namesBy lent (now (file .entry)) (now (index .entry))) (now (s .entry)) (readRows (namesBy lent (now (file .entry)) (now (index .entry))) (now (s .entry)) 0 (literalOf l)) ⌝ }
+    ensures { λ r. ⌜ r ≡ total (namesBy (now (file .entry)) (now (index .entry))) (now (s .entry)) (readRows (namesBy (now (file .entry)) (now (index .entry))) (now (s .entry)) 0 (literalOf l)) ⌝ }
 {
     let mut rows = 0;
     let mut seen = 0;
     if is_fstring(l.kind) {
         loop {
-            let w = count_window(s, l, seen, lent, file, index);
+            let w = count_window(s, l, seen, file, index);
             rows += w.rows;
             seen += 128;
             if w.all <= seen {
@@ -94,16 +94,9 @@ fn count_literal(s: &[u8], l: Literal, lent: bool, file: &[u8], index: &[u32]) -
 }
 
 // The rows of a part of the script, with those of their sources.
-pub(crate) fn count_part(
-    s: &[u8],
-    from: usize,
-    end: usize,
-    lent: bool,
-    file: &[u8],
-    index: &[u32],
-) -> usize
+pub(crate) fn count_part(s: &[u8], from: usize, end: usize, file: &[u8], index: &[u32]) -> usize
     requires { ⌜ Bounded (now s) from end 0 ⌝ }
-    ensures { λ r. ⌜ r ≡ total (namesBy lent (now (file .entry)) (now (index .entry))) (now (s .entry)) (cutRows (namesBy lent (now (file .entry)) (now (index .entry))) (now (s .entry)) 0 (cutPart (now (s .entry)) from end)) ⌝ }
+    ensures { λ r. ⌜ r ≡ total (namesBy (now (file .entry)) (now (index .entry))) (now (s .entry)) (cutRows (namesBy (now (file .entry)) (now (index .entry))) (now (s .entry)) 0 (cutPart (now (s .entry)) from end)) ⌝ }
 {
     let mut at = from;
     let mut rows = 0;
@@ -119,7 +112,7 @@ pub(crate) fn count_part(
                 return rows + 1;
             }
             Next::Literal(l) => {
-                rows += count_literal(s, l, lent, file, index);
+                rows += count_literal(s, l, file, index);
                 at = l.end as usize;
             }
         }

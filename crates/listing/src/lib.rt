@@ -13,10 +13,14 @@ ghost use Prim.Native.Nat.{_*_, _≤_};
 ghost use lib.ListN.{length};
 ghost use Rattle.definition.specs.Listing.{refusalsIn, fieldsInto};
 ghost use Rattle.definition.specs.Escapes.{heldNames};
+ghost use Rattle.definition.specs.Names.{searched};
 ghost use Rattle.definition.specs.NamedReading.{fieldsNamedInto};
 ghost use Rattle.escapes.specs.Answers.{namesBy};
 ghost use Rattle.listing.specs.Put.{rowsIn, refusal};
 ghost use Rattle.listing.specs.Answers.{Filled, CallIs};
+
+// What is searched as an empty file is, and is not empty.
+const NO_NAMES: [u8; 1] = *b";";
 
 // A list: its rows, how many of them are refusals, the literals of the script, and how far it was cut.
 pub struct List {
@@ -35,12 +39,12 @@ pub enum Fields {
 }
 
 // The rows of the script's cut and then those of the source of each row, as long as there is room.
-fn fill(script: &[u8], rows: &mut [u32], lent: bool, file: &[u8], index: &[u32]) -> Part
+fn fill(script: &[u8], rows: &mut [u32], file: &[u8], index: &[u32]) -> Part
     requires { ⌜ length (now script) ≤ 1048576 ⌝ }
-    ensures { λ r. ⌜ Filled (namesBy lent (now (file .entry)) (now (index .entry))) (now (script .entry)) (now (rows .entry)) (now (rows .exit)) r ⌝ }
+    ensures { λ r. ⌜ Filled (namesBy (now (file .entry)) (now (index .entry))) (now (script .entry)) (now (rows .entry)) (now (rows .exit)) r ⌝ }
 {
     let room = rows.len() / 10;
-    let first = cut_rows(script, 0, script.len(), 0, rows, 0, lent, file, index);
+    let first = cut_rows(script, 0, script.len(), 0, rows, 0, file, index);
     let mut count = first.count;
     let mut i = 0;
     while i < count {
@@ -51,7 +55,7 @@ fn fill(script: &[u8], rows: &mut [u32], lent: bool, file: &[u8], index: &[u32])
                 to: first.to,
             };
         }
-        count = source_rows(script, rows, i, count, lent, file, index);
+        count = source_rows(script, rows, i, count, file, index);
         i += 1;
     }
     Part {
@@ -86,16 +90,16 @@ fn refusals_in(rows: &[u32], count: usize) -> usize
     n
 }
 
-// Lists every field of a script that is not too long: names are looked up in a file if one is lent, with an index beside it.
-fn list_by(script: &[u8], rows: &mut [u32], lent: bool, file: &[u8], index: &[u32]) -> Fields
+// Lists every field of a script that is not too long: names are looked up in a lent file by its index, or where that is empty among the held ones.
+fn list_by(script: &[u8], rows: &mut [u32], file: &[u8], index: &[u32]) -> Fields
     requires { ⌜ length (now script) ≤ 1048576 ⌝ }
-    ensures { λ r. ⌜ CallIs (fieldsInto (namesBy lent (now (file .entry)) (now (index .entry))) (now (script .entry)) (now (rows .entry))) (now (rows .exit)) r ⌝ }
+    ensures { λ r. ⌜ CallIs (fieldsInto (namesBy (now (file .entry)) (now (index .entry))) (now (script .entry)) (now (rows .entry))) (now (rows .exit)) r ⌝ }
 {
-    let filled = fill(script, rows, lent, file, index);
+    let filled = fill(script, rows, file, index);
     let count = filled.count;
     if rows.len() / 10 < count {
         fill_words(rows, 0);
-        return Fields::Short(count_part(script, 0, script.len(), lent, file, index) as u32);
+        return Fields::Short(count_part(script, 0, script.len(), file, index) as u32);
     }
     Fields::Listed(List {
         rows: count as u32,
@@ -115,7 +119,19 @@ pub fn list_fields(script: &[u8], rows: &mut [u32]) -> Fields
     }
     let file = [0u8; 0];
     let index = [0u32; 0];
-    list_by(script, rows, false, &file, &index)
+    list_by(script, rows, &file, &index)
+}
+
+// The same, with names searched in a file by whatever index is lent.
+fn list_searched(script: &[u8], rows: &mut [u32], file: &[u8], index: &[u32]) -> Fields
+    requires { ⌜ length (now script) ≤ 1048576 ⌝ }
+    ensures { λ r. ⌜ CallIs (fieldsInto (searched (now (file .entry)) (now (index .entry))) (now (script .entry)) (now (rows .entry))) (now (rows .exit)) r ⌝ }
+{
+    if file.len() == 0 {
+        let none = NO_NAMES;
+        return list_by(script, rows, &none, index);
+    }
+    list_by(script, rows, file, index)
 }
 
 // Lists them as `list_fields` does, with the names of a file, which is checked with its index once.
@@ -131,6 +147,6 @@ pub fn list_named(script: &[u8], file: &[u8], index: &[u32], rows: &mut [u32]) -
             fill_words(rows, 0);
             Fields::WrongNames(number)
         }
-        names::Answer::Entries(_) => list_by(script, rows, true, file, index),
+        names::Answer::Entries(_) => list_searched(script, rows, file, index),
     }
 }

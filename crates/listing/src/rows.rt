@@ -66,15 +66,14 @@ pub(crate) fn read_alone(
     within: u32,
     skip: u32,
     rows: &mut [u32],
-    lent: bool,
     file: &[u8],
     index: &[u32],
 ) -> Alone
     requires { ⌜ isFString (l .kind) ≡ true ⌝ }
-    ensures { λ r. ⌜ AloneIs (namesBy lent (now (file .entry)) (now (index .entry))) (now (s .entry)) (literalOf l) within skip (now (rows .entry)) (now (rows .exit)) r ⌝ }
+    ensures { λ r. ⌜ AloneIs (namesBy (now (file .entry)) (now (index .entry))) (now (s .entry)) (literalOf l) within skip (now (rows .entry)) (now (rows .exit)) r ⌝ }
 {
     let numbers = [l.kind, l.triple, l.offset, l.size, l.start, l.end];
-    match parse_window(s, &numbers, within, skip, rows, lent, file, index) {
+    match parse_window(s, &numbers, within, skip, rows, file, index) {
         Outcome::Accepted(x) => Alone::Fields(x.records as usize),
         Outcome::Refused(r) => Alone::Refused(Told {
             start: l.start,
@@ -113,15 +112,14 @@ fn fstring_rows(
     within: u32,
     rows: &mut [u32],
     count: usize,
-    lent: bool,
     file: &[u8],
     index: &[u32],
 ) -> usize
     requires { ⌜ (isFString (l .kind) ≡ true) × (count < 4294967296) ⌝ }
-    ensures { λ r. ⌜ Puts (readRows (namesBy lent (now (file .entry)) (now (index .entry))) (now (s .entry)) within (literalOf l)) (now (rows .entry)) (now (rows .exit)) count r ⌝ }
+    ensures { λ r. ⌜ Puts (readRows (namesBy (now (file .entry)) (now (index .entry))) (now (s .entry)) within (literalOf l)) (now (rows .entry)) (now (rows .exit)) count r ⌝ }
 {
     let mut none = [0u32; 0];
-    match read_alone(s, l, within, 0, &mut none, lent, file, index) {
+    match read_alone(s, l, within, 0, &mut none, file, index) {
         Alone::Refused(t) => {
             put_refusal(rows, count, within, t);
             count + 1
@@ -133,7 +131,7 @@ fn fstring_rows(
             }
             let from = count * 10;
             let end = to * 10;
-            read_alone(s, l, within, 0, &mut rows[from..end], lent, file, index);
+            read_alone(s, l, within, 0, &mut rows[from..end], file, index);
             to
         }
     }
@@ -146,15 +144,14 @@ fn literal_rows(
     within: u32,
     rows: &mut [u32],
     count: usize,
-    lent: bool,
     file: &[u8],
     index: &[u32],
 ) -> usize
     requires { ⌜ count < 4294967296 ⌝ }
-    ensures { λ r. ⌜ Puts (readRows (namesBy lent (now (file .entry)) (now (index .entry))) (now (s .entry)) within (literalOf l)) (now (rows .entry)) (now (rows .exit)) count r ⌝ }
+    ensures { λ r. ⌜ Puts (readRows (namesBy (now (file .entry)) (now (index .entry))) (now (s .entry)) within (literalOf l)) (now (rows .entry)) (now (rows .exit)) count r ⌝ }
 {
     if is_fstring(l.kind) {
-        return fstring_rows(s, l, within, rows, count, lent, file, index);
+        return fstring_rows(s, l, within, rows, count, file, index);
     }
     count
 }
@@ -167,12 +164,11 @@ pub(crate) fn cut_rows(
     within: u32,
     rows: &mut [u32],
     count: usize,
-    lent: bool,
     file: &[u8],
     index: &[u32],
 ) -> Part
     requires { ⌜ Bounded (now s) from end count ⌝ }
-    ensures { λ r. ⌜ PartIs (namesBy lent (now (file .entry)) (now (index .entry))) (now (s .entry)) from end within (now (rows .entry)) (now (rows .exit)) count r ⌝ }
+    ensures { λ r. ⌜ PartIs (namesBy (now (file .entry)) (now (index .entry))) (now (s .entry)) from end within (now (rows .entry)) (now (rows .exit)) count r ⌝ }
 {
     let mut at = from;
     let mut done = count;
@@ -210,7 +206,7 @@ pub(crate) fn cut_rows(
                 };
             }
             Next::Literal(l) => {
-                done = literal_rows(s, l, within, rows, done, lent, file, index);
+                done = literal_rows(s, l, within, rows, done, file, index);
                 literals += 1;
                 at = l.end as usize;
             }
@@ -261,12 +257,11 @@ pub(crate) fn source_rows(
     rows: &mut [u32],
     i: usize,
     count: usize,
-    lent: bool,
     file: &[u8],
     index: &[u32],
 ) -> usize
     requires { ⌜ Lies (now s) (now rows) i count ⌝ }
-    ensures { λ r. ⌜ Puts (sourceRows (namesBy lent (now (file .entry)) (now (index .entry))) (now (s .entry)) (i + 1) (rowAt (now (rows .entry)) i)) (now (rows .entry)) (now (rows .exit)) count r ⌝ }
+    ensures { λ r. ⌜ Puts (sourceRows (namesBy (now (file .entry)) (now (index .entry))) (now (s .entry)) (i + 1) (rowAt (now (rows .entry)) i)) (now (rows .entry)) (now (rows .exit)) count r ⌝ }
 {
     let at = i * 10;
     if rows[at] == REFUSAL {
@@ -282,7 +277,6 @@ pub(crate) fn source_rows(
         within,
         rows,
         told,
-        lent,
         file,
         index,
     );

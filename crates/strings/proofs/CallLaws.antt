@@ -1,11 +1,12 @@
 -- What a call answers and leaves, once all items are emitted and closed. Assumes nothing.
 use mathlib.Core.Path.{_≡_, refl, sym, _∙_, ap, ap₂, subst}
-use mathlib.Core.Bool.{true, false}
+use mathlib.Core.Bool.{Bool, true, false}
 use mathlib.Core.List.{List, [], _∷_, map}
 use mathlib.Core.Option.{none, some}
 use Prim.Native.Nat.{ℕ, _*_, _/_, _≤_}
 use native.Mathlib.Omega.{arith}
 use lib.ListN.{length, replicate}
+use Rattle.definition.specs.Chars.{if_then_else_}
 use Rattle.definition.specs.Records.{Role, covers, Item, Record, Answer, Sort, answerOf, merged, texts, laid, cover, wordsOf}
 use Rattle.definition.specs.Entry.{Literal, refusal, firstStart, anyOf}
 use Rattle.definition.specs.Numbers.{isBytes, isFString}
@@ -43,6 +44,15 @@ sort-bytes ls h g = rw (h, g)
 pub sort-plain : (ls : List Literal) → anyOf isFString ls ≡ false → anyOf isBytes ls ≡ false → sortNumber (sortOf ls) ≡ 0
 unfolding sortOf sortNumber
 sort-plain ls h g = rw (h, g)
+
+-- whether any are bytes, by the kind of their top-level records
+pub four-bytes : (b : Bool) (kind : ℕ) → kind ≡ (if b then 4 else 1) → kind ≡ 4 → b ≡ true
+four-bytes true kind h e = refl
+four-bytes false kind h e = absurd (omega arith)
+
+pub else-plain : (b : Bool) (kind : ℕ) → kind ≡ (if b then 4 else 1) → (kind ≡ 4 → ⊥) → b ≡ false
+else-plain true kind h e = absurd (e h)
+else-plain false kind h e = refl
 
 -- how many words records have
 length-words : (rs : List Record) → length (allWords rs) ≡ length rs * 8

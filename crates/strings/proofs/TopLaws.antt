@@ -1,5 +1,5 @@
 -- The top-level items of literals that are read are all as the literals' whole has them. Assumes nothing.
-use mathlib.Core.Path.{_≡_, refl}
+use mathlib.Core.Path.{_≡_, refl, subst}
 use mathlib.Core.Bool.{Bool, true, false, not, false≢true}
 use mathlib.Core.List.{List, [], _∷_, _++_, map}
 use mathlib.Core.Option.{none}
@@ -47,6 +47,10 @@ alike ls e = go (anyOf isBytes ls) (anyOf (λ kind. not (isBytes kind)) ls) refl
     go true true p q = clash (let y = rw (p, q) at e in cc)
     go true false p q = rw p (only-bytes ls q)
     go false o p q = rw p (no-bytes ls p)
+
+-- so whether any are bytes is told by the first
+pub first-bytes : (ns : List ℕ) (n : ℕ) (first : Literal) → 0 < n → first ≡ literalAt ns 0 → notMixed (literals ns 0 n) ≡ none → isBytes (first .kind) ≡ anyOf isBytes (literals ns 0 n)
+first-bytes ns n first h f m = rw f (subst (Alike (anyOf isBytes (literals ns 0 n))) (first-is ns n h) (alike (literals ns 0 n) m) .0)
 
 -- the top-level item of a literal piece
 made : (w : e.Whole) (b : Bool) (t : List ℕ) (start end : ℕ) → w .kind ≡ (if b then 4 else 1) → Top w (if b then raw else top) (if b then item raw 4 t start end 0 0 0 else item top 1 t start end 0 0 0)

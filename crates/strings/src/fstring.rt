@@ -102,14 +102,13 @@ fn parse_spec(
     rows: &mut [u32],
     k: Sink,
     fields: usize,
-    lent: bool,
     file: &[u8],
     index: &[u32],
 ) -> Read
     requires { ⌜ Room (now s) (at .at) fr k ⌝ }
     requires { ⌜ (nested ≤ 1) × (isHeld k ≡ false) × (loadOf k + 8 * (length (now s) - at .at) < 16777216) ⌝ }
     requires { ⌜ fields ≤ k .count ⌝ }
-    ensures { λ r. ⌜ SpecIs (specN (namesBy lent (now (file .entry)) (now (index .entry))) (enough (now (s .entry))) (fr .kind) (now (s .entry)) nested (at .at)) fr nested (now (words .entry)) (now (text .entry)) (now (words .exit)) (now (text .exit)) k r × SignedIs r (specN (namesBy lent (now (file .entry)) (now (index .entry))) (enough (now (s .entry))) (fr .kind) (now (s .entry)) nested (at .at)) fr (now (rows .entry)) (now (rows .exit)) fields ⌝ }
+    ensures { λ r. ⌜ SpecIs (specN (namesBy (now (file .entry)) (now (index .entry))) (enough (now (s .entry))) (fr .kind) (now (s .entry)) nested (at .at)) fr nested (now (words .entry)) (now (text .entry)) (now (words .exit)) (now (text .exit)) k r × SignedIs r (specN (namesBy (now (file .entry)) (now (index .entry))) (enough (now (s .entry))) (fr .kind) (now (s .entry)) nested (at .at)) fr (now (rows .entry)) (now (rows .exit)) fields ⌝ }
 {
     let first = read_first(s, at, text, k.used);
     let end = first.at;
@@ -127,7 +126,6 @@ fn parse_spec(
         rows,
         a,
         fields,
-        lent,
         file,
         index,
     ) {
@@ -147,14 +145,13 @@ fn parse_formatted_value(
     rows: &mut [u32],
     k: Sink,
     fields: usize,
-    lent: bool,
     file: &[u8],
     index: &[u32],
 ) -> Read
     requires { ⌜ Room (now s) (at .at) fr k ⌝ }
     requires { ⌜ nested ≤ 1 ⌝ }
     requires { ⌜ fields ≤ k .count ⌝ }
-    ensures { λ r. ⌜ ReadIs (fieldN (namesBy lent (now (file .entry)) (now (index .entry))) (enough (now (s .entry))) (fr .kind) (now (s .entry)) nested (at .at) (at .at) fresh) fr nested (now (words .entry)) (now (text .entry)) (now (words .exit)) (now (text .exit)) k r × SignedIs r (fieldN (namesBy lent (now (file .entry)) (now (index .entry))) (enough (now (s .entry))) (fr .kind) (now (s .entry)) nested (at .at) (at .at) fresh) fr (now (rows .entry)) (now (rows .exit)) fields ⌝ }
+    ensures { λ r. ⌜ ReadIs (fieldN (namesBy (now (file .entry)) (now (index .entry))) (enough (now (s .entry))) (fr .kind) (now (s .entry)) nested (at .at) (at .at) fresh) fr nested (now (words .entry)) (now (text .entry)) (now (words .exit)) (now (text .exit)) k r × SignedIs r (fieldN (namesBy (now (file .entry)) (now (index .entry))) (enough (now (s .entry))) (fr .kind) (now (s .entry)) nested (at .at) (at .at) fresh) fr (now (rows .entry)) (now (rows .exit)) fields ⌝ }
 {
     match read_head(s, at, text, k.used) {
         Opened::Refused(r) => Read::Refused(r),
@@ -176,7 +173,6 @@ fn parse_formatted_value(
                 rows,
                 a,
                 fields + 1,
-                lent,
                 file,
                 index,
             ) {
@@ -204,14 +200,13 @@ pub(crate) fn parse_fstring(
     rows: &mut [u32],
     k: Sink,
     fields: usize,
-    lent: bool,
     file: &[u8],
     index: &[u32],
 ) -> Read
     requires { ⌜ Room (now s) (at .at) fr k ⌝ }
     requires { ⌜ nested ≤ 2 ⌝ }
     requires { ⌜ fields ≤ k .count ⌝ }
-    ensures { λ r. ⌜ ReadIs (textN (namesBy lent (now (file .entry)) (now (index .entry))) (enough (now (s .entry))) (fr .kind) (now (s .entry)) nested (at .at) [] []) fr nested (now (words .entry)) (now (text .entry)) (now (words .exit)) (now (text .exit)) k r × SignedIs r (textN (namesBy lent (now (file .entry)) (now (index .entry))) (enough (now (s .entry))) (fr .kind) (now (s .entry)) nested (at .at) [] []) fr (now (rows .entry)) (now (rows .exit)) fields ⌝ }
+    ensures { λ r. ⌜ ReadIs (textN (namesBy (now (file .entry)) (now (index .entry))) (enough (now (s .entry))) (fr .kind) (now (s .entry)) nested (at .at) [] []) fr nested (now (words .entry)) (now (text .entry)) (now (words .exit)) (now (text .exit)) k r × SignedIs r (textN (namesBy (now (file .entry)) (now (index .entry))) (enough (now (s .entry))) (fr .kind) (now (s .entry)) nested (at .at) [] []) fr (now (rows .entry)) (now (rows .exit)) fields ⌝ }
 {
     if 2 <= nested {
         return Read::Refused(refuse(EXPRESSION_NESTED_TOO_DEEPLY, at.at));
@@ -220,17 +215,7 @@ pub(crate) fn parse_fstring(
     let mut sink = k;
     let mut count = fields;
     loop {
-        match text_run(
-            s,
-            cursor,
-            nested,
-            fr.kind,
-            text,
-            sink.used,
-            lent,
-            file,
-            index,
-        ) {
+        match text_run(s, cursor, nested, fr.kind, text, sink.used, file, index) {
             Run::Refused(r) => return Read::Refused(r),
             Run::Over(next, used) => {
                 return Read::Done(next, end_text(words, fr, sink, used, nested), count);
@@ -247,7 +232,6 @@ pub(crate) fn parse_fstring(
                     rows,
                     a,
                     count,
-                    lent,
                     file,
                     index,
                 ) {

@@ -24,13 +24,14 @@ use utf8::Cursor;
 ghost use mathlib.Core.Path.{_≡_};
 ghost use mathlib.Core.Bool.{true};
 ghost use mathlib.Core.List.{List};
+ghost use mathlib.Core.Option.{none};
 ghost use Prim.Native.Nat.{ℕ, _<_, _≤_};
 ghost use lib.ListN.{length};
 ghost use Rattle.definition.specs.Numbers.{isBytes, isUnicode, unclosedLbrace};
 ghost use Rattle.definition.specs.Chars.{if_then_else_};
 ghost use Rattle.definition.specs.Escapes.{heldNames, detail};
 ghost use Rattle.definition.specs.Records.{Role, covers, Item};
-ghost use Rattle.definition.specs.Entry.{placeOf, body, anyOf, refusal as aRefusal};
+ghost use Rattle.definition.specs.Entry.{placeOf, body, anyOf, notMixed, refusal as aRefusal};
 ghost use Rattle.definition.specs.Body.{readBody};
 ghost use Rattle.definition.specs.Reading.{accepts, allChars, openedAt, sortOf, sortNumber, answered, roomed, called, readNumbers, zeros};
 ghost use Rattle.definition.specs.Rows.{signsNumbers};
@@ -81,6 +82,9 @@ pub(crate) enum Listed {
     Refused(entry::Refusal),
 }
 
+// What is searched as an empty file is, and is not empty.
+const NO_NAMES: [u8; 1] = *b";";
+
 const UNCLOSED_LBRACE: u32 = 20;
 
 pub(crate) const EMPTY_EXPRESSION: u32 = 22;
@@ -109,13 +113,12 @@ fn read_body(
     rows: &mut [u32],
     k: Sink,
     fields: usize,
-    lent: bool,
     file: &[u8],
     index: &[u32],
 ) -> Read
     requires { ⌜ BodyRoom (now s) 0 fr k ⌝ }
     requires { ⌜ fields ≤ k .count ⌝ }
-    ensures { λ r. ⌜ ReadIs (readBody (namesBy lent (now (file .entry)) (now (index .entry))) (fr .kind) (now (s .entry))) fr 0 (now (words .entry)) (now (text .entry)) (now (words .exit)) (now (text .exit)) k r × SignedIs r (readBody (namesBy lent (now (file .entry)) (now (index .entry))) (fr .kind) (now (s .entry))) fr (now (rows .entry)) (now (rows .exit)) fields ⌝ }
+    ensures { λ r. ⌜ ReadIs (readBody (namesBy (now (file .entry)) (now (index .entry))) (fr .kind) (now (s .entry))) fr 0 (now (words .entry)) (now (text .entry)) (now (words .exit)) (now (text .exit)) k r × SignedIs r (readBody (namesBy (now (file .entry)) (now (index .entry))) (fr .kind) (now (s .entry))) fr (now (rows .entry)) (now (rows .exit)) fields ⌝ }
 {
     if entry::is_of(Class::FStrings, fr.kind) {
         return parse_fstring(
@@ -128,12 +131,11 @@ fn read_body(
             rows,
             k,
             fields,
-            lent,
             file,
             index,
         );
     }
-    match parse_string(s, fr.kind, text, k.used, lent, file, index) {
+    match parse_string(s, fr.kind, text, k.used, file, index) {
         Text::Refused(r) => Read::Refused(r),
         Text::Done(used) => {
             Read::Done(
@@ -156,13 +158,12 @@ fn read_literal(
     k: Sink,
     fields: usize,
     window: Window,
-    lent: bool,
     file: &[u8],
     index: &[u32],
 ) -> Read
     requires { ⌜ Room (now script) l k ⌝ }
     requires { ⌜ fields ≤ k .count ⌝ }
-    ensures { λ r. ⌜ ReadIs (readBody (namesBy lent (now (file .entry)) (now (index .entry))) (l .kind) (body (now (script .entry)) (described l))) (frameOf l whole window) 0 (now (words .entry)) (now (text .entry)) (now (words .exit)) (now (text .exit)) k r × SignedIs r (readBody (namesBy lent (now (file .entry)) (now (index .entry))) (l .kind) (body (now (script .entry)) (described l))) (frameOf l whole window) (now (rows .entry)) (now (rows .exit)) fields ⌝ }
+    ensures { λ r. ⌜ ReadIs (readBody (namesBy (now (file .entry)) (now (index .entry))) (l .kind) (body (now (script .entry)) (described l))) (frameOf l whole window) 0 (now (words .entry)) (now (text .entry)) (now (words .exit)) (now (text .exit)) k r × SignedIs r (readBody (namesBy (now (file .entry)) (now (index .entry))) (l .kind) (body (now (script .entry)) (described l))) (frameOf l whole window) (now (rows .entry)) (now (rows .exit)) fields ⌝ }
 {
     let from = l.offset as usize;
     let to = from + l.size as usize;
@@ -183,7 +184,6 @@ fn read_literal(
         rows,
         k,
         fields,
-        lent,
         file,
         index,
     )
@@ -248,12 +248,11 @@ fn read_list(
     text: &mut [u8],
     rows: &mut [u32],
     window: Window,
-    lent: bool,
     file: &[u8],
     index: &[u32],
 ) -> Listed
     requires { ⌜ Passed (now script) (now numbers) count ⌝ }
-    ensures { λ r. ⌜ ListIs (namesBy lent (now (file .entry)) (now (index .entry))) (now (script .entry)) (literals (now (numbers .entry)) 0 count) (wholeOf whole) (now (words .entry)) (now (text .entry)) (now (words .exit)) (now (text .exit)) r × RowsAre (namesBy lent (now (file .entry)) (now (index .entry))) window (now (script .entry)) (literals (now (numbers .entry)) 0 count) (now (rows .entry)) (now (rows .exit)) r ⌝ }
+    ensures { λ r. ⌜ ListIs (namesBy (now (file .entry)) (now (index .entry))) (now (script .entry)) (literals (now (numbers .entry)) 0 count) (wholeOf whole) (now (words .entry)) (now (text .entry)) (now (words .exit)) (now (text .exit)) r × RowsAre (namesBy (now (file .entry)) (now (index .entry))) window (now (script .entry)) (literals (now (numbers .entry)) 0 count) (now (rows .entry)) (now (rows .exit)) r ⌝ }
 {
     let mut sink = Sink {
         count: 0,
@@ -276,7 +275,6 @@ fn read_list(
             sink,
             fields,
             window,
-            lent,
             file,
             index,
         ) {
@@ -293,11 +291,11 @@ fn read_list(
     Listed::Done(sink, fields)
 }
 
-// The kind of a top-level record: 4 in bytes, else 1.
-fn kind_of(numbers: &[u32], count: u32) -> u32
-    ensures { λ r. ⌜ r ≡ (if anyOf isBytes (literals (now (numbers .entry)) 0 count) then 4 else 1) ⌝ }
+// The kind of a top-level record, by the first literal's: 4 in bytes, else 1.
+fn kind_of(kind: u32) -> u32
+    ensures { λ r. ⌜ r ≡ (if isBytes kind then 4 else 1) ⌝ }
 {
-    if entry::any_of(Class::Bytes, numbers, count) {
+    if entry::is_of(Class::Bytes, kind) {
         return 4;
     }
     1
@@ -315,13 +313,13 @@ fn u_mark(kind: u32) -> u32
 
 // What every top-level record of the literals carries.
 fn whole_of(numbers: &[u32], count: u32) -> Whole
-    requires { ⌜ 0 < count ⌝ }
+    requires { ⌜ (0 < count) × (notMixed (literals (now numbers) 0 count) ≡ none) ⌝ }
     ensures { λ r. ⌜ wholeOf r ≡ wholeFor (literals (now (numbers .entry)) 0 count) ⌝ }
 {
     let first = entry::literal_at(numbers, 0);
     let last = entry::literal_at(numbers, count - 1);
     Whole {
-        kind: kind_of(numbers, count),
+        kind: kind_of(first.kind),
         start: first.start,
         end: last.end,
         mark: u_mark(first.kind),
@@ -337,14 +335,15 @@ fn refuse(words: &mut [u32], text: &mut [u8], r: entry::Refusal) -> Outcome
     Outcome::Refused(r)
 }
 
-// The sort of an answer.
-fn sort_of(numbers: &[u32], count: u32) -> u32
+// The sort of an answer whose top-level records are of a kind.
+fn sort_of(numbers: &[u32], count: u32, kind: u32) -> u32
+    requires { ⌜ kind ≡ (if anyOf isBytes (literals (now numbers) 0 count) then 4 else 1) ⌝ }
     ensures { λ r. ⌜ r ≡ sortNumber (sortOf (literals (now (numbers .entry)) 0 count)) ⌝ }
 {
     if entry::any_of(Class::FStrings, numbers, count) {
         return 1;
     }
-    if entry::any_of(Class::Bytes, numbers, count) {
+    if kind == 4 {
         return 2;
     }
     0
@@ -360,7 +359,7 @@ fn finish(
     text: &mut [u8],
     sink: Sink,
 ) -> Outcome
-    requires { ⌜ Fits sink ⌝ }
+    requires { ⌜ Fits sink × (wholeOf whole ≡ wholeFor (literals (now numbers) 0 count)) ⌝ }
     ensures { λ r. ⌜ ((script : List ℕ) (role : Role) (xs : List Item) (words₀ text₀ : List ℕ) → chars ≡ allChars script (literals (now (numbers .entry)) 0 count) → covers role ≡ true → Tops (wholeOf whole) role xs → wholeOf whole ≡ wholeFor (literals (now (numbers .entry)) 0 count) → Wrote (wholeOf whole) xs words₀ text₀ (now (words .entry)) (now (text .entry)) sink → CallIs (called (roomed (length words₀) (length text₀) (answered script (literals (now (numbers .entry)) 0 count) (accepts xs))) words₀ text₀) (now (words .exit)) (now (text .exit)) r) ⌝ }
 {
     let k = close_held(words, whole, sink);
@@ -369,7 +368,7 @@ fn finish(
     match entry::room(words.len() / 8, text.len(), records, used, chars) {
         Checked::Refused(r) => refuse(words, text, r),
         Checked::Passed(_) => Outcome::Accepted(Answer {
-            sort: sort_of(numbers, count),
+            sort: sort_of(numbers, count, whole.kind),
             mark: whole.mark,
             start: whole.start,
             end: whole.end,
@@ -388,12 +387,11 @@ fn read_all(
     chars: u32,
     words: &mut [u32],
     text: &mut [u8],
-    lent: bool,
     file: &[u8],
     index: &[u32],
 ) -> Outcome
     requires { ⌜ Passed (now script) (now numbers) count × (chars ≡ allChars (now script) (literals (now numbers) 0 count)) ⌝ }
-    ensures { λ r. ⌜ CallIs (readNumbers (namesBy lent (now (file .entry)) (now (index .entry))) (now (script .entry)) (now (numbers .entry)) (now (words .entry)) (now (text .entry))) (now (words .exit)) (now (text .exit)) r ⌝ }
+    ensures { λ r. ⌜ CallIs (readNumbers (namesBy (now (file .entry)) (now (index .entry))) (now (script .entry)) (now (numbers .entry)) (now (words .entry)) (now (text .entry))) (now (words .exit)) (now (text .exit)) r ⌝ }
 {
     let whole = whole_of(numbers, count);
     let window = Window { within: 0, skip: 0 };
@@ -407,7 +405,6 @@ fn read_all(
         text,
         &mut rows,
         window,
-        lent,
         file,
         index,
     ) {
@@ -416,33 +413,22 @@ fn read_all(
     }
 }
 
-// Reads the literals whose numbers are listed: names are looked up in a file if one is lent, with an index beside it.
+// Reads the literals whose numbers are listed: names are looked up in a lent file by its index, or where that is empty among the held ones.
 fn parse_by(
     script: &[u8],
     numbers: &[u32],
-    lent: bool,
     file: &[u8],
     index: &[u32],
     words: &mut [u32],
     text: &mut [u8],
 ) -> Outcome
-    ensures { λ r. ⌜ CallIs (readNumbers (namesBy lent (now (file .entry)) (now (index .entry))) (now (script .entry)) (now (numbers .entry)) (now (words .entry)) (now (text .entry))) (now (words .exit)) (now (text .exit)) r ⌝ }
+    ensures { λ r. ⌜ CallIs (readNumbers (namesBy (now (file .entry)) (now (index .entry))) (now (script .entry)) (now (numbers .entry)) (now (words .entry)) (now (text .entry))) (now (words .exit)) (now (text .exit)) r ⌝ }
 {
     match entry::check(script, numbers) {
         Checked::Refused(r) => refuse(words, text, r),
         Checked::Passed(chars) => {
             let count = (numbers.len() / 6) as u32;
-            read_all(
-                script,
-                numbers,
-                count,
-                chars,
-                words,
-                text,
-                lent,
-                file,
-                index,
-            )
+            read_all(script, numbers, count, chars, words, text, file, index)
         }
     }
 }
@@ -453,7 +439,7 @@ pub fn parse_strings(script: &[u8], numbers: &[u32], words: &mut [u32], text: &m
 {
     let file = [0u8; 0];
     let index = [0u32; 0];
-    parse_by(script, numbers, false, &file, &index, words, text)
+    parse_by(script, numbers, &file, &index, words, text)
 }
 
 // Reads them as `parse_strings` does, with names searched in a file by whatever index is lent.
@@ -467,7 +453,11 @@ pub fn parse_searched(
 ) -> Outcome
     ensures { λ r. ⌜ CallIs (readNumbers (searched (now (file .entry)) (now (index .entry))) (now (script .entry)) (now (numbers .entry)) (now (words .entry)) (now (text .entry))) (now (words .exit)) (now (text .exit)) r ⌝ }
 {
-    parse_by(script, numbers, true, file, index, words, text)
+    if file.len() == 0 {
+        let none = NO_NAMES;
+        return parse_by(script, numbers, &none, index, words, text);
+    }
+    parse_by(script, numbers, file, index, words, text)
 }
 
 // A refusal of a file or its index: its number alone.
@@ -523,12 +513,11 @@ fn read_rows(
     chars: u32,
     rows: &mut [u32],
     window: Window,
-    lent: bool,
     file: &[u8],
     index: &[u32],
 ) -> Outcome
     requires { ⌜ Passed (now script) (now numbers) count × (chars ≡ allChars (now script) (literals (now numbers) 0 count)) ⌝ }
-    ensures { λ r. ⌜ SignsIs (windowNumbers (namesBy lent (now (file .entry)) (now (index .entry))) (window .within) (window .skip) (now (script .entry)) (now (numbers .entry)) (now (rows .entry))) (now (rows .exit)) r ⌝ }
+    ensures { λ r. ⌜ SignsIs (windowNumbers (namesBy (now (file .entry)) (now (index .entry))) (window .within) (window .skip) (now (script .entry)) (now (numbers .entry)) (now (rows .entry))) (now (rows .exit)) r ⌝ }
 {
     let whole = whole_of(numbers, count);
     let mut words = [0u32; 0];
@@ -542,13 +531,12 @@ fn read_rows(
         &mut text,
         rows,
         window,
-        lent,
         file,
         index,
     ) {
         Listed::Refused(r) => refuse_rows(rows, r),
         Listed::Done(_, fields) => Outcome::Accepted(Answer {
-            sort: sort_of(numbers, count),
+            sort: sort_of(numbers, count, whole.kind),
             mark: whole.mark,
             start: whole.start,
             end: whole.end,
@@ -567,11 +555,10 @@ pub fn parse_window(
     within: u32,
     skip: u32,
     rows: &mut [u32],
-    lent: bool,
     file: &[u8],
     index: &[u32],
 ) -> Outcome
-    ensures { λ r. ⌜ SignsIs (windowNumbers (namesBy lent (now (file .entry)) (now (index .entry))) within skip (now (script .entry)) (now (numbers .entry)) (now (rows .entry))) (now (rows .exit)) r ⌝ }
+    ensures { λ r. ⌜ SignsIs (windowNumbers (namesBy (now (file .entry)) (now (index .entry))) within skip (now (script .entry)) (now (numbers .entry)) (now (rows .entry))) (now (rows .exit)) r ⌝ }
 {
     match entry::check(script, numbers) {
         Checked::Refused(r) => refuse_rows(rows, r),
@@ -584,7 +571,6 @@ pub fn parse_window(
                 chars,
                 rows,
                 Window { within, skip },
-                lent,
                 file,
                 index,
             )
@@ -599,7 +585,7 @@ pub fn parse_signs(script: &[u8], numbers: &[u32], rows: &mut [u32]) -> Outcome
 {
     let file = [0u8; 0];
     let index = [0u32; 0];
-    match parse_window(script, numbers, 0, 0, rows, false, &file, &index) {
+    match parse_window(script, numbers, 0, 0, rows, &file, &index) {
         Outcome::Refused(r) => Outcome::Refused(r),
         Outcome::Accepted(x) => match entry::room(rows.len() / 10, 0, x.records, 0, x.chars) {
             Checked::Refused(r) => refuse_rows(rows, r),

@@ -107,14 +107,13 @@ fn escape_text(
     kind: u32,
     text: &mut [u8],
     used: usize,
-    lent: bool,
     file: &[u8],
     index: &[u32],
 ) -> Piece
     requires { ⌜ Taken (now s) (from .at) (after .at) × Room (now s) used ⌝ }
-    ensures { λ r. ⌜ Does (withEscape kind (now (s .entry)) (from .at) [] (escape (namesBy lent (now (file .entry)) (now (index .entry))) kind (now (s .entry)) (after .at))) (now (s .entry)) (from .at) used (now (text .entry)) (now (text .exit)) r ⌝ }
+    ensures { λ r. ⌜ Does (withEscape kind (now (s .entry)) (from .at) [] (escape (namesBy (now (file .entry)) (now (index .entry))) kind (now (s .entry)) (after .at))) (now (s .entry)) (from .at) used (now (text .entry)) (now (text .exit)) r ⌝ }
 {
-    let escaped = escapes::parse_escaped_char(s, after, kind, lent, file, index);
+    let escaped = escapes::parse_escaped_char(s, after, kind, file, index);
     match escaped {
         Escaped::Code(code, to) => {
             let length = add_code(text, used, code, kind);
@@ -133,18 +132,17 @@ fn string_piece(
     kind: u32,
     text: &mut [u8],
     used: usize,
-    lent: bool,
     file: &[u8],
     index: &[u32],
 ) -> Piece
     requires { ⌜ Room (now s) used ⌝ }
-    ensures { λ r. ⌜ Does (stringMove (namesBy lent (now (file .entry)) (now (index .entry))) kind (now (s .entry)) (from .at) []) (now (s .entry)) (from .at) used (now (text .entry)) (now (text .exit)) r ⌝ }
+    ensures { λ r. ⌜ Does (stringMove (namesBy (now (file .entry)) (now (index .entry))) kind (now (s .entry)) (from .at) []) (now (s .entry)) (from .at) used (now (text .entry)) (now (text .exit)) r ⌝ }
 {
     let Step::Char(c, after) = from.next_char(s) else {
         return Piece::Over;
     };
     if is_escape(c, kind) {
-        return escape_text(s, from, after, kind, text, used, lent, file, index);
+        return escape_text(s, from, after, kind, text, used, file, index);
     }
     if is_foreign(c, kind) {
         return refuse(NON_ASCII_IN_BYTES, after.at);
@@ -223,12 +221,11 @@ fn text_piece(
     kind: u32,
     text: &mut [u8],
     used: usize,
-    lent: bool,
     file: &[u8],
     index: &[u32],
 ) -> Piece
     requires { ⌜ (nested < 2) × Room (now s) used ⌝ }
-    ensures { λ r. ⌜ Does (textMove (namesBy lent (now (file .entry)) (now (index .entry))) kind (now (s .entry)) nested (from .at) []) (now (s .entry)) (from .at) used (now (text .entry)) (now (text .exit)) r ⌝ }
+    ensures { λ r. ⌜ Does (textMove (namesBy (now (file .entry)) (now (index .entry))) kind (now (s .entry)) nested (from .at) []) (now (s .entry)) (from .at) used (now (text .entry)) (now (text .exit)) r ⌝ }
 {
     let Step::Char(c, after) = from.next_char(s) else {
         return Piece::Over;
@@ -240,7 +237,7 @@ fn text_piece(
         return right_brace(s, from, after, nested, text, used);
     }
     if begins_escape(s, c, after, kind) {
-        return escape_text(s, from, after, kind, text, used, lent, file, index);
+        return escape_text(s, from, after, kind, text, used, file, index);
     }
     take(s, from, after, after, text, used)
 }
@@ -366,12 +363,11 @@ pub(crate) fn parse_string(
     kind: u32,
     text: &mut [u8],
     used: usize,
-    lent: bool,
     file: &[u8],
     index: &[u32],
 ) -> Text
     requires { ⌜ (length (now s) ≤ 1048576) × (used ≤ 2 ^ 32) ⌝ }
-    ensures { λ r. ⌜ StringIs (stringN (namesBy lent (now (file .entry)) (now (index .entry))) (enough (now (s .entry))) kind (now (s .entry)) 0 []) used (now (text .entry)) (now (text .exit)) r ⌝ }
+    ensures { λ r. ⌜ StringIs (stringN (namesBy (now (file .entry)) (now (index .entry))) (enough (now (s .entry))) kind (now (s .entry)) 0 []) used (now (text .entry)) (now (text .exit)) r ⌝ }
 {
     let mut cursor = Cursor { at: 0 };
     let mut end = used;
@@ -382,7 +378,7 @@ pub(crate) fn parse_string(
             end = run.used;
             continue;
         }
-        let piece = string_piece(s, cursor, kind, text, end, lent, file, index);
+        let piece = string_piece(s, cursor, kind, text, end, file, index);
         match piece {
             Piece::On(after, length) => {
                 cursor = after;
@@ -402,12 +398,11 @@ pub(crate) fn text_run(
     kind: u32,
     text: &mut [u8],
     used: usize,
-    lent: bool,
     file: &[u8],
     index: &[u32],
 ) -> Run
     requires { ⌜ (at .at ≤ length (now s)) × (nested ≤ 1) × (length (now s) ≤ 1048576) × (used ≤ 2 ^ 32) ⌝ }
-    ensures { λ r. ⌜ RunIs (namesBy lent (now (file .entry)) (now (index .entry))) kind (now (s .entry)) nested (at .at) used (now (text .entry)) (now (text .exit)) r ⌝ }
+    ensures { λ r. ⌜ RunIs (namesBy (now (file .entry)) (now (index .entry))) kind (now (s .entry)) nested (at .at) used (now (text .entry)) (now (text .exit)) r ⌝ }
 {
     let mut cursor = at;
     let mut end = used;
@@ -418,7 +413,7 @@ pub(crate) fn text_run(
             end = run.used;
             continue;
         }
-        let piece = text_piece(s, cursor, nested, kind, text, end, lent, file, index);
+        let piece = text_piece(s, cursor, nested, kind, text, end, file, index);
         match piece {
             Piece::On(after, length) => {
                 cursor = after;

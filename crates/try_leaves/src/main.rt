@@ -77,14 +77,7 @@ fn try_one(sort: u8, kind: u8, at: usize, s: &[u8]) {
         _ => {
             let file = [0u8; 0];
             let index = [0u32; 0];
-            put_escaped(escapes::parse_escaped_char(
-                s,
-                Cursor { at },
-                kind as u32,
-                false,
-                &file,
-                &index,
-            ));
+            put_escaped(escapes::parse_escaped_char(s, Cursor { at }, kind as u32, &file, &index));
         }
     }
     put(b"\n");

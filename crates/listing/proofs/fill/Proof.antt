@@ -11,10 +11,10 @@ use Rattle.listing.proofs.fill.Statement.{statement}
 use Rattle.listing.proofs.fill.Tie as tie
 
 abbrev Inv-loop : tie.InvT-loop
-Inv-loop script rows₀ lent file index room first count₀ i₀ rows count i = (b : List ℕ) → PartIs (namesBy lent file index) script 0 (length script) 0 b rows₀ 0 first → Filling (namesBy lent file index) script b rows i count
+Inv-loop script rows₀ file index room first count₀ i₀ rows count i = (b : List ℕ) → PartIs (namesBy file index) script 0 (length script) 0 b rows₀ 0 first → Filling (namesBy file index) script b rows i count
 
 abbrev μ-loop : tie.MeasureT-loop
-μ-loop script rows₀ lent file index room first count₀ i₀ rows count i = 1048576 - i
+μ-loop script rows₀ file index room first count₀ i₀ rows count i = 1048576 - i
 
 pub fill-spec : {M : Type 1} → statement M
 fill-spec =

@@ -1,5 +1,8 @@
 -- `listing::list_fields` meets its contract. Assumes nothing.
 use borrow.Author.Needs.{needs}
+use mathlib.Core.Path.{refl}
+use mathlib.Core.List.{[]}
+use Rattle.escapes.proofs.Lent.{names-none}
 use Rattle.listing.proofs.Filling.{call-long}
 use Rattle.listing.proofs.list_fields.Statement.{statement}
 use Rattle.listing.proofs.list_fields.Tie as tie
@@ -15,4 +18,4 @@ list-fields-spec =
     (λ c. search needs)  -- slice-aggregate-list-by-2
     (λ c κs. search needs)  -- list-by-requires
     (λ c. search needs)  -- same-length-2
-    (λ c. search needs))  -- returns-2
+    (λ c. rw (names-none [] [] refl) at (c .before .before .list-by .ensures)))  -- returns-2

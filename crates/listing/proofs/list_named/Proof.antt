@@ -15,7 +15,7 @@ list-named-spec =
     (λ c. search needs)  -- enum-known-number
     (λ c κs. search needs)  -- fill-words-requires-2
     (λ c. search needs)  -- enum-told
-    (λ c κs. search needs)  -- list-by-requires
+    (λ c κs. search needs)  -- list-searched-requires
     (λ c. search needs)  -- same-length-2
     (λ c.
     let a = (c .before .before .before .before .before .before .before .before .before .before .before .before .before .args) in
@@ -25,4 +25,4 @@ list-named-spec =
     (λ c.
     let a = (c .before .before .before .before .before .before .before .before .before .before .before .before .args) in
     let n = rw (c .before .before .before .before .enum-told .given .1) at (c .before .before .before .before .before .before .check .ensures) in
-    rw (named-listed (a .file .now) (a .index .now) (a .script .now) (a .rows .now) _ n) (c .before .before .list-by .ensures)))  -- returns-3
+    rw (named-listed (a .file .now) (a .index .now) (a .script .now) (a .rows .now) _ n) (c .before .before .list-searched .ensures)))  -- returns-3

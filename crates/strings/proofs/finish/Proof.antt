@@ -1,6 +1,7 @@
 -- `strings::finish` meets its contract. Assumes nothing.
 use borrow.Author.Needs.{needs}
 use native.Mathlib.Omega.{arith}
+use mathlib.Core.Path.{ap}
 use Rattle.entry.proofs.Checks.{passes, refused}
 use Rattle.strings.proofs.SinkLaws.{after-closed}
 use Rattle.strings.proofs.CallLaws.{finish-short, finish-accepted}
@@ -12,13 +13,13 @@ finish-spec =
     tie.close
     (tie.spec
     (λ c κs. search needs)  -- close-held-requires
-    (λ c. let s = c .before .before .before .before .before .before .before .before in let k = c .before .before .before .close-held in let h = after-closed (s .args .whole) (s .args .sink) (k .result) (s .args .words .now) _ (k .ensures) in omega (arith, h .count, h .used, s .pre .small))  -- cast-records
-    (λ c. let s = c .before .before .before .before .before .before .before .before .before in let k = c .before .before .before .before .close-held in let h = after-closed (s .args .whole) (s .args .sink) (k .result) (s .args .words .now) _ (k .ensures) in omega (arith, h .count, h .used, s .pre .small))  -- cast-used
+    (λ c. let s = c .before .before .before .before .before .before .before .before in let k = c .before .before .before .close-held in let h = after-closed (s .args .whole) (s .args .sink) (k .result) (s .args .words .now) _ (k .ensures) in omega (arith, h .count, h .used, s .pre .0 .small))  -- cast-records
+    (λ c. let s = c .before .before .before .before .before .before .before .before .before in let k = c .before .before .before .before .close-held in let h = after-closed (s .args .whole) (s .args .sink) (k .result) (s .args .words .now) _ (k .ensures) in omega (arith, h .count, h .used, s .pre .0 .small))  -- cast-used
     (λ c κs. search needs)  -- room-requires
     (λ c. search needs)  -- enum-known-r
     (λ c κs. search needs)  -- refuse-requires
     (λ c. search needs)  -- enum-told
-    (λ c κs. search needs)  -- sort-of-requires
+    (λ c κs. ap (λ w. w .kind) (c .before .before .before .before .before .before .before .before .before .before .before .before .pre .1))  -- sort-of-requires
     (λ c. search needs)  -- same-length
     (λ c. search needs)  -- same-length-2
     (λ c.

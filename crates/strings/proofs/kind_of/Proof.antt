@@ -8,6 +8,6 @@ pub kind-of-spec : {M : Type 1} → statement M
 kind-of-spec =
     tie.close
     (tie.spec
-    (λ c κs. search needs)  -- any-of-requires
-    (λ c. rw (sym (c .before .any-of .ensures) ∙ c .if1 .taken))  -- returns
-    (λ c. rw (sym (c .before .any-of .ensures) ∙ c .if1 .left)))  -- returns-2
+    (λ c κs. search needs)  -- is-of-requires
+    (λ c. rw (sym (c .before .is-of .ensures) ∙ c .if1 .taken))  -- returns
+    (λ c. rw (sym (c .before .is-of .ensures) ∙ c .if1 .left)))  -- returns-2

@@ -1,6 +1,9 @@
 -- `strings::parse_signs` meets its contract. Assumes nothing.
 use borrow.Author.Needs.{needs}
 use native.Mathlib.Omega.{arith}
+use mathlib.Core.Path.{refl}
+use mathlib.Core.List.{[]}
+use Rattle.escapes.proofs.Lent.{names-none}
 use Rattle.entry.proofs.Checks.{passes, refused}
 use Rattle.strings.proofs.RowCalls.{refused-signs, short-signs, accepted-signs}
 use Rattle.strings.proofs.parse_signs.Statement.{statement}
@@ -20,8 +23,8 @@ parse-signs-spec =
     (λ c κs. search needs)  -- refuse-rows-requires
     (λ c. search needs)  -- enum-told
     (λ c. let l0 = (c .before .before .before .before .rows .given) in search needs)  -- same-length
-    (λ c. let a = (c .before .before .before .before .before .before .before .before .before .before .before .before .args) in refused-signs _ (a .script .now) (a .numbers .now) (a .rows .now) _ (c .before .r .given .0 .0) (rw (c .before .r .given .1) at (c .before .before .before .before .before .parse-window .ensures)))  -- returns
+    (λ c. let a = (c .before .before .before .before .before .before .before .before .before .before .before .before .args) in refused-signs _ (a .script .now) (a .numbers .now) (a .rows .now) _ (c .before .r .given .0 .0) (rw (names-none [] [] refl, c .before .r .given .1) at (c .before .before .before .before .before .parse-window .ensures)))  -- returns
     (λ c. let l0 = (c .before .rows2 .given) in let l1 = (c .before .before .before .before .before .before .before .before .before .before .before .before .rows .given) in search needs)  -- same-length-2
-    (λ c. let a = (c .before .before .before .before .before .before .before .before .before .before .before .before .before .before .before .before .before .before .before .before .args) in short-signs _ (a .script .now) (a .numbers .now) (a .rows .now) _ (c .before .before .before .before .before .before .before .before .before .x .given .0 .0) (rw (c .before .before .before .before .before .before .before .before .before .x .given .1) at (c .before .before .before .before .before .before .before .before .before .before .before .before .before .parse-window .ensures)) (c .before .before .before .before .before .before .before .before .before .before .before .before .before .parse-window .kept .1 .1 .1 .1 .0) (c .before .before .before .before .before .r2 .given .0 .0) _ _ (refused _ _ _ (rw (c .before .before .before .before .before .r2 .given .1) at (c .before .before .before .before .before .before .before .room .ensures))) (c .before .before .refuse-rows .ensures))  -- returns-2
+    (λ c. let a = (c .before .before .before .before .before .before .before .before .before .before .before .before .before .before .before .before .before .before .before .before .args) in short-signs _ (a .script .now) (a .numbers .now) (a .rows .now) _ (c .before .before .before .before .before .before .before .before .before .x .given .0 .0) (rw (names-none [] [] refl, c .before .before .before .before .before .before .before .before .before .x .given .1) at (c .before .before .before .before .before .before .before .before .before .before .before .before .before .parse-window .ensures)) (c .before .before .before .before .before .before .before .before .before .before .before .before .before .parse-window .kept .1 .1 .1 .1 .0) (c .before .before .before .before .before .r2 .given .0 .0) _ _ (refused _ _ _ (rw (c .before .before .before .before .before .r2 .given .1) at (c .before .before .before .before .before .before .before .room .ensures))) (c .before .before .refuse-rows .ensures))  -- returns-2
     (λ c. let l0 = (c .before .before .before .before .before .before .before .rows .given) in search needs)  -- same-length-3
-    (λ c. let a = (c .before .before .before .before .before .before .before .before .before .before .before .before .before .before .before .args) in accepted-signs _ (a .script .now) (a .numbers .now) (a .rows .now) _ (c .before .before .before .before .x .given .0 .0) (rw (c .before .before .before .before .x .given .1) at (c .before .before .before .before .before .before .before .before .parse-window .ensures)) (c .before .before .before .before .before .before .before .before .parse-window .kept .1 .1 .1 .1 .0) (passes _ _ _ (rw (c .enum-told .given .1) at (c .before .before .room .ensures)))))  -- returns-3
+    (λ c. let a = (c .before .before .before .before .before .before .before .before .before .before .before .before .before .before .before .args) in accepted-signs _ (a .script .now) (a .numbers .now) (a .rows .now) _ (c .before .before .before .before .x .given .0 .0) (rw (names-none [] [] refl, c .before .before .before .before .x .given .1) at (c .before .before .before .before .before .before .before .before .parse-window .ensures)) (c .before .before .before .before .before .before .before .before .parse-window .kept .1 .1 .1 .1 .0) (passes _ _ _ (rw (c .enum-told .given .1) at (c .before .before .room .ensures)))))  -- returns-3

@@ -9,13 +9,13 @@ pub read-all-spec : {M : Type 1} → statement M
 read-all-spec =
     tie.close
     (tie.spec
-    (λ c κs. search needs)  -- whole-of-requires
+    (λ c κs. let P = (c .before .before .before .before .before .before .pre .0) in (P .any, P .unmixed))  -- whole-of-requires
     (λ c. search needs)  -- slice-aggregate-read-list
     (λ c κs. search needs)  -- read-list-requires
     (λ c. search needs)  -- enum-known-r
     (λ c κs. search needs)  -- refuse-requires
     (λ c. search needs)  -- enum-known-sink
-    (λ c κs. (rw (c .before .before .before .sink .given .1) at (c .before .before .before .before .before .before .before .before .before .before .read-list .ensures)) .0 .wrote .fits)  -- finish-requires
+    (λ c κs. ((rw (c .before .before .before .sink .given .1) at (c .before .before .before .before .before .before .before .before .before .before .read-list .ensures)) .0 .wrote .fits, (c .before .before .before .before .before .before .before .before .before .before .before .before .before .before .whole-of .ensures)))  -- finish-requires
     (λ c. search needs)  -- same-length
     (λ c. search needs)  -- same-length-2
     (λ c. let a = (c .before .before .before .before .before .before .before .before .before .before .before .before .before .before .before .before .before .before .before .before .before .before .before .before .before .before .args) in refused-call (a .words .now) (a .text .now) (c .before .before .before .before .before .before .before .before .before .before .before .before .before .before .before .read-list .last .1 .1 .1 .1 .0) (c .before .before .before .before .before .before .before .before .before .before .before .before .before .before .before .read-list .last .1 .1 .1 .1 .1 .0) (c .before .before .before .before .refuse .last .0) (c .before .before .before .before .refuse .last .1 .0) (c .before .before .before .before .before .before .before .before .r .given .0 .0) (c .before .before .before .before .refuse .result) (readNumbers _ (a .script .now) (a .numbers .now) (a .words .now) (a .text .now)) (refused-list _ (a .script .now) (a .numbers .now) (a .count) (a .words .now) (a .text .now) (c .before .before .before .before .before .before .before .before .before .before .before .before .before .before .before .before .before .before .before .before .before .before .before .before .before .before .pre .0) (c .before .before .before .before .before .before .before .before .r .given .0 .0) ((rw (c .before .before .before .before .before .before .before .before .r .given .1) at (c .before .before .before .before .before .before .before .before .before .before .before .before .before .before .before .read-list .ensures)) .0)) (c .before .before .before .before .before .before .before .before .before .before .before .before .before .before .before .read-list .kept .1 .1 .1 .1 .0) (c .before .before .before .before .before .before .before .before .before .before .before .before .before .before .before .read-list .kept .1 .1 .1 .1 .1 .0) (c .before .before .before .before .refuse .ensures))  -- returns

@@ -13,15 +13,15 @@ use Rattle.strings.proofs.read_list.Statement.{statement}
 use Rattle.strings.proofs.read_list.Tie as tie
 
 abbrev Inv-loop : tie.InvT-loop
-Inv-loop script numbers count whole words₀ text₀ rows₀ window lent file index sink₀ fields₀ i₀ words text rows sink fields i =
+Inv-loop script numbers count whole words₀ text₀ rows₀ window file index sink₀ fields₀ i₀ words text rows sink fields i =
     (length words ≡ length words₀)
     × (length text ≡ length text₀)
     × (length rows ≡ length rows₀)
-    × Listing (namesBy lent file index) script numbers count (wholeOf whole) words₀ text₀ words text i sink
-    × Rowing (namesBy lent file index) window script numbers count rows₀ rows i fields sink
+    × Listing (namesBy file index) script numbers count (wholeOf whole) words₀ text₀ words text i sink
+    × Rowing (namesBy file index) window script numbers count rows₀ rows i fields sink
 
 abbrev μ-loop : tie.MeasureT-loop
-μ-loop script numbers count whole words₀ text₀ rows₀ window lent file index sink₀ fields₀ i₀ words text rows sink fields i = count - i
+μ-loop script numbers count whole words₀ text₀ rows₀ window file index sink₀ fields₀ i₀ words text rows sink fields i = count - i
 
 pub read-list-spec : {M : Type 1} → statement M
 read-list-spec =

@@ -1,7 +1,7 @@
 -- `strings::sort_of` meets its contract. Assumes nothing.
 use borrow.Author.Needs.{needs}
 use mathlib.Core.Path.{sym, _∙_}
-use Rattle.strings.proofs.CallLaws.{sort-joined, sort-bytes, sort-plain}
+use Rattle.strings.proofs.CallLaws.{sort-joined, sort-bytes, sort-plain, four-bytes, else-plain}
 use Rattle.strings.proofs.sort_of.Statement.{statement}
 use Rattle.strings.proofs.sort_of.Tie as tie
 
@@ -11,6 +11,5 @@ sort-of-spec =
     (tie.spec
     (λ c κs. search needs)  -- any-of-requires
     (λ c. sym (sort-joined _ (sym (c .before .any-of .ensures) ∙ c .if1 .taken)))  -- returns
-    (λ c κs. search needs)  -- any-of-requires-2
-    (λ c. sym (sort-bytes _ (sym (c .before .before .before .any-of .ensures) ∙ c .before .before .if1 .left) (sym (c .before .any-of2 .ensures) ∙ c .if2 .taken)))  -- returns-2
-    (λ c. sym (sort-plain _ (sym (c .before .before .before .any-of .ensures) ∙ c .before .before .if1 .left) (sym (c .before .any-of2 .ensures) ∙ c .if2 .left))))  -- returns-3
+    (λ c. sym (sort-bytes _ (sym (c .before .before .any-of .ensures) ∙ c .before .if1 .left) (four-bytes _ _ (c .before .before .before .before .pre) (c .if2 .taken))))  -- returns-2
+    (λ c. sym (sort-plain _ (sym (c .before .before .any-of .ensures) ∙ c .before .if1 .left) (else-plain _ _ (c .before .before .before .before .pre) (c .if2 .left)))))  -- returns-3

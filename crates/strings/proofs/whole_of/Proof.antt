@@ -1,7 +1,9 @@
 -- `strings::whole_of` meets its contract. Assumes nothing.
 use borrow.Author.Needs.{needs}
+use mathlib.Core.Path.{_∙_, ap}
+use Rattle.definition.specs.Chars.{if_then_else_}
 use Rattle.entry.specs.Answers.{described}
-use Rattle.strings.proofs.TopLaws.{whole-made}
+use Rattle.strings.proofs.TopLaws.{first-bytes, whole-made}
 use Rattle.strings.proofs.whole_of.Statement.{statement}
 use Rattle.strings.proofs.whole_of.Tie as tie
 
@@ -15,4 +17,6 @@ whole-of-spec =
     (λ c κs. search needs)  -- literal-at-requires-2
     (λ c κs. search needs)  -- kind-of-requires
     (λ c κs. search needs)  -- u-mark-requires
-    (λ c. whole-made _ _ _ _ _ _ (c .before .before .before .before .before .pre) (c .before .before .before .literal-at .ensures) (c .before .before .literal-at2 .ensures) (c .before .kind-of .ensures) (c .u-mark .ensures)))  -- returns
+    (λ c. whole-made _ _ _ _ _ _ (c .before .before .before .before .before .pre .0) (c .before .before .before .literal-at .ensures) (c .before .before .literal-at2 .ensures)
+    (c .before .kind-of .ensures ∙ ap (λ b. if b then 4 else 1) (first-bytes _ _ _ (c .before .before .before .before .before .pre .0) (c .before .before .before .literal-at .ensures) (c .before .before .before .before .before .pre .1)))
+    (c .u-mark .ensures)))  -- returns

@@ -42,16 +42,16 @@ use Rattle.listing.proofs.count.+count_block+count_literal+count_part+c
 }
 
 abbrev μ-count-block : Measures 4 count-block-kinds.ps ℕ
-μ-count-block κs a = 4 * total (namesBy (a .1 .1 .1 .0) (a .1 .1 .1 .1 .0 .now) (a .1 .1 .1 .1 .1 .0 .now)) (a .0 .now) (rowsIn (a .1 .0 .now) 0 (a .1 .1 .0))
+μ-count-block κs a = 4 * total (namesBy (a .1 .1 .1 .0 .now) (a .1 .1 .1 .1 .0 .now)) (a .0 .now) (rowsIn (a .1 .0 .now) 0 (a .1 .1 .0))
 
 abbrev μ-count-literal : Measures 3 count-literal-kinds.ps ℕ
-μ-count-literal κs a = 4 * total (namesBy (a .1 .1 .0) (a .1 .1 .1 .0 .now) (a .1 .1 .1 .1 .0 .now)) (a .0 .now) (readRows (namesBy (a .1 .1 .0) (a .1 .1 .1 .0 .now) (a .1 .1 .1 .1 .0 .now)) (a .0 .now) 0 (literalOf (a .1 .0))) + 2
+μ-count-literal κs a = 4 * total (namesBy (a .1 .1 .0 .now) (a .1 .1 .1 .0 .now)) (a .0 .now) (readRows (namesBy (a .1 .1 .0 .now) (a .1 .1 .1 .0 .now)) (a .0 .now) 0 (literalOf (a .1 .0))) + 2
 
 abbrev μ-count-part : Measures 3 count-part-kinds.ps ℕ
-μ-count-part κs a = 4 * total (namesBy (a .1 .1 .1 .0) (a .1 .1 .1 .1 .0 .now) (a .1 .1 .1 .1 .1 .0 .now)) (a .0 .now) (cutRows (namesBy (a .1 .1 .1 .0) (a .1 .1 .1 .1 .0 .now) (a .1 .1 .1 .1 .1 .0 .now)) (a .0 .now) 0 (cutPart (a .0 .now) (a .1 .0) (a .1 .1 .0))) + 3
+μ-count-part κs a = 4 * total (namesBy (a .1 .1 .1 .0 .now) (a .1 .1 .1 .1 .0 .now)) (a .0 .now) (cutRows (namesBy (a .1 .1 .1 .0 .now) (a .1 .1 .1 .1 .0 .now)) (a .0 .now) 0 (cutPart (a .0 .now) (a .1 .0) (a .1 .1 .0))) + 3
 
 abbrev μ-count-window : Measures 3 count-window-kinds.ps ℕ
-μ-count-window κs a = 4 * total (namesBy (a .1 .1 .1 .0) (a .1 .1 .1 .1 .0 .now) (a .1 .1 .1 .1 .1 .0 .now)) (a .0 .now) (readRows (namesBy (a .1 .1 .1 .0) (a .1 .1 .1 .1 .0 .now) (a .1 .1 .1 .1 .1 .0 .now)) (a .0 .now) 0 (literalOf (a .1 .0))) + 1
+μ-count-window κs a = 4 * total (namesBy (a .1 .1 .1 .0 .now) (a .1 .1 .1 .1 .0 .now)) (a .0 .now) (readRows (namesBy (a .1 .1 .1 .0 .now) (a .1 .1 .1 .1 .0 .now)) (a .0 .now) 0 (literalOf (a .1 .0))) + 1
 
 abbrev count-block-at : ℕ → In 4 count-block-kinds.ps
 count-block-at t =
@@ -97,28 +97,28 @@ abbrev count-block-calls : ℕ → count-block-lts.Claims
 count-block-calls t = (field-at-reads.Asked, field-at-reads.Learnt, own-rows-reads.Asked, own-rows-reads.Learnt, source-end-reads.Asked, source-end-reads.Learnt, count-part-below t, count-part.Post)
 
 abbrev count-block-Inv-loop : count-block-lts.InvT-loop
-count-block-Inv-loop s block n lent file index rows₀ i₀ rows i = Blocks (namesBy lent file index) s block n rows i
+count-block-Inv-loop s block n file index rows₀ i₀ rows i = Blocks (namesBy file index) s block n rows i
 
 abbrev count-block-μ-loop : count-block-lts.MeasureT-loop
-count-block-μ-loop s block n lent file index rows₀ i₀ rows i = n - i
+count-block-μ-loop s block n file index rows₀ i₀ rows i = n - i
 
 abbrev count-literal-calls : ℕ → count-literal-lts.Claims
 count-literal-calls t = (is-fstring-reads.Asked, is-fstring-reads.Learnt, count-window-below t, count-window.Post)
 
 abbrev count-literal-Inv-loop : count-literal-lts.InvT-loop
-count-literal-Inv-loop s l lent file index rows₀ seen₀ rows seen = Windows (namesBy lent file index) s (readRows (namesBy lent file index) s 0 (literalOf l)) rows seen
+count-literal-Inv-loop s l file index rows₀ seen₀ rows seen = Windows (namesBy file index) s (readRows (namesBy file index) s 0 (literalOf l)) rows seen
 
 abbrev count-literal-μ-loop : count-literal-lts.MeasureT-loop
-count-literal-μ-loop s l lent file index rows₀ seen₀ rows seen = length (readRows (namesBy lent file index) s 0 (literalOf l)) - seen
+count-literal-μ-loop s l file index rows₀ seen₀ rows seen = length (readRows (namesBy file index) s 0 (literalOf l)) - seen
 
 abbrev count-part-calls : ℕ → count-part-lts.Claims
 count-part-calls t = (next-literal-reads.Asked, next-literal-reads.Learnt, count-literal-below t, count-literal.Post)
 
 abbrev count-part-Inv-loop : count-part-lts.InvT-loop
-count-part-Inv-loop s from end lent file index at₀ rows₀ at rows = Counting (namesBy lent file index) s from end at rows
+count-part-Inv-loop s from end file index at₀ rows₀ at rows = Counting (namesBy file index) s from end at rows
 
 abbrev count-part-μ-loop : count-part-lts.MeasureT-loop
-count-part-μ-loop s from end lent file index at₀ rows₀ at rows = end - at
+count-part-μ-loop s from end file index at₀ rows₀ at rows = end - at
 
 abbrev count-window-calls : ℕ → count-window-lts.Claims
 count-window-calls t = (read-alone-reads.Asked, read-alone-reads.Learnt, lesser-reads.Asked, lesser-reads.Learnt, count-block-below t, count-block.Post)
@@ -146,9 +146,9 @@ pub +count-block+count-literal+count-part+count-window-spec : {M : Type 1} → s
     count-literal-μ-loop
     (λ c κs. search needs)  -- is-fstring-requires
     (λ c. windows-start _ _ _)  -- loop-holds
-    (λ c κs. let f = windows-few _ _ _ _ _ (c .loop .inv) (literal-most (namesBy (c .before .before .before .before .before .before .args .lent) (c .before .before .before .before .before .before .args .file .now) (c .before .before .before .before .before .before .args .index .now)) _ _ ((c .before .before .before .before .before .before .pre .1)) .1) in (omega (arith, (c .before .before .before .before .before .before .pre .0)), ((c .before .before .before .before .before .before .pre .1), sym (c .before .before .is-fstring .ensures) ∙ (c .before .if1 .taken), omega (arith, f), (c .loop .inv .some))))  -- count-window-requires
-    (λ c. let f = windows-most _ _ _ _ _ (c .before .before .loop .inv) _ (c .before .count-window .ensures) in let m = literal-most (namesBy (c .before .before .before .before .before .before .before .before .args .lent) (c .before .before .before .before .before .before .before .before .args .file .now) (c .before .before .before .before .before .before .before .before .args .index .now)) _ _ ((c .before .before .before .before .before .before .before .before .pre .1)) .0 in omega (arith, f, m))  -- add-rows
-    (λ c. let f = windows-few _ _ _ _ _ (c .before .before .loop .inv) (literal-most (namesBy (c .before .before .before .before .before .before .before .before .args .lent) (c .before .before .before .before .before .before .before .before .args .file .now) (c .before .before .before .before .before .before .before .before .args .index .now)) _ _ ((c .before .before .before .before .before .before .before .before .pre .1)) .1) in omega (arith, f))  -- add-seen
+    (λ c κs. let f = windows-few _ _ _ _ _ (c .loop .inv) (literal-most (namesBy (c .before .before .before .before .before .before .args .file .now) (c .before .before .before .before .before .before .args .index .now)) _ _ ((c .before .before .before .before .before .before .pre .1)) .1) in (omega (arith, (c .before .before .before .before .before .before .pre .0)), ((c .before .before .before .before .before .before .pre .1), sym (c .before .before .is-fstring .ensures) ∙ (c .before .if1 .taken), omega (arith, f), (c .loop .inv .some))))  -- count-window-requires
+    (λ c. let f = windows-most _ _ _ _ _ (c .before .before .loop .inv) _ (c .before .count-window .ensures) in let m = literal-most (namesBy (c .before .before .before .before .before .before .before .before .args .file .now) (c .before .before .before .before .before .before .before .before .args .index .now)) _ _ ((c .before .before .before .before .before .before .before .before .pre .1)) .0 in omega (arith, f, m))  -- add-rows
+    (λ c. let f = windows-few _ _ _ _ _ (c .before .before .loop .inv) (literal-most (namesBy (c .before .before .before .before .before .before .before .before .args .file .now) (c .before .before .before .before .before .before .before .before .args .index .now)) _ _ ((c .before .before .before .before .before .before .before .before .pre .1)) .1) in omega (arith, f))  -- add-seen
     (λ c. windows-done _ _ _ _ _ (c .before .before .before .before .loop .inv) _ (c .before .before .before .count-window .ensures) (c .if2 .taken))  -- returns
     (λ c. omega (arith, (c .if2 .left), (c .before .before .before .count-window .ensures .all)))  -- loop-less
     (λ c. windows-next _ _ _ _ _ (c .before .before .before .before .loop .inv) _ (c .before .before .before .count-window .ensures) (c .if2 .left))  -- loop-again

@@ -9,10 +9,10 @@ use Rattle.listing.proofs.rows.cut_rows.Statement.{statement}
 use Rattle.listing.proofs.rows.cut_rows.Tie as tie
 
 abbrev Inv-loop : tie.InvT-loop
-Inv-loop s from end within rows₀ count lent file index at₀ done₀ literals₀ rows at done literals = Cutting (namesBy lent file index) s from end within rows₀ rows count at done literals
+Inv-loop s from end within rows₀ count file index at₀ done₀ literals₀ rows at done literals = Cutting (namesBy file index) s from end within rows₀ rows count at done literals
 
 abbrev μ-loop : tie.MeasureT-loop
-μ-loop s from end within rows₀ count lent file index at₀ done₀ literals₀ rows at done literals = end - at
+μ-loop s from end within rows₀ count file index at₀ done₀ literals₀ rows at done literals = end - at
 
 pub cut-rows-spec : {M : Type 1} → statement M
 cut-rows-spec =

@@ -97,14 +97,14 @@ abbrev parse-spec-calls : ℕ → parse-spec-lts.Claims
 parse-spec-calls t = (read-first-reads.Asked, read-first-reads.Learnt, reserve-reads.Asked, reserve-reads.Learnt, end-text-reads.Asked, end-text-reads.Learnt, peek-reads.Asked, peek-reads.Learnt, fill-spec-reads.Asked, fill-spec-reads.Learnt, parse-fstring-below t, parse-fstring.Post)
 
 abbrev parse-fstring-Inv-loop : parse-fstring-lts.InvT-loop
-parse-fstring-Inv-loop s nested fr words₀ text₀ rows₀ fields lent file index cursor₀ sink₀ count₀ words text rows cursor sink count =
+parse-fstring-Inv-loop s nested fr words₀ text₀ rows₀ fields file index cursor₀ sink₀ count₀ words text rows cursor sink count =
     (length words ≡ length words₀)
     × (length text ≡ length text₀)
     × (length rows ≡ length rows₀)
-    × Rowing (namesBy lent file index) s (fr .kind) nested (cursor₀ .at) fr words₀ text₀ words text rows₀ rows sink₀ fields (cursor .at) sink count
+    × Rowing (namesBy file index) s (fr .kind) nested (cursor₀ .at) fr words₀ text₀ words text rows₀ rows sink₀ fields (cursor .at) sink count
 
 abbrev parse-fstring-μ-loop : parse-fstring-lts.MeasureT-loop
-parse-fstring-μ-loop s nested fr words₀ text₀ rows₀ fields lent file index cursor₀ sink₀ count₀ words text rows cursor sink count = length s - cursor .at
+parse-fstring-μ-loop s nested fr words₀ text₀ rows₀ fields file index cursor₀ sink₀ count₀ words text rows cursor sink count = length s - cursor .at
 
 parse-formatted-value-returns : (t : ℕ) → parse-formatted-value-lts.Need-returns (parse-formatted-value-calls t) (parse-formatted-value-at t) parse-formatted-value.Post
 parse-formatted-value-returns t c =
@@ -112,7 +112,7 @@ parse-formatted-value-returns t c =
 
 parse-formatted-value-parse-spec-requires : (t : ℕ) → parse-formatted-value-lts.Need-parse-spec-requires (parse-formatted-value-calls t) (parse-formatted-value-at t) parse-formatted-value.Post
 parse-formatted-value-parse-spec-requires t c κs =
-    let a = c .before .before .before .before .before .before .before .before .before .before .before .before .before .before .before .before .before .before .before .before .before .before .before .before .before .before .before .args in let p = c .before .before .before .before .before .before .before .before .before .before .before .before .before .before .before .before .before .before .before .before .before .before .before .before .before .before .before .pre in let E = rw (c .before .before .before .before .before .before .before .before .before .before .before .before .before .before .before .h .given .1) at (c .before .before .before .before .before .before .before .before .before .before .before .before .before .before .before .before .before .before .before .read-head .ensures) in let q = spec-asks (namesBy (a .lent) (a .file .now) (a .index .now)) (a .s .now) (a .nested) (a .at .at) (a .fr) (a .k) (c .before .before .before .before .before .before .before .before .before .before .before .before .before .before .before .h .given .0 .0) _ _ _ _ _ _ _ E (c .before .before .before .before .before .before .before .before .emit-field .ensures) (c .before .before .before .if1 .left) (p .1 .0) (a .fields) (p .1 .1 .1) in (omega (arith, p .0, q .0 .further, q .0 .room .low), (q .0 .room, ((p .1 .1 .0, q .0 .free, q .0 .strict), q .1)))
+    let a = c .before .before .before .before .before .before .before .before .before .before .before .before .before .before .before .before .before .before .before .before .before .before .before .before .before .before .before .args in let p = c .before .before .before .before .before .before .before .before .before .before .before .before .before .before .before .before .before .before .before .before .before .before .before .before .before .before .before .pre in let E = rw (c .before .before .before .before .before .before .before .before .before .before .before .before .before .before .before .h .given .1) at (c .before .before .before .before .before .before .before .before .before .before .before .before .before .before .before .before .before .before .before .read-head .ensures) in let q = spec-asks (namesBy (a .file .now) (a .index .now)) (a .s .now) (a .nested) (a .at .at) (a .fr) (a .k) (c .before .before .before .before .before .before .before .before .before .before .before .before .before .before .before .h .given .0 .0) _ _ _ _ _ _ _ E (c .before .before .before .before .before .before .before .before .emit-field .ensures) (c .before .before .before .if1 .left) (p .1 .0) (a .fields) (p .1 .1 .1) in (omega (arith, p .0, q .0 .further, q .0 .room .low), (q .0 .room, ((p .1 .1 .0, q .0 .free, q .0 .strict), q .1)))
 
 parse-formatted-value-put-signs-requires-2 : (t : ℕ) → parse-formatted-value-lts.Need-put-signs-requires-2 (parse-formatted-value-calls t) (parse-formatted-value-at t) parse-formatted-value.Post
 parse-formatted-value-put-signs-requires-2 t c κs =
@@ -136,7 +136,7 @@ parse-spec-end-text-requires t c κs =
 
 parse-spec-fill-spec-requires : (t : ℕ) → parse-spec-lts.Need-fill-spec-requires (parse-spec-calls t) (parse-spec-at t) parse-spec.Post
 parse-spec-fill-spec-requires t c κs =
-    let a = (c .before .before .before .before .before .before .before .before .before .before .before .before .before .before .before .before .before .before .before .args) in let R = (c .before .before .before .before .before .before .before .before .before .before .before .before .before .before .before .before .before .before .before .pre .1 .0) in let Z = (c .before .before .before .before .before .before .before .before .before .before .before .before .before .before .before .before .before .before .before .pre .1 .1 .0) in let K = kept (a .k) (c .before .before .before .before .before .before .reserve .result) (c .before .before .before .before .before .before .reserve .ensures .0) (c .before .before .before .before .before .before .reserve .ensures .1) in let F = (c .before .before .before .before .before .before .before .before .before .before .before .read-first .ensures) in let g = rw (add-one (a .nested)) at (c .before .before .before .before .before .end-text .ensures) in (fits _ _ _ _ R, fits _ _ _ _ (first-room (namesBy (a .lent) (a .file .now) (a .index .now)) (a .s .now) (a .nested) (a .at .at) (a .fr) _ _ _ _ (a .k) _ _ _ _ R (Z .2) K (F .0) (F .1) (F .2) g))
+    let a = (c .before .before .before .before .before .before .before .before .before .before .before .before .before .before .before .before .before .before .before .args) in let R = (c .before .before .before .before .before .before .before .before .before .before .before .before .before .before .before .before .before .before .before .pre .1 .0) in let Z = (c .before .before .before .before .before .before .before .before .before .before .before .before .before .before .before .before .before .before .before .pre .1 .1 .0) in let K = kept (a .k) (c .before .before .before .before .before .before .reserve .result) (c .before .before .before .before .before .before .reserve .ensures .0) (c .before .before .before .before .before .before .reserve .ensures .1) in let F = (c .before .before .before .before .before .before .before .before .before .before .before .read-first .ensures) in let g = rw (add-one (a .nested)) at (c .before .before .before .before .before .end-text .ensures) in (fits _ _ _ _ R, fits _ _ _ _ (first-room (namesBy (a .file .now) (a .index .now)) (a .s .now) (a .nested) (a .at .at) (a .fr) _ _ _ _ (a .k) _ _ _ _ R (Z .2) K (F .0) (F .1) (F .2) g))
 
 parse-spec-returns : (t : ℕ) → parse-spec-lts.Need-returns (parse-spec-calls t) (parse-spec-at t) parse-spec.Post
 parse-spec-returns t c =
@@ -144,7 +144,7 @@ parse-spec-returns t c =
 
 parse-spec-parse-fstring-requires : (t : ℕ) → parse-spec-lts.Need-parse-fstring-requires (parse-spec-calls t) (parse-spec-at t) parse-spec.Post
 parse-spec-parse-fstring-requires t c κs =
-    let a = (c .before .before .before .before .before .before .before .before .before .before .before .before .before .before .before .before .before .before .before .before .before .args) in let R = (c .before .before .before .before .before .before .before .before .before .before .before .before .before .before .before .before .before .before .before .before .before .pre .1 .0) in let Z = (c .before .before .before .before .before .before .before .before .before .before .before .before .before .before .before .before .before .before .before .before .before .pre .1 .1 .0) in let K = kept (a .k) (c .before .before .before .before .before .before .before .before .reserve .result) (c .before .before .before .before .before .before .before .before .reserve .ensures .0) (c .before .before .before .before .before .before .before .before .reserve .ensures .1) in let F = (c .before .before .before .before .before .before .before .before .before .before .before .before .before .read-first .ensures) in let g = rw (add-one (a .nested)) at (c .before .before .before .before .before .before .before .end-text .ensures) in let lo = first-in (a .s .now) (a .at .at) (R .low) in let q = first-room (namesBy (a .lent) (a .file .now) (a .index .now)) (a .s .now) (a .nested) (a .at .at) (a .fr) _ _ _ _ (a .k) _ _ _ _ R (Z .2) K (F .0) (F .1) (F .2) g in (omega (arith, (c .before .before .before .before .before .before .before .before .before .before .before .before .before .before .before .before .before .before .before .before .before .pre .0), Z .0, F .0, q .low), (q, (omega (arith, Z .0), few-on (a .fr) (suc (a .nested)) _ _ _ _ _ _ _ _ _ _ _ (first-emits (namesBy (a .lent) (a .file .now) (a .index .now)) (a .s .now) (a .nested) (a .at .at) (a .fr) _ _ _ _ (a .k) _ _ _ _ R (Z .2) K (F .0) (F .1) (F .2) g) (filled-signed (a .fr) (suc (a .nested)) _ (a .rows .now) _) (omega (arith, K .count, (c .before .before .before .before .before .before .before .before .before .before .before .before .before .before .before .before .before .before .before .before .before .pre .1 .1 .1))))))
+    let a = (c .before .before .before .before .before .before .before .before .before .before .before .before .before .before .before .before .before .before .before .before .before .args) in let R = (c .before .before .before .before .before .before .before .before .before .before .before .before .before .before .before .before .before .before .before .before .before .pre .1 .0) in let Z = (c .before .before .before .before .before .before .before .before .before .before .before .before .before .before .before .before .before .before .before .before .before .pre .1 .1 .0) in let K = kept (a .k) (c .before .before .before .before .before .before .before .before .reserve .result) (c .before .before .before .before .before .before .before .before .reserve .ensures .0) (c .before .before .before .before .before .before .before .before .reserve .ensures .1) in let F = (c .before .before .before .before .before .before .before .before .before .before .before .before .before .read-first .ensures) in let g = rw (add-one (a .nested)) at (c .before .before .before .before .before .before .before .end-text .ensures) in let lo = first-in (a .s .now) (a .at .at) (R .low) in let q = first-room (namesBy (a .file .now) (a .index .now)) (a .s .now) (a .nested) (a .at .at) (a .fr) _ _ _ _ (a .k) _ _ _ _ R (Z .2) K (F .0) (F .1) (F .2) g in (omega (arith, (c .before .before .before .before .before .before .before .before .before .before .before .before .before .before .before .before .before .before .before .before .before .pre .0), Z .0, F .0, q .low), (q, (omega (arith, Z .0), few-on (a .fr) (suc (a .nested)) _ _ _ _ _ _ _ _ _ _ _ (first-emits (namesBy (a .file .now) (a .index .now)) (a .s .now) (a .nested) (a .at .at) (a .fr) _ _ _ _ (a .k) _ _ _ _ R (Z .2) K (F .0) (F .1) (F .2) g) (filled-signed (a .fr) (suc (a .nested)) _ (a .rows .now) _) (omega (arith, K .count, (c .before .before .before .before .before .before .before .before .before .before .before .before .before .before .before .before .before .before .before .before .before .pre .1 .1 .1))))))
 
 parse-spec-fill-spec-requires-2 : (t : ℕ) → parse-spec-lts.Need-fill-spec-requires-2 (parse-spec-calls t) (parse-spec-at t) parse-spec.Post
 parse-spec-fill-spec-requires-2 t c κs =
@@ -185,7 +185,7 @@ pub +parse-formatted-value+parse-fstring+parse-spec-spec : {M : Type 1} → stat
     (λ c. search needs)  -- enum-known-close
     (parse-formatted-value-put-signs-requires-2 t)  -- put-signs-requires-2
     (λ c. let l0 = (c .before .before .before .before .text .given) in search needs)  -- same-length-4
-    (λ c. let a = (c .before .before .before .before .before .before .before .before .before .before .before .before .before .args) in let E = rw (c .before .r .given .1) at (c .before .before .before .before .before .read-head .ensures) in (to-refuse (λ l. l) _ _ _ _ _ _ _ _ _ (E (namesBy (a .lent) (a .file .now) (a .index .now)) (a .fr .kind) (a .nested)), tt))  -- returns-2
+    (λ c. let a = (c .before .before .before .before .before .before .before .before .before .before .before .before .before .args) in let E = rw (c .before .r .given .1) at (c .before .before .before .before .before .read-head .ensures) in (to-refuse (λ l. l) _ _ _ _ _ _ _ _ _ (E (namesBy (a .file .now) (a .index .now)) (a .fr .kind) (a .nested)), tt))  -- returns-2
     (λ c. let l0 = (c .before .before .before .before .rows2 .given) in let l1 = (c .before .before .before .before .before .before .text3 .given) in let l2 = (c .before .before .before .before .before .before .before .before .words2 .given) in let l3 = (c .before .before .before .before .before .before .before .before .before .before .before .before .before .before .before .text2 .given) in let l4 = (c .before .before .before .before .before .before .before .before .before .before .before .before .before .before .before .before .before .words .given) in let l5 = (c .before .before .before .before .before .before .before .before .before .before .before .before .before .before .before .before .before .before .before .before .before .before .before .before .before .before .before .before .text .given) in search needs)  -- same-length-5
     (λ c. let l0 = (c .before .before .before .before .rows2 .given) in let l1 = (c .before .before .before .before .before .before .text3 .given) in let l2 = (c .before .before .before .before .before .before .before .before .words2 .given) in let l3 = (c .before .before .before .before .before .before .before .before .before .before .before .before .before .before .before .text2 .given) in let l4 = (c .before .before .before .before .before .before .before .before .before .before .before .before .before .before .before .before .before .words .given) in let l5 = (c .before .before .before .before .before .before .before .before .before .before .before .before .before .before .before .before .before .before .before .before .before .before .before .before .before .before .before .before .text .given) in search needs)  -- same-length-6
     (λ c. let l0 = (c .before .before .before .before .rows2 .given) in let l1 = (c .before .before .before .before .before .before .text3 .given) in let l2 = (c .before .before .before .before .before .before .before .before .words2 .given) in let l3 = (c .before .before .before .before .before .before .before .before .before .before .before .before .before .before .before .text2 .given) in let l4 = (c .before .before .before .before .before .before .before .before .before .before .before .before .before .before .before .before .before .words .given) in let l5 = (c .before .before .before .before .before .before .before .before .before .before .before .before .before .before .before .before .before .before .before .before .before .before .before .before .before .before .before .before .text .given) in search needs)  -- same-length-7

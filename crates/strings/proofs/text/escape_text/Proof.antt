@@ -26,7 +26,7 @@ escape-text-spec =
     let w = within _ _ _ (p .0) in
     let e = sym (c .before .before .before .before .parse-escaped-char .ensures) ∙ ap says (c .before .before .escaped2 .given .1) in
     let a = c .before .before .before .before .before .before .before .before .before .args in
-    let h = rw e at (escape-sound (namesBy (a .lent) (a .file .now) (a .index .now)) (a .kind) (a .s .now) (a .after .at) (w .1)) in
+    let h = rw e at (escape-sound (namesBy (a .file .now) (a .index .now)) (a .kind) (a .s .now) (a .after .at) (w .1)) in
     search needs)  -- take-requires
     (λ c. search needs)  -- enum-known-escaped-3
     (λ c. search needs)  -- enum-known-escaped-4

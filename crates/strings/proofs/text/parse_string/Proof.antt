@@ -12,10 +12,10 @@ use Rattle.strings.proofs.text.parse_string.Statement.{statement}
 use Rattle.strings.proofs.text.parse_string.Tie as tie
 
 abbrev Inv-loop : tie.InvT-loop
-Inv-loop s kind text₀ used lent file index cursor₀ end₀ text cursor end = Upto (StringFrom (namesBy lent file index) kind s) s 0 used text₀ text (cursor .at) end
+Inv-loop s kind text₀ used file index cursor₀ end₀ text cursor end = Upto (StringFrom (namesBy file index) kind s) s 0 used text₀ text (cursor .at) end
 
 abbrev μ-loop : tie.MeasureT-loop
-μ-loop s kind text₀ used lent file index cursor₀ end₀ text cursor end = length s - cursor .at
+μ-loop s kind text₀ used file index cursor₀ end₀ text cursor end = length s - cursor .at
 
 pub parse-string-spec : {M : Type 1} → statement M
 parse-string-spec =

@@ -12,11 +12,11 @@ use Rattle.strings.proofs.text.text_run.Statement.{statement}
 use Rattle.strings.proofs.text.text_run.Tie as tie
 
 abbrev Inv-loop : tie.InvT-loop
-Inv-loop s nested kind text₀ used lent file index cursor₀ end₀ text cursor end =
-    Upto (TextFrom (namesBy lent file index) kind s nested (cursor₀ .at)) s (cursor₀ .at) used text₀ text (cursor .at) end
+Inv-loop s nested kind text₀ used file index cursor₀ end₀ text cursor end =
+    Upto (TextFrom (namesBy file index) kind s nested (cursor₀ .at)) s (cursor₀ .at) used text₀ text (cursor .at) end
 
 abbrev μ-loop : tie.MeasureT-loop
-μ-loop s nested kind text₀ used lent file index cursor₀ end₀ text cursor end = length s - cursor .at
+μ-loop s nested kind text₀ used file index cursor₀ end₀ text cursor end = length s - cursor .at
 
 pub text-run-spec : {M : Type 1} → statement M
 text-run-spec =
