@@ -1,5 +1,5 @@
 -- What a call with a file of names gives: an entry check's refusal, that of the file or its index, or what is read by a search. Assumes nothing.
-use mathlib.Core.Path.{_≡_, refl, sym, _∙_, ap}
+use mathlib.Core.Path.{_≡_, refl, sym, _∙_, ap, subst}
 use mathlib.Core.List.{List}
 use mathlib.Core.Option.{Option, none, some}
 use Prim.Native.Nat.{ℕ}
@@ -7,7 +7,8 @@ use native.Mathlib.Omega.{arith}
 use lib.ListN.{length}
 use Rattle.definition.specs.Numbers.{notSixes}
 use Rattle.definition.specs.Entry.{Literal, sixes, Refusal, refusal}
-use Rattle.definition.specs.Reading.{Outcome, accepts, refuses, roomed, called, readNumbers}
+use Rattle.definition.specs.Escapes.{Naming}
+use Rattle.definition.specs.Reading.{Outcome as Found, accepts, refuses, roomed, called, readNumbers}
 use Rattle.definition.specs.Names.{check, searched}
 use Rattle.definition.specs.NamedReading.{readNamed, namedNumbers}
 use Rattle.definition.proofs.NamedShown.{check-plain, named-entered, named-wrong, named-numbers}
@@ -17,6 +18,13 @@ use Rattle.entry.proofs.Passed.{passed}
 use Rattle.names.specs.declared.Answer.{Answer}
 use Rattle.names.specs.declared.Answer.the-variants.{Entries, Refused}
 use Rattle.names.specs.Answers.{answerOf}
+use Rattle.strings.specs.declared.Outcome.{Outcome}
+use Rattle.strings.specs.Strings.{CallIs}
+
+-- a call by one lookup is the call by another that is the same
+pub by-names : (look look′ : Naming) (script ns words text words′ text′ : List ℕ) (r : Outcome) → look ≡ look′
+    → CallIs (readNumbers look script ns words text) words′ text′ r → CallIs (readNumbers look′ script ns words text) words′ text′ r
+by-names look look′ script ns words text words′ text′ r e h = subst (λ f. CallIs (readNumbers f script ns words text) words′ text′ r) e h
 
 module _ (file index script ns words text : List ℕ) where
   pub refused-entry : (r : Refusal) → refuses r ≡ checkNumbers script ns → namedNumbers file index script ns words text ≡ called (refuses r) words text
@@ -31,7 +39,7 @@ module _ (file index script ns words text : List ℕ) where
   unfolding namedNumbers roomed
   wrong-names k n p h = go (check file index) refl h
     where
-      go : (o : Outcome (List ℕ)) → check file index ≡ o → Refused n ≡ answerOf o → namedNumbers file index script ns words text ≡ called (refuses (refusal n 0 0 0 0)) words text
+      go : (o : Found (List ℕ)) → check file index ≡ o → Refused n ≡ answerOf o → namedNumbers file index script ns words text ≡ called (refuses (refusal n 0 0 0 0)) words text
       go (accepts l) e z = let y : _≡_ {A = ℕ} 0 1 = cc in absurd (omega arith)
       go (refuses r) e z =
           let y : n ≡ r .number = cc in
@@ -42,6 +50,6 @@ module _ (file index script ns words text : List ℕ) where
   pub right-names : (n : ℕ) → Entries n ≡ answerOf (check file index) → namedNumbers file index script ns words text ≡ readNumbers (searched file index) script ns words text
   right-names n h = go (check file index) refl h
     where
-      go : (o : Outcome (List ℕ)) → check file index ≡ o → Entries n ≡ answerOf o → namedNumbers file index script ns words text ≡ readNumbers (searched file index) script ns words text
+      go : (o : Found (List ℕ)) → check file index ≡ o → Entries n ≡ answerOf o → namedNumbers file index script ns words text ≡ readNumbers (searched file index) script ns words text
       go (accepts m) e z = named-numbers file index script ns words text m e
       go (refuses r) e z = let y : _≡_ {A = ℕ} 0 1 = cc in absurd (omega arith)

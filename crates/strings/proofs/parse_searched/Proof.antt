@@ -1,6 +1,7 @@
 -- `strings::parse_searched` meets its contract. Assumes nothing.
 use borrow.Author.Needs.{needs}
 use Rattle.escapes.proofs.Lent.{names-lent, names-marked}
+use Rattle.strings.proofs.NamedCalls.{by-names}
 use Rattle.strings.proofs.parse_searched.Statement.{statement}
 use Rattle.strings.proofs.parse_searched.Tie as tie
 
@@ -12,8 +13,8 @@ parse-searched-spec =
     (λ c κs. search needs)  -- parse-by-requires
     (λ c. search needs)  -- same-length
     (λ c. search needs)  -- same-length-2
-    (λ c. let a = (c .before .before .before .before .before .before .before .before .before .before .before .before .before .before .before .args) in rw (names-marked (a .file .now) (a .index .now) (c .before .before .before .before .before .before .before .before .if1 .taken)) at (c .before .before .before .before .parse-by .ensures))  -- returns
+    (λ c. let a = (c .before .before .before .before .before .before .before .before .before .before .before .before .before .before .before .args) in by-names _ _ (a .script .now) (a .numbers .now) (a .words .now) (a .text .now) _ _ _ (names-marked (a .file .now) (a .index .now) (c .before .before .before .before .before .before .before .before .if1 .taken)) (c .before .before .before .before .parse-by .ensures))  -- returns
     (λ c κs. search needs)  -- parse-by-requires-2
     (λ c. search needs)  -- same-length-3
     (λ c. search needs)  -- same-length-4
-    (λ c. let a = (c .before .before .before .before .before .before .before .before .before .before .before .before .before .before .args) in rw (names-lent (a .file .now) (a .index .now) (c .before .before .before .before .before .before .before .if1 .left)) at (c .before .before .before .before .parse-by2 .ensures)))  -- returns-2
+    (λ c. let a = (c .before .before .before .before .before .before .before .before .before .before .before .before .before .before .args) in by-names _ _ (a .script .now) (a .numbers .now) (a .words .now) (a .text .now) _ _ _ (names-lent (a .file .now) (a .index .now) (c .before .before .before .before .before .before .before .if1 .left)) (c .before .before .before .before .parse-by2 .ensures)))  -- returns-2
