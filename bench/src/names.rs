@@ -2,38 +2,6 @@
 use crate::{call, ROUNDS};
 use std::time::{Duration, Instant};
 
-extern "C" {
-    fn stumpgarret_names_build(
-        file: *const u8,
-        file_length: usize,
-        index: *mut u32,
-        index_length: usize,
-        answer: *mut u32,
-    );
-    fn stumpgarret_names_check(
-        file: *const u8,
-        file_length: usize,
-        index: *const u32,
-        index_length: usize,
-        answer: *mut u32,
-    );
-    fn stumpgarret_read_searched(
-        script: *const u8,
-        script_length: usize,
-        literals: *const u32,
-        literals_length: usize,
-        file: *const u8,
-        file_length: usize,
-        index: *const u32,
-        index_length: usize,
-        words: *mut u32,
-        words_length: usize,
-        text: *mut u8,
-        text_length: usize,
-        answer: *mut u32,
-    );
-}
-
 /// A call takes at most so many literals.
 const MOST_LITERALS: usize = 1_024;
 /// Names are asked for in an order that is neither the file's nor the index's.
@@ -105,49 +73,21 @@ fn literals(asked: &[Asked]) -> List {
 }
 
 fn build(file: &[u8], index: &mut [u32]) -> usize {
-    let mut answer = [0; call::ANSWER];
-    let (entries, length) = (index.as_mut_ptr(), index.len());
-    // SAFETY: each pointer is a slice's own, with its length, so it is valid, aligned and not null.
-    // What is written to is borrowed mutably, so it overlaps nothing else.
-    unsafe {
-        stumpgarret_names_build(file.as_ptr(), file.len(), entries, length, answer.as_mut_ptr());
-    }
+    let answer = call::names_build(file, index);
     assert_eq!(answer[0], 0, "refused: {answer:?}");
     answer[1] as usize
 }
 
 fn check(file: &[u8], index: &[u32], number: u32) -> usize {
-    let mut answer = [0; call::ANSWER];
-    let (entries, length) = (index.as_ptr(), index.len());
-    // SAFETY: as above.
-    unsafe {
-        stumpgarret_names_check(file.as_ptr(), file.len(), entries, length, answer.as_mut_ptr());
-    }
+    let answer = call::names_check(file, index);
     assert_eq!(answer[0], number, "{answer:?}");
     answer[1] as usize
 }
 
 /// Reads the literals, which must be accepted, and gives the bytes of their text.
 fn search((script, list): &List, file: &[u8], index: &[u32], text: &mut [u8]) -> usize {
-    let (mut words, mut answer) = ([0; call::RECORD], [0; call::ANSWER]);
-    // SAFETY: as above.
-    unsafe {
-        stumpgarret_read_searched(
-            script.as_ptr(),
-            script.len(),
-            list.as_ptr(),
-            list.len(),
-            file.as_ptr(),
-            file.len(),
-            index.as_ptr(),
-            index.len(),
-            words.as_mut_ptr(),
-            words.len(),
-            text.as_mut_ptr(),
-            text.len(),
-            answer.as_mut_ptr(),
-        );
-    }
+    let mut words = [0; call::RECORD];
+    let answer = call::read_searched(script, list, file, index, &mut words, text);
     assert_eq!(answer[0], 0, "refused: {answer:?}");
     answer[6] as usize
 }

@@ -1,5 +1,4 @@
 //! The C interface, as `bindings/include/stumpgarret.h` describes it.
-use crate::names::Names;
 
 /// The numbers that describe a literal, the words of a record, the numbers of a row and of an answer.
 pub(crate) const LITERAL: usize = 6;
@@ -191,11 +190,11 @@ pub(crate) fn names_check(file: &[u8], index: &[u32]) -> [u32; ANSWER] {
 pub(crate) fn read_searched(
     script: &[u8],
     literals: &[u32],
-    names: &Names<'_>,
+    file: &[u8],
+    index: &[u32],
     words: &mut [u32],
     text: &mut [u8],
 ) -> [u32; ANSWER] {
-    let (file, index) = (names.file(), names.index());
     let mut answer = [0; ANSWER];
     // SAFETY: as above.
     unsafe {
@@ -218,8 +217,12 @@ pub(crate) fn read_searched(
     answer
 }
 
-pub(crate) fn fields_named(script: &[u8], names: &Names<'_>, rows: &mut [u32]) -> [u32; ANSWER] {
-    let (file, index) = (names.file(), names.index());
+pub(crate) fn fields_named(
+    script: &[u8],
+    file: &[u8],
+    index: &[u32],
+    rows: &mut [u32],
+) -> [u32; ANSWER] {
     let mut answer = [0; ANSWER];
     // SAFETY: as above.
     unsafe {

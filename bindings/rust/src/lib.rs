@@ -143,7 +143,10 @@ fn parsed(
     let (mut words, mut text) = (vec![0; records * call::RECORD], vec![0; bytes]);
     let answer = match names {
         None => call::read(script, &numbers, &mut words, &mut text),
-        Some(names) => call::read_searched(script, &numbers, names, &mut words, &mut text),
+        Some(names) => {
+            let (file, index) = (names.file(), names.index());
+            call::read_searched(script, &numbers, file, index, &mut words, &mut text)
+        }
     };
     Answer::new(answer, Cow::Owned(words), Cow::Owned(text))
 }
@@ -187,7 +190,8 @@ pub fn read_into_named<'a>(
     text: &'a mut [u8],
 ) -> Result<Answer<'a>, Refusal> {
     let numbers = literal::numbers(literals);
-    let answer = call::read_searched(script.as_ref(), &numbers, names, words, text);
+    let (file, index) = (names.file(), names.index());
+    let answer = call::read_searched(script.as_ref(), &numbers, file, index, words, text);
     Answer::new(answer, Cow::Borrowed(words), Cow::Borrowed(text))
 }
 

@@ -71,7 +71,7 @@ fn listed<'a>(script: &'a [u8], names: Option<&Names<'_>>) -> Result<Listing<'a>
     let mut numbers = vec![0; room * call::ROW];
     let answer = match names {
         None => call::fields(&script, &mut numbers),
-        Some(names) => call::fields_named(&script, names, &mut numbers),
+        Some(names) => call::fields_named(&script, names.file(), names.index(), &mut numbers),
     };
     match answer[0] {
         0 => Listing::new(script, &numbers, answer).ok_or_else(Refusal::unknown),
