@@ -413,7 +413,7 @@ fn read_all(
     }
 }
 
-// Reads the literals whose numbers are listed: names are looked up in a lent file by its index, or where that is empty among the held ones.
+// Reads the literals whose numbers are listed, with the names of a lent file, or where that is empty the held ones.
 fn parse_by(
     script: &[u8],
     numbers: &[u32],
@@ -433,13 +433,51 @@ fn parse_by(
     }
 }
 
+// The literals that passed the checks, read with the held names. What follows has no other caller, so that a reading without a file is compiled as one.
+fn read_held(
+    script: &[u8],
+    numbers: &[u32],
+    count: u32,
+    chars: u32,
+    words: &mut [u32],
+    text: &mut [u8],
+) -> Outcome
+    requires { ⌜ Passed (now script) (now numbers) count × (chars ≡ allChars (now script) (literals (now numbers) 0 count)) ⌝ }
+    ensures { λ r. ⌜ CallIs (readNumbers heldNames (now (script .entry)) (now (numbers .entry)) (now (words .entry)) (now (text .entry))) (now (words .exit)) (now (text .exit)) r ⌝ }
+{
+    let whole = whole_of(numbers, count);
+    let window = Window { within: 0, skip: 0 };
+    let mut rows = [0u32; 0];
+    let file = [0u8; 0];
+    let index = [0u32; 0];
+    match read_list(
+        script,
+        numbers,
+        count,
+        whole,
+        words,
+        text,
+        &mut rows,
+        window,
+        &file,
+        &index,
+    ) {
+        Listed::Refused(r) => refuse(words, text, r),
+        Listed::Done(sink, _) => finish(numbers, count, chars, whole, words, text, sink),
+    }
+}
+
 // Reads the literals whose numbers are listed, six for each, from a script into both buffers.
 pub fn parse_strings(script: &[u8], numbers: &[u32], words: &mut [u32], text: &mut [u8]) -> Outcome
     ensures { λ r. ⌜ CallIs (readNumbers heldNames (now (script .entry)) (now (numbers .entry)) (now (words .entry)) (now (text .entry))) (now (words .exit)) (now (text .exit)) r ⌝ }
 {
-    let file = [0u8; 0];
-    let index = [0u32; 0];
-    parse_by(script, numbers, &file, &index, words, text)
+    match entry::check(script, numbers) {
+        Checked::Refused(r) => refuse(words, text, r),
+        Checked::Passed(chars) => {
+            let count = (numbers.len() / 6) as u32;
+            read_held(script, numbers, count, chars, words, text)
+        }
+    }
 }
 
 // Reads them as `parse_strings` does, with names searched in a file by whatever index is lent.
