@@ -11,15 +11,3 @@ pub mod Join
 pub mod View
 pub mod Matched
 pub mod Words
-pub mod Lines
-pub mod Why
-pub mod Opening
-pub mod IsRun
-pub mod Literals
-pub mod IsCut
-pub mod Cut
-pub mod Listing
-pub mod Complete
-pub mod Names
-pub mod IsIndex
-pub mod NamedReading

@@ -10,7 +10,7 @@ use lib.ListN.{length}
 use Rattle.definition.specs.Numbers.{emptyList, notSixes, tooManyLiterals}
 use Rattle.definition.specs.Entry.{Refusal, refusal, notEmpty, notMany, firstOf, entry}
 use Rattle.definition.specs.Reading.{Outcome, accepts, refuses, allChars, outcomeOf, roomFor}
-use Rattle.definition.proofs.CharLaws.{cases}
+use Rattle.definition.proofs.moves.CharLaws.{cases}
 use Rattle.entry.specs.Answers.{laterChecks, checkNumbers}
 use Rattle.entry.specs.Literals.{literals}
 use Rattle.entry.proofs.Literals.{first-is, length-literals, sixes-some, sixes-none}

@@ -15,7 +15,7 @@ use Rattle.definition.specs.Chars.{if_then_else_, wellFormed}
 use Rattle.definition.specs.Escapes.{Naming}
 use Rattle.definition.specs.Entry.{Literal, sixes, opening, placeOf, body, Refusal, refusal, notEmpty, notMany, firstBad, bad, allGood, total, notLong, formed, illFormed, allUtf8, notMixed, firstOf, entry}
 use Rattle.definition.specs.Reading.{accepts, refuses, allChars, andThen, readLiteral, readFrom, answered, read, roomed, called, readInto, readNumbers}
-use Rattle.definition.proofs.CharLaws.{cases}
+use Rattle.definition.proofs.moves.CharLaws.{cases}
 use Rattle.entry.specs.Answers.{checkNumbers}
 use Rattle.entry.specs.Literals.{literalAt, literals}
 use Rattle.entry.proofs.Literals.{endBefore, badFrom, bad-turn, bad-found, none-left, one-left, length-literals, sixes-some}

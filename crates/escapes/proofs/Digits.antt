@@ -10,7 +10,7 @@ use borrow.Author.Tests.{lt-ltb, le-ltb}
 use lib.Dec.{lit≤}
 use lib.ListN.{length}
 use Rattle.utf8.specs.declared.Cursor.{Cursor}
-use Rattle.definition.proofs.CharLaws.{code-end}
+use Rattle.definition.proofs.moves.CharLaws.{code-end}
 use Rattle.utf8.proofs.Steps.{Stepped}
 use Rattle.definition.specs.Numbers.{unicodeError}
 use Rattle.definition.specs.Chars.{code}

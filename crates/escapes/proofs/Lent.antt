@@ -8,8 +8,8 @@ use lib.Dec.{ltb}
 use lib.ListN.{length, getD, drop, drop-of-length-le, List·getD-eq-default}
 use Rattle.definition.specs.Chars.{if_then_else_, byte, same}
 use Rattle.definition.specs.Escapes.{heldNames}
-use Rattle.definition.specs.Names.{atMost, upTo, hexValue, nameAt, nameOf, boundN, bound, entryOf, codeAt, scalarAt, searched}
-use Rattle.definition.proofs.CharLaws.{cases}
+use Rattle.definition_names.specs.Names.{atMost, upTo, hexValue, nameAt, nameOf, boundN, bound, entryOf, codeAt, scalarAt, searched}
+use Rattle.definition.proofs.moves.CharLaws.{cases}
 use Rattle.escapes.specs.Answers.{namesBy}
 
 pub none-lent : (file index name : List ℕ) → length file ≡ 0 → namesBy file index name ≡ heldNames name

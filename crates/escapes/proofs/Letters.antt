@@ -11,7 +11,7 @@ use Rattle.definition.specs.Numbers.{isBytes, nonAsciiInBytes}
 use Rattle.definition.specs.Chars.{if_then_else_, ascii, _is_}
 use Rattle.definition.specs.Escapes.{Naming, fault, got, refused, stays, octalDigit, octalFrom, octal, foreign, other, escapeCase, escape}
 use Rattle.utf8.specs.declared.Cursor.{Cursor}
-use Rattle.definition.proofs.CharLaws.{inside-yes}
+use Rattle.definition.proofs.moves.CharLaws.{inside-yes}
 use Rattle.utf8.proofs.Steps.{Stepped}
 use Rattle.utf8.proofs.Table.{at}
 

@@ -12,7 +12,7 @@ use lib.ListN.{getD, take, drop}
 use lib.Seq.{drop-cons}
 use Rattle.definition.specs.Chars.{ascii, same}
 use Rattle.definition.specs.Escapes.{held, lookup}
-use Rattle.definition.proofs.CharLaws.{cases, no}
+use Rattle.definition.proofs.moves.CharLaws.{cases, no}
 use Rattle.utf8.proofs.Table.{at, both-left, both-right}
 use Rattle.escapes.specs.Answers.{heldName}
 

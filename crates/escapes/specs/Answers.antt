@@ -4,7 +4,7 @@ use mathlib.Core.List.{List, [], _∷_}
 use lib.ListN.{getD}
 use Rattle.definition.specs.Chars.{ascii}
 use Rattle.definition.specs.Escapes.{fault, Read, got, refused, Meaning, stands, stays, vanishes, held, Naming, heldNames}
-use Rattle.definition.specs.Names.{searched}
+use Rattle.definition_names.specs.Names.{searched}
 use Rattle.escapes.specs.declared.Escaped.{Escaped}
 use Rattle.escapes.specs.declared.Escaped.the-variants.{Code, Kept, Gone, Refused}
 

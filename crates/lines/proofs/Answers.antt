@@ -11,15 +11,15 @@ use Rattle.definition.specs.Escapes.{heldNames}
 use Rattle.definition.specs.Records.{Answer}
 use Rattle.definition.specs.Entry.{Literal, sixes, oneMore, total}
 use Rattle.definition.specs.Reading.{Outcome, accepts, refuses, read, numbers, wordsAfter, textAfter, called, readNumbers}
-use Rattle.definition.proofs.Outcomes.{Sane, read-sane}
-use Rattle.definition.proofs.Lent.{read-needs, numbers-lent}
+use Rattle.definition.proofs.outcomes.Outcomes.{Sane, read-sane}
+use Rattle.definition.proofs.outcomes.Lent.{read-needs, numbers-lent}
 use Rattle.entry.specs.declared.Refusal.{Refusal as Why}
 use Rattle.entry.proofs.Checks.{clash}
 use Rattle.strings.specs.declared.Answer.{Answer as Given}
 use Rattle.strings.specs.declared.Outcome.{Outcome as Said}
 use Rattle.strings.specs.declared.Outcome.the-variants.{Accepted, Refused}
 use Rattle.strings.specs.Strings.{CallIs}
-use Rattle.definition.specs.Lines.{refusalLine, recordLines, outcomeLines, oneLiteral, bodyLines}
+use Rattle.definition_lines.specs.Lines.{refusalLine, recordLines, outcomeLines, oneLiteral, bodyLines}
 use Rattle.lines.specs.Written.{Adds, placeLines, Lie, longest, Lists, Room}
 use Rattle.lines.proofs.Places.{Small, all-places, gapless-inside, places-inside, lines-short}
 

@@ -11,7 +11,7 @@ use lib.ListN.{length, take, drop, getD, length-append, take-append-drop}
 use lib.Seq.{take-suc}
 use Rattle.definition.specs.Chars.{if_then_else_, ascii, _is_}
 use Rattle.buffers.proofs.Over.{over-nil, over-append}
-use Rattle.definition.specs.Lines.{decimalN, decimal, hexCode, escaped, escapedText}
+use Rattle.definition_lines.specs.Lines.{decimalN, decimal, hexCode, escaped, escapedText}
 use Rattle.lines.specs.Written.{Adds}
 
 -- nothing, and one run after another

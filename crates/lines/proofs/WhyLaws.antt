@@ -18,13 +18,13 @@ use Rattle.definition.specs.Records.{Record, Answer, wordsOf}
 use Rattle.definition.specs.Entry.{Literal, sixes, oneMore, total}
 use Rattle.definition.specs.Reading.{Outcome, accepts, refuses, outcomeOf, roomFor, allWords, read, numbers, wordsAfter, textAfter, called}
 use Rattle.definition.specs.Rows.{reason, Row, rowNumbers, allRows, allNumbers, rowed, roomedRows, rowsAfter, calledRows, signsInto, signsNumbers, rowField, recordFields}
-use Rattle.definition.specs.Lines.{refusalLine, oneLiteral}
-use Rattle.definition.specs.Why.{writtenEnd, reasonEnd, whyLine, whyHere, rowsLeft, whyLines, outcomeWhy, bodyWhy}
-use Rattle.definition.proofs.CharLaws.{cases}
-use Rattle.definition.proofs.FieldRows.{list-fields}
-use Rattle.definition.proofs.Moves.{part-short}
-use Rattle.definition.proofs.Outcomes.{Sane, read-sane, sizes}
-use Rattle.definition.proofs.Lent.{read-needs}
+use Rattle.definition_lines.specs.Lines.{refusalLine, oneLiteral}
+use Rattle.definition_lines.specs.Why.{writtenEnd, reasonEnd, whyLine, whyHere, rowsLeft, whyLines, outcomeWhy, bodyWhy}
+use Rattle.definition.proofs.moves.CharLaws.{cases}
+use Rattle.definition.proofs.rows.FieldRows.{list-fields}
+use Rattle.definition.proofs.moves.Moves.{part-short}
+use Rattle.definition.proofs.outcomes.Outcomes.{Sane, read-sane, sizes}
+use Rattle.definition.proofs.outcomes.Lent.{read-needs}
 use Rattle.entry.specs.declared.Refusal.{Refusal as Why}
 use Rattle.entry.proofs.Checks.{clash}
 use Rattle.strings.specs.declared.Answer.{Answer as Given}

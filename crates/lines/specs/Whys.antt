@@ -6,7 +6,7 @@ use mathlib.Core.List.{List, [], _++_}
 use lib.Dec.{eqb}
 use lib.ListN.{length, getD}
 use Rattle.definition.specs.Chars.{if_then_else_, part}
-use Rattle.definition.specs.Why.{whyLine, bodyWhy}
+use Rattle.definition_lines.specs.Why.{whyLine, bodyWhy}
 use Rattle.buffers.specs.Over.{over}
 use Rattle.lines.specs.Written.{longest}
 

@@ -5,7 +5,7 @@ use mathlib.Core.List.{List, [], _++_}
 use lib.ListN.{length, getD}
 use Rattle.definition.specs.Chars.{part}
 use Rattle.buffers.specs.Over.{over}
-use Rattle.definition.specs.Lines.{lineOf, bodyLines}
+use Rattle.definition_lines.specs.Lines.{lineOf, bodyLines}
 
 -- bytes that are written over a buffer from the used length on: the buffer and the used length afterwards
 pub record Adds (xs buffer : List ℕ) (used : ℕ) (after : List ℕ) (r : ℕ) : Type 0 where

@@ -8,7 +8,7 @@ ghost use mathlib.Core.List.{[], _∷_, _++_};
 ghost use Prim.Native.Nat.{_<_};
 ghost use lib.ListN.{length};
 ghost use Rattle.definition.specs.Chars.{_is_};
-ghost use Rattle.definition.specs.Lines.{decimal, hexCode, escaped, escapedText, literalLine, fieldLine, specLine, refusalLine, lineOf};
+ghost use Rattle.definition_lines.specs.Lines.{decimal, hexCode, escaped, escapedText, literalLine, fieldLine, specLine, refusalLine, lineOf};
 ghost use Rattle.lines.specs.Written.{Adds, Fits, placeLines, Lie, Lists, Room};
 
 pub(crate) const BODIES_TOO_LONG: u32 = 5;

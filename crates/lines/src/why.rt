@@ -12,7 +12,7 @@ use strings::parse_strings;
 ghost use mathlib.Core.Path.{_≡_};
 ghost use Prim.Native.Nat.{ℕ, suc, _+_, _*_, _<_, _≤_};
 ghost use lib.ListN.{length};
-ghost use Rattle.definition.specs.Why.{writtenEnd, reasonEnd, whyLine};
+ghost use Rattle.definition_lines.specs.Why.{writtenEnd, reasonEnd, whyLine};
 ghost use Rattle.lines.specs.Written.{Adds, Fits, Room};
 ghost use Rattle.lines.specs.Whys.{fieldsAfter, fieldsIn, whyPlace, whyPlaces, Lies, Explains};
 

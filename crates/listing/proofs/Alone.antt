@@ -13,7 +13,7 @@ use Rattle.definition.specs.Records as answers
 use Rattle.definition.specs.Reading.{accepts, refuses, inFront, read, numbers}
 use Rattle.definition.specs.Reading as reading
 use Rattle.definition.specs.Rows.{Row, rowNumbers, literalRows, allRows, allNumbers, rowed, rowedNumbers}
-use Rattle.definition.specs.Listing.{ListRow, ofField, ofRefusal, tenOf, tens, readRows, refusalsIn}
+use Rattle.definition_scripts.specs.Listing.{ListRow, ofField, ofRefusal, tenOf, tens, readRows, refusalsIn}
 use Rattle.entry.specs.declared.Refusal as why
 use Rattle.literals.specs.declared.Literal.{Literal}
 use Rattle.literals.specs.Answers.{literalOf, numbersOf}

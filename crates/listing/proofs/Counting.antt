@@ -16,14 +16,14 @@ use Rattle.definition.specs.Escapes.{Naming}
 use Rattle.definition.specs.Entry as d
 use Rattle.definition.specs.Reading.{inFront}
 use Rattle.definition.specs.Rows.{Row}
-use Rattle.definition.specs.IsCut.{reachesEnd, breaksOff}
-use Rattle.definition.specs.Cut.{Cut, cut, firstCut, cutFrom, cutPart}
-use Rattle.definition.specs.Listing.{ListRow, ofField, ofRefusal, tenOf, tens, readRows, allRead, brokenRow, cutRows, sourceEnd, otherwise, otherwiseRow, sourceRows, rowsOf, refusalsIn, least}
-use Rattle.definition.proofs.PartLaws.{cut-is-part}
-use Rattle.definition.proofs.SourceLaws.{Fits, AllFit, fit-more, literal-fit, source-fit}
-use Rattle.definition.proofs.ListingSteps.{ten, tens-length}
-use Rattle.definition.proofs.RowCount.{countRows, count-none, count-append, count-enough, count-whole}
-use Rattle.definition.proofs.FewRows.{part-few, literal-few}
+use Rattle.definition_scripts.specs.IsCut.{reachesEnd, breaksOff}
+use Rattle.definition_scripts.specs.Cut.{Cut, cut, firstCut, cutFrom, cutPart}
+use Rattle.definition_scripts.specs.Listing.{ListRow, ofField, ofRefusal, tenOf, tens, readRows, allRead, brokenRow, cutRows, sourceEnd, otherwise, otherwiseRow, sourceRows, rowsOf, refusalsIn, least}
+use Rattle.definition_scripts.proofs.cut.PartLaws.{cut-is-part}
+use Rattle.definition_scripts.proofs.listing.SourceLaws.{Fits, AllFit, fit-more, literal-fit, source-fit}
+use Rattle.definition_scripts.proofs.listing.ListingSteps.{ten, tens-length}
+use Rattle.definition_scripts.proofs.listing.RowCount.{countRows, count-none, count-append, count-enough, count-whole}
+use Rattle.definition_scripts.proofs.listing.FewRows.{part-few, literal-few}
 use Rattle.literals.specs.declared.Literal.{Literal}
 use Rattle.literals.specs.Answers.{literalOf}
 use Rattle.listing.specs.declared.odd.Field.{Field}

@@ -6,13 +6,13 @@ use native.Mathlib.Omega.{arith}
 use lib.ListN.{length, take, length-append, length-take}
 use Rattle.definition.specs.Escapes.{Naming}
 use Rattle.definition.specs.Entry as d
-use Rattle.definition.specs.IsCut.{Ending, reachesEnd, breaksOff, EachLiteral}
-use Rattle.definition.specs.Cut.{Cut, firstCut, cutFrom, cutPart}
-use Rattle.definition.specs.Listing.{ListRow, ofRefusal, tenOf, readRows, allRead, brokenRow, cutRows, reached}
-use Rattle.definition.proofs.CutSteps.{cutAfter, cut-after}
-use Rattle.definition.proofs.PartLaws.{part-cut-is, InPart, in-part}
-use Rattle.definition.proofs.RowCount.{countRows}
-use Rattle.definition.proofs.FewRows.{literal-few}
+use Rattle.definition_scripts.specs.IsCut.{Ending, reachesEnd, breaksOff, EachLiteral}
+use Rattle.definition_scripts.specs.Cut.{Cut, firstCut, cutFrom, cutPart}
+use Rattle.definition_scripts.specs.Listing.{ListRow, ofRefusal, tenOf, readRows, allRead, brokenRow, cutRows, reached}
+use Rattle.definition_scripts.proofs.cut.CutSteps.{cutAfter, cut-after}
+use Rattle.definition_scripts.proofs.cut.PartLaws.{part-cut-is, InPart, in-part}
+use Rattle.definition_scripts.proofs.listing.RowCount.{countRows}
+use Rattle.definition_scripts.proofs.listing.FewRows.{literal-few}
 use Rattle.buffers.specs.Over.{over}
 use Rattle.literals.specs.declared.Literal.{Literal}
 use Rattle.literals.specs.Answers.{literalOf}

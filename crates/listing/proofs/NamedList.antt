@@ -6,10 +6,10 @@ use native.Mathlib.Omega.{arith}
 use borrow.Author.Tests.{lt-ltb, le-ltb}
 use lib.ListN.{length}
 use Rattle.definition.specs.Reading.{Outcome, accepts, refuses, zeros}
-use Rattle.definition.specs.Names.{check, searched}
-use Rattle.definition.specs.Listing.{fieldsAfter, fieldsCall, fieldsInto, fieldsNumbers}
-use Rattle.definition.specs.NamedReading.{ofNames, fieldsNamedOf, fieldsNamedInto}
-use Rattle.definition.proofs.NamedShown.{named-fields}
+use Rattle.definition_names.specs.Names.{check, searched}
+use Rattle.definition_scripts.specs.Listing.{fieldsAfter, fieldsCall, fieldsInto, fieldsNumbers}
+use Rattle.definition_names.specs.NamedReading.{ofNames, fieldsNamedOf, fieldsNamedInto}
+use Rattle.definition_names.proofs.NamedShown.{named-fields}
 use Rattle.names.specs.declared.Answer.the-variants.{Entries, Refused}
 use Rattle.names.specs.Answers.{answerOf}
 use Rattle.listing.specs.declared.Fields.the-variants.{TooLong, WrongNames}

@@ -8,15 +8,15 @@ use borrow.Author.Tests.{lt-ltb, le-ltb, ltb-true, eq-eqb, ne-eqb}
 use lib.Dec.{ltb, eqb}
 use lib.ListN.{length, getD, take, length-take, List·getD-eq-default}
 use Rattle.definition.specs.Chars.{if_then_else_, _is_, byte}
-use Rattle.definition.specs.Opening.{opens, isSign, firstAt}
-use Rattle.definition.specs.IsRun.{bodyEnd, IsLiteral}
-use Rattle.definition.specs.IsCut.{reachesEnd, breaksOff, Begins, IsCut}
-use Rattle.definition.specs.Cut.{Cut, firstCut, cutFrom, cutPart}
-use Rattle.definition.specs.Listing.{reached, sourceEnd, firstIn, quotedInside, firstOdd, moreAfter, specBackslash, least, otherwise}
-use Rattle.definition.proofs.CharLaws.{cases, byte-is, before-here, before-next}
-use Rattle.definition.proofs.OpeningLaws.{opens-in}
-use Rattle.definition.proofs.LiteralFound.{literal-lies}
-use Rattle.definition.proofs.CutLaws.{cut-is}
+use Rattle.definition_scripts.specs.Opening.{opens, isSign, firstAt}
+use Rattle.definition_scripts.specs.IsRun.{bodyEnd, IsLiteral}
+use Rattle.definition_scripts.specs.IsCut.{reachesEnd, breaksOff, Begins, IsCut}
+use Rattle.definition_scripts.specs.Cut.{Cut, firstCut, cutFrom, cutPart}
+use Rattle.definition_scripts.specs.Listing.{reached, sourceEnd, firstIn, quotedInside, firstOdd, moreAfter, specBackslash, least, otherwise}
+use Rattle.definition.proofs.moves.CharLaws.{cases, byte-is, before-here, before-next}
+use Rattle.definition_scripts.proofs.literals.OpeningLaws.{opens-in}
+use Rattle.definition_scripts.proofs.literals.LiteralFound.{literal-lies}
+use Rattle.definition_scripts.proofs.cut.CutLaws.{cut-is}
 use Rattle.literals.specs.declared.Literal.{Literal}
 use Rattle.literals.specs.declared.Refusal.{Refusal}
 use Rattle.literals.specs.Answers.{literalOf}

@@ -15,8 +15,8 @@ use Rattle.definition.specs.Chars.{if_then_else_}
 use Rattle.definition.specs.Escapes.{Naming}
 use Rattle.definition.specs.Entry.{Literal}
 use Rattle.definition.specs.Rows.{reason, Row, rowNumbers}
-use Rattle.definition.specs.Listing.{ListRow, ofField, ofRefusal, tenOf, tens, readRows, refusalsIn}
-use Rattle.definition.proofs.ListingSteps.{ten, tens-length, tens-append}
+use Rattle.definition_scripts.specs.Listing.{ListRow, ofField, ofRefusal, tenOf, tens, readRows, refusalsIn}
+use Rattle.definition_scripts.proofs.listing.ListingSteps.{ten, tens-length, tens-append}
 use Rattle.buffers.specs.Over.{over}
 use Rattle.buffers.proofs.Over.{over-nil, length-over, over-append, over-front, over-lent}
 use Rattle.listing.specs.declared.rows.Alone.{Alone}

@@ -5,8 +5,8 @@ use mathlib.Core.List.{List, [], _∷_}
 use lib.ListN.{length}
 use Rattle.definition.specs.Numbers.{scriptTooLong, tooLittleListRoom}
 use Rattle.definition.specs.Escapes.{Naming}
-use Rattle.definition.specs.Cut.{cut}
-use Rattle.definition.specs.Listing.{tens, reached, rowsOf, FieldsCall, fieldsNumbers}
+use Rattle.definition_scripts.specs.Cut.{cut}
+use Rattle.definition_scripts.specs.Listing.{tens, reached, rowsOf, FieldsCall, fieldsNumbers}
 use Rattle.buffers.specs.Over.{over}
 use Rattle.listing.specs.declared.Fields.{Fields}
 use Rattle.listing.specs.declared.Fields.the-variants.{Listed, TooLong, WrongNames, Short}

@@ -5,10 +5,10 @@ use mathlib.Core.List.{List}
 use lib.ListN.{length, take, drop}
 use Rattle.definition.specs.Escapes.{Naming}
 use Rattle.definition.specs.Entry as d
-use Rattle.definition.specs.Listing.{ListRow, readRows, refusalsIn}
-use Rattle.definition.proofs.PartLaws.{InPart}
-use Rattle.definition.proofs.SourceLaws.{AllFit}
-use Rattle.definition.proofs.RowCount.{countRows}
+use Rattle.definition_scripts.specs.Listing.{ListRow, readRows, refusalsIn}
+use Rattle.definition_scripts.proofs.cut.PartLaws.{InPart}
+use Rattle.definition_scripts.proofs.listing.SourceLaws.{AllFit}
+use Rattle.definition_scripts.proofs.listing.RowCount.{countRows}
 use Rattle.listing.specs.declared.count.Window.{Window}
 use Rattle.listing.specs.Put.{rowsIn}
 

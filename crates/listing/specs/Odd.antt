@@ -5,9 +5,9 @@ use mathlib.Core.List.{List}
 use lib.Dec.{ltb}
 use lib.ListN.{length, take}
 use Rattle.definition.specs.Chars.{if_then_else_}
-use Rattle.definition.specs.Opening.{firstAt}
-use Rattle.definition.specs.Cut.{Cut, cutFrom}
-use Rattle.definition.specs.Listing.{reached, sourceEnd, firstOdd}
+use Rattle.definition_scripts.specs.Opening.{firstAt}
+use Rattle.definition_scripts.specs.Cut.{Cut, cutFrom}
+use Rattle.definition_scripts.specs.Listing.{reached, sourceEnd, firstOdd}
 use Rattle.definition.specs.Body.{Signs}
 use Rattle.definition.specs.Rows.{Row}
 use Rattle.literals.specs.declared.Literal.{Literal}

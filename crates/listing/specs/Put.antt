@@ -8,9 +8,9 @@ use Rattle.definition.specs.Chars.{if_then_else_}
 use Rattle.definition.specs.Escapes.{Naming}
 use Rattle.definition.specs.Entry.{Literal}
 use Rattle.definition.specs.Reading.{inFront}
-use Rattle.definition.specs.Cut.{cutPart}
-use Rattle.definition.specs.Listing.{ListRow, ofField, ofRefusal, tens, readRows, cutRows, reached, refusalsIn}
-use Rattle.definition.proofs.SourceLaws.{Fits}
+use Rattle.definition_scripts.specs.Cut.{cutPart}
+use Rattle.definition_scripts.specs.Listing.{ListRow, ofField, ofRefusal, tens, readRows, cutRows, reached, refusalsIn}
+use Rattle.definition_scripts.proofs.listing.SourceLaws.{Fits}
 use Rattle.buffers.specs.Over.{over}
 use Rattle.listing.specs.declared.odd.Field.{Field}
 use Rattle.listing.specs.declared.rows.Told.{Told}

@@ -9,9 +9,9 @@ ghost use Prim.Native.Nat.{_≤_};
 ghost use lib.Dec.{eqb, ltb};
 ghost use lib.ListN.{length};
 ghost use Rattle.definition.specs.Chars.{_is_, if_then_else_};
-ghost use Rattle.definition.specs.Opening.{firstAt};
-ghost use Rattle.definition.specs.Cut.{cutPart};
-ghost use Rattle.definition.specs.Listing.{sourceEnd, quotedInside, moreAfter, specBackslash, least, otherwise};
+ghost use Rattle.definition_scripts.specs.Opening.{firstAt};
+ghost use Rattle.definition_scripts.specs.Cut.{cutPart};
+ghost use Rattle.definition_scripts.specs.Listing.{sourceEnd, quotedInside, moreAfter, specBackslash, least, otherwise};
 ghost use Rattle.literals.specs.Answers.{literalOf};
 ghost use Rattle.listing.specs.Odd.{capped, Inside, oddOf, signsOf, rowOf, Source};
 

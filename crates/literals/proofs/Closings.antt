@@ -9,13 +9,13 @@ use lib.Dec.{leb, eqb}
 use lib.ListN.{length, drop}
 use Rattle.definition.specs.Numbers.{neverClosed, newlineInLiteral}
 use Rattle.definition.specs.Chars.{if_then_else_, _is_, byte, before}
-use Rattle.definition.specs.Opening.{quotesAt, lineEnd}
-use Rattle.definition.specs.Literals.{over, takes, closes, breaks, plain, bodyCase, closed, fails, closing, space, comment, other, blankCase, passed}
-use Rattle.definition.proofs.CharLaws.{cases, before-in, before-end, before-here, before-next}
-use Rattle.definition.proofs.Accepted.{neither}
-use Rattle.definition.proofs.LiteralLaws.{facts}
-use Rattle.definition.proofs.RunLaws.{blank-facts, space-in, comment-ahead}
-use Rattle.definition.proofs.LiteralSteps.{closing-over, closing-closes, closing-breaks, closing-takes, closing-plain, passed-other, passed-space, passed-comment}
+use Rattle.definition_scripts.specs.Opening.{quotesAt, lineEnd}
+use Rattle.definition_scripts.specs.Literals.{over, takes, closes, breaks, plain, bodyCase, closed, fails, closing, space, comment, other, blankCase, passed}
+use Rattle.definition.proofs.moves.CharLaws.{cases, before-in, before-end, before-here, before-next}
+use Rattle.definition.proofs.formed.Accepted.{neither}
+use Rattle.definition_scripts.proofs.literals.LiteralLaws.{facts}
+use Rattle.definition_scripts.proofs.literals.RunLaws.{blank-facts, space-in, comment-ahead}
+use Rattle.definition_scripts.proofs.literals.LiteralSteps.{closing-over, closing-closes, closing-breaks, closing-takes, closing-plain, passed-other, passed-space, passed-comment}
 use Rattle.literals.specs.Answers.{mark, thirdOf}
 
 -- A BODY, scanned up to the first byte that may matter

@@ -8,16 +8,16 @@ use borrow.Author.Tests.{lt-leb, le-leb, ltb-true, ltb-false, ne-eqb}
 use lib.Dec.{ltb, eqb}
 use lib.ListN.{length, getD, List·getD-eq-default}
 use Rattle.definition.specs.Chars.{if_then_else_, _is_, byte, atEnd, _to_, inside}
-use Rattle.definition.specs.Opening.{isQuote, noKind, opens, isSign, firstAt, isLineEnd, isWord, apart}
+use Rattle.definition_scripts.specs.Opening.{isQuote, noKind, opens, isSign, firstAt, isLineEnd, isWord, apart}
 use Rattle.definition.specs.Entry.{refusal}
 use Rattle.definition.specs.Reading.{accepts, refuses}
-use Rattle.definition.specs.IsCut.{reachesEnd, breaksOff}
-use Rattle.definition.specs.Literals.{literalAt}
-use Rattle.definition.specs.Cut.{begins, over, comment, literal, other, cutCase, commentEnd, firstCut, cutFrom}
-use Rattle.definition.proofs.CharLaws.{cases, no, byte-is, before-in, before-end, first-fails}
-use Rattle.definition.proofs.RunLaws.{sign-in}
-use Rattle.definition.proofs.CutLaws.{comment-past, apart-begins, cut-facts}
-use Rattle.definition.proofs.CutSteps.{cut-over, cut-other, cut-comment, cut-breaks, cut-goes}
+use Rattle.definition_scripts.specs.IsCut.{reachesEnd, breaksOff}
+use Rattle.definition_scripts.specs.Literals.{literalAt}
+use Rattle.definition_scripts.specs.Cut.{begins, over, comment, literal, other, cutCase, commentEnd, firstCut, cutFrom}
+use Rattle.definition.proofs.moves.CharLaws.{cases, no, byte-is, before-in, before-end, first-fails}
+use Rattle.definition_scripts.proofs.literals.RunLaws.{sign-in}
+use Rattle.definition_scripts.proofs.cut.CutLaws.{comment-past, apart-begins, cut-facts}
+use Rattle.definition_scripts.proofs.cut.CutSteps.{cut-over, cut-other, cut-comment, cut-breaks, cut-goes}
 use Rattle.literals.specs.declared.Literal.{Literal}
 use Rattle.literals.specs.declared.Refusal.{Refusal}
 use Rattle.literals.specs.Answers.{literalOf, refusalOf, cutMark, Skips}

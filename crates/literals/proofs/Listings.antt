@@ -8,14 +8,14 @@ use lib.ListN.{length, replicate, length-append}
 use Rattle.definition.specs.Entry.{Literal, refusal}
 use Rattle.definition.specs.Entry as d
 use Rattle.definition.specs.Reading.{Outcome, accepts, refuses, lastEnd, zeros}
-use Rattle.definition.specs.Opening.{noKind, opens}
-use Rattle.definition.specs.Literals.{literalAt, passed, Run, run, literalsFrom, flat, listed, listAfter, listInto, literalsInto, listNumbers}
-use Rattle.definition.proofs.JoinLaw.{end-append}
-use Rattle.definition.proofs.OpeningLaws.{opens-in}
-use Rattle.definition.proofs.LiteralFound.{LiteralAt, literal-at, literal-lies}
-use Rattle.definition.proofs.RunLaws.{passed-over, passed-ahead}
-use Rattle.definition.proofs.LiteralSteps.{run-ends, run-refuses, run-goes, runAfter, run-after}
-use Rattle.definition.proofs.ListLaw.{flat-length}
+use Rattle.definition_scripts.specs.Opening.{noKind, opens}
+use Rattle.definition_scripts.specs.Literals.{literalAt, passed, Run, run, literalsFrom, flat, listed, listAfter, listInto, literalsInto, listNumbers}
+use Rattle.definition.proofs.join.JoinLaw.{end-append}
+use Rattle.definition_scripts.proofs.literals.OpeningLaws.{opens-in}
+use Rattle.definition_scripts.proofs.literals.LiteralFound.{LiteralAt, literal-at, literal-lies}
+use Rattle.definition_scripts.proofs.literals.RunLaws.{passed-over, passed-ahead}
+use Rattle.definition_scripts.proofs.literals.LiteralSteps.{run-ends, run-refuses, run-goes, runAfter, run-after}
+use Rattle.definition_scripts.proofs.literals.ListLaw.{flat-length}
 use Rattle.buffers.specs.Over.{over}
 use Rattle.buffers.proofs.Over.{over-nil, over-append, length-over, over-front}
 use Rattle.literals.specs.declared.Run as code

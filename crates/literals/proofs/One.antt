@@ -7,8 +7,8 @@ use lib.ListN.{length, getD}
 use Rattle.literals.specs.declared.Listing.{Listing}
 use Rattle.literals.specs.declared.Listing.the-variants.{Lists, Refused, Short}
 use Rattle.definition.specs.Entry as d
-use Rattle.definition.specs.IsCut.{Ending, reachesEnd, breaksOff}
-use Rattle.definition.specs.Cut.{Cut, firstCut, cutFrom}
+use Rattle.definition_scripts.specs.IsCut.{Ending, reachesEnd, breaksOff}
+use Rattle.definition_scripts.specs.Cut.{Cut, firstCut, cutFrom}
 use Rattle.literals.specs.declared.Literal.{Literal}
 use Rattle.literals.specs.declared.Refusal.{Refusal}
 use Rattle.literals.specs.declared.Next.{Next}

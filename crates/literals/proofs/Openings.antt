@@ -6,8 +6,8 @@ use borrow.Author.Tests.{eqb-true}
 use lib.Dec.{eqb}
 use Rattle.definition.specs.Numbers.{prefix}
 use Rattle.definition.specs.Chars.{if_then_else_, _is_}
-use Rattle.definition.specs.Opening.{noKind, twoLetters}
-use Rattle.definition.proofs.CharLaws.{either}
+use Rattle.definition_scripts.specs.Opening.{noKind, twoLetters}
+use Rattle.definition.proofs.moves.CharLaws.{either}
 use Rattle.literals.specs.Answers.{rawKind}
 
 -- TWO LETTERS, by which of them is an `r`

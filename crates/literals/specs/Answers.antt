@@ -10,12 +10,12 @@ use Rattle.definition.specs.Chars.{if_then_else_, _is_}
 use Rattle.definition.specs.Entry as d
 use Rattle.definition.specs.Entry.{refusal}
 use Rattle.definition.specs.Reading.{Outcome, accepts, refuses, lastEnd}
-use Rattle.definition.specs.Opening.{noKind, opens}
-use Rattle.definition.specs.IsCut.{reachesEnd, breaksOff}
-use Rattle.definition.specs.Cut as c
-use Rattle.definition.specs.Cut.{cutCase, cutFrom, firstCut}
-use Rattle.definition.specs.Literals as s
-use Rattle.definition.specs.Literals.{flat, ListCall, listNumbers}
+use Rattle.definition_scripts.specs.Opening.{noKind, opens}
+use Rattle.definition_scripts.specs.IsCut.{reachesEnd, breaksOff}
+use Rattle.definition_scripts.specs.Cut as c
+use Rattle.definition_scripts.specs.Cut.{cutCase, cutFrom, firstCut}
+use Rattle.definition_scripts.specs.Literals as s
+use Rattle.definition_scripts.specs.Literals.{flat, ListCall, listNumbers}
 use Rattle.buffers.specs.Over.{over}
 use Rattle.literals.specs.declared.Literal.{Literal}
 use Rattle.literals.specs.declared.Run.{Run}

@@ -5,11 +5,11 @@ ghost use Prim.Native.Nat.{ℕ, _+_, _*_, _≤_, _<_, _^_};
 ghost use lib.ListN.{length, drop};
 ghost use Rattle.definition.specs.Numbers.{prefix};
 ghost use Rattle.definition.specs.Chars.{_is_, byte, before, inside, _to_};
-ghost use Rattle.definition.specs.Opening.{isQuote, oneLetter, twoLetters, opens, tripled, quotes, quotesAt, lineEnd, isWord, apart, firstAt};
+ghost use Rattle.definition_scripts.specs.Opening.{isQuote, oneLetter, twoLetters, opens, tripled, quotes, quotesAt, lineEnd, isWord, apart, firstAt};
 ghost use Rattle.definition.specs.Reading.{Outcome, zeros};
-ghost use Rattle.definition.specs.Literals as s;
-ghost use Rattle.definition.specs.Literals.{bodyCase, closing, literalAt, blankCase, passed, run, listed, listInto, literalsInto};
-ghost use Rattle.definition.specs.Cut.{commentEnd};
+ghost use Rattle.definition_scripts.specs.Literals as s;
+ghost use Rattle.definition_scripts.specs.Literals.{bodyCase, closing, literalAt, blankCase, passed, run, listed, listInto, literalsInto};
+ghost use Rattle.definition_scripts.specs.Cut.{commentEnd};
 ghost use Rattle.buffers.specs.Over.{over};
 ghost use Rattle.literals.specs.Answers.{rawKind, mark, thirdOf, caseOf, closingOf, Within, foundOf, blankOf, numbersOf, Wrote, RunIs, CallIs, cutMark, CaseIs, Skips, NextIs};
 

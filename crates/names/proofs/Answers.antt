@@ -13,13 +13,13 @@ use Rattle.definition.specs.Numbers.{lineMalformed, nameTwice, tooLittleIndexRo
 use Rattle.definition.specs.Chars.{same, noCode}
 use Rattle.definition.specs.Entry.{refusal}
 use Rattle.definition.specs.Reading.{Outcome, accepts, zeros}
-use Rattle.definition.specs.Names.{Entry, named, twice, indexOf, refuse, indexed, inRoom, against, build, check, indexAfter, buildInto, firstField, nameOf, bound, entryOf, scalarAt, searched}
-use Rattle.definition.specs.IsIndex.{count}
-use Rattle.definition.proofs.CharLaws.{cases}
-use Rattle.definition.proofs.NameLists.{same?, count-later, count-none}
-use Rattle.definition.proofs.NameFields.{stop-at, go-on, upTo-none}
-use Rattle.definition.proofs.NameIndex.{same-true, same-eq}
-use Rattle.definition.proofs.NameChecked.{index-size}
+use Rattle.definition_names.specs.Names.{Entry, named, twice, indexOf, refuse, indexed, inRoom, against, build, check, indexAfter, buildInto, firstField, nameOf, bound, entryOf, scalarAt, searched}
+use Rattle.definition_names.specs.IsIndex.{count}
+use Rattle.definition.proofs.moves.CharLaws.{cases}
+use Rattle.definition_names.proofs.NameLists.{same?, count-later, count-none}
+use Rattle.definition_names.proofs.NameFields.{stop-at, go-on, upTo-none}
+use Rattle.definition_names.proofs.NameIndex.{same-true, same-eq}
+use Rattle.definition_names.proofs.NameChecked.{index-size}
 use Rattle.names.specs.Answers.{countOf, Sized, OrderedIs, CheckedIs, DistinctIs, answerOf, CallIs}
 use Rattle.names.specs.declared.Counted.the-variants.{Wrong, Names}
 use Rattle.names.specs.declared.Answer.{Answer}

@@ -5,8 +5,8 @@ use mathlib.Core.Option.{Option, none, some}
 use Prim.Native.Nat.{ℕ, suc, _+_, _≤_, _<_, zero-le}
 use native.Mathlib.Omega.{arith}
 use lib.ListN.{length}
-use Rattle.definition.specs.Names.{nameOf, Entry, names, withLine, namedFrom, named, codeAt}
-use Rattle.definition.proofs.NameLines.{from-end}
+use Rattle.definition_names.specs.Names.{nameOf, Entry, names, withLine, namedFrom, named, codeAt}
+use Rattle.definition_names.proofs.NameLines.{from-end}
 use Rattle.names.specs.Answers.{countOf}
 use Rattle.names.specs.declared.Counted.{Counted}
 use Rattle.names.specs.declared.Counted.the-variants.{Wrong, Names}

@@ -8,10 +8,10 @@ use native.Mathlib.Numerals.{add-one}
 use native.Mathlib.Omega.{arith}
 use lib.ListN.{length, take, set, length-append, length-set}
 use lib.Seq.{take-suc-set}
-use Rattle.definition.specs.Names.{nameOf, Entry, at, names, withLine, namedFrom, codeAt}
-use Rattle.definition.proofs.NameLists.{same?}
-use Rattle.definition.proofs.NameIndex.{Faithful, all-none, all-cons}
-use Rattle.definition.proofs.NameLookup.{all-append}
+use Rattle.definition_names.specs.Names.{nameOf, Entry, at, names, withLine, namedFrom, codeAt}
+use Rattle.definition_names.proofs.NameLists.{same?}
+use Rattle.definition_names.proofs.NameIndex.{Faithful, all-none, all-cons}
+use Rattle.definition_names.proofs.NameLookup.{all-append}
 use Rattle.names.specs.Answers.{onto, FilledOf}
 
 pub onto-none : (o : Option (List Entry)) → o ≡ onto [] o

@@ -8,15 +8,15 @@ use native.Mathlib.Omega.{arith}
 use lib.Dec.{eqb}
 use lib.ListN.{length, getD, length-map, length-append}
 use lib.Seq.{take-all}
-use Rattle.definition.specs.Names.{Entry, at, namedFrom, named, twice, indexOf}
-use Rattle.definition.specs.IsIndex.{bit, count, Perm, Rising, startsAt, isStart, inOrder}
-use Rattle.definition.proofs.CharLaws.{cases}
-use Rattle.definition.proofs.NameOrder.{never}
-use Rattle.definition.proofs.NameLists.{same?, count-at}
-use Rattle.definition.proofs.NameIndex.{twice-false, index-rises, index-unique, perm-byName, rising-distinct, distinct-twice, checked}
-use Rattle.definition.proofs.NameLines.{from-end}
-use Rattle.definition.proofs.NameLookup.{falls-twice}
-use Rattle.definition.proofs.NameChecked.{some-same, index-size, faithful, starts}
+use Rattle.definition_names.specs.Names.{Entry, at, namedFrom, named, twice, indexOf}
+use Rattle.definition_names.specs.IsIndex.{bit, count, Perm, Rising, startsAt, isStart, inOrder}
+use Rattle.definition.proofs.moves.CharLaws.{cases}
+use Rattle.definition_names.proofs.NameOrder.{never}
+use Rattle.definition_names.proofs.NameLists.{same?, count-at}
+use Rattle.definition_names.proofs.NameIndex.{twice-false, index-rises, index-unique, perm-byName, rising-distinct, distinct-twice, checked}
+use Rattle.definition_names.proofs.NameLines.{from-end}
+use Rattle.definition_names.proofs.NameLookup.{falls-twice}
+use Rattle.definition_names.proofs.NameChecked.{some-same, index-size, faithful, starts}
 use Rattle.ordering.specs.Sorting.{Sorted, Falls, RisingIs}
 use Rattle.names.specs.Answers.{Starts, Strays, FilledOf, Sized, OrderedIs, CheckedIs}
 

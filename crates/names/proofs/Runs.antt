@@ -7,16 +7,16 @@ use mathlib.Core.Logic.{⊎-elim}
 use Prim.Native.Nat.{ℕ, _≤_, _<_}
 use native.Mathlib.Omega.{arith}
 use lib.ListN.{length, take, drop, getD}
-use Rattle.definition.specs.Names.{Entry, at, names, withLine, namedFrom, named, twice, firstField, nameAt, nameOf, codeAt, entryOf}
-use Rattle.definition.specs.IsIndex.{count, Perm, Rising, inOrder}
-use Rattle.definition.proofs.CharLaws.{cases}
-use Rattle.definition.proofs.NameOrder.{never}
-use Rattle.definition.proofs.NameLists.{same?, count-at, count-here, count-later, Stands, stands}
-use Rattle.definition.proofs.NameIndex.{all-none, all-cons, all-first, all-rest, all-map, Faithful, twice-false, distinct-twice, rising-distinct}
-use Rattle.definition.proofs.NameLines.{from-end}
-use Rattle.definition.proofs.NameLookup.{all-append, all-right, not-there, falls-twice, Apart, distinct-left, distinct-right, distinct-join, distinct-apart}
-use Rattle.definition.proofs.NameSearch.{EntryIs, entry-is}
-use Rattle.definition.proofs.NameChecked.{some-same}
+use Rattle.definition_names.specs.Names.{Entry, at, names, withLine, namedFrom, named, twice, firstField, nameAt, nameOf, codeAt, entryOf}
+use Rattle.definition_names.specs.IsIndex.{count, Perm, Rising, inOrder}
+use Rattle.definition.proofs.moves.CharLaws.{cases}
+use Rattle.definition_names.proofs.NameOrder.{never}
+use Rattle.definition_names.proofs.NameLists.{same?, count-at, count-here, count-later, Stands, stands}
+use Rattle.definition_names.proofs.NameIndex.{all-none, all-cons, all-first, all-rest, all-map, Faithful, twice-false, distinct-twice, rising-distinct}
+use Rattle.definition_names.proofs.NameLines.{from-end}
+use Rattle.definition_names.proofs.NameLookup.{all-append, all-right, not-there, falls-twice, Apart, distinct-left, distinct-right, distinct-join, distinct-apart}
+use Rattle.definition_names.proofs.NameSearch.{EntryIs, entry-is}
+use Rattle.definition_names.proofs.NameChecked.{some-same}
 use Rattle.ordering.specs.Sorting.{Sorted, Falls}
 use Rattle.names.specs.Answers.{onto, FilledOf, FreeOf, Free, MeetsIs, PartIs, NewIs, RunIs, DistinctIs}
 use Rattle.names.proofs.Filling.{onto-none, onto-add}

@@ -7,10 +7,10 @@ use lib.Dec.{eqb}
 use lib.ListN.{length, getD, drop}
 use borrow.Author.Tests.{le-leb, lt-leb}
 use Rattle.definition.specs.Escapes.{hexDigit}
-use Rattle.definition.specs.Names.{noValue, hexValue, upTo, firstField, codeAt}
-use Rattle.definition.specs.IsIndex.{bit, count}
-use Rattle.definition.proofs.NameFields.{upTo-end, upTo-mark, upTo-more}
-use Rattle.definition.proofs.NameScan.{EndsOf, DigitsOf}
+use Rattle.definition_names.specs.Names.{noValue, hexValue, upTo, firstField, codeAt}
+use Rattle.definition_names.specs.IsIndex.{bit, count}
+use Rattle.definition_names.proofs.NameFields.{upTo-end, upTo-mark, upTo-more}
+use Rattle.definition_names.proofs.NameScan.{EndsOf, DigitsOf}
 
 -- digits read so far
 pub record Digiting (file : List ℕ) (p v i : ℕ) : Type 0 where

@@ -7,9 +7,9 @@ use mathlib.Core.List.{List, _++_, map}
 use mathlib.Core.Option.{Option, none, some}
 use lib.ListN.{length, take, getD}
 use Rattle.definition.specs.Reading.{Outcome, accepts, refuses}
-use Rattle.definition.specs.Names.{Entry, at, names, withLine, namedFrom, named, twice, indexOf, firstField, nameOf, codeAt, BuildCall}
-use Rattle.definition.specs.IsIndex.{count, Rising, isStart, inOrder}
-use Rattle.definition.proofs.NameIndex.{All, Faithful}
+use Rattle.definition_names.specs.Names.{Entry, at, names, withLine, namedFrom, named, twice, indexOf, firstField, nameOf, codeAt, BuildCall}
+use Rattle.definition_names.specs.IsIndex.{count, Rising, isStart, inOrder}
+use Rattle.definition_names.proofs.NameIndex.{All, Faithful}
 use Rattle.ordering.specs.Sorting.{Sorted, Falls}
 use Rattle.names.specs.declared.Line.{Line}
 use Rattle.names.specs.declared.Line.the-variants.{Malformed, Nameless, Named}

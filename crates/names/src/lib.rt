@@ -7,9 +7,9 @@ ghost use lib.ListN.{length};
 ghost use Rattle.definition.specs.Chars.{byte};
 ghost use Rattle.definition.specs.Escapes.{hexDigit};
 ghost use Rattle.definition.specs.Reading.{zeros};
-ghost use Rattle.definition.specs.Names.{isScalar, namedFrom, named, scalarAt, searched, check, buildInto};
-ghost use Rattle.definition.specs.IsIndex.{bit, startsAt, isStart, inOrder, Rising};
-ghost use Rattle.definition.proofs.NameScan.{EndsOf, DigitsOf};
+ghost use Rattle.definition_names.specs.Names.{isScalar, namedFrom, named, scalarAt, searched, check, buildInto};
+ghost use Rattle.definition_names.specs.IsIndex.{bit, startsAt, isStart, inOrder, Rising};
+ghost use Rattle.definition_names.proofs.NameScan.{EndsOf, DigitsOf};
 ghost use Rattle.names.specs.declared.Answer.the-variants.{Refused};
 ghost use Rattle.names.specs.Answers.{Steps, countOf, StartsIs, FilledOf, Sized, OrderedIs, CheckedIs, MeetsIs, PartIs, RunIs, DistinctIs, answerOf, CallIs, MarkedIs};
 

@@ -5,9 +5,9 @@ use mathlib.Core.List.{List}
 use Prim.Native.Nat.{ℕ, _+_, _≤_, _<_}
 use native.Mathlib.Omega.{arith}
 use lib.ListN.{length, getD, drop}
-use Rattle.definition.specs.Names.{atMost, firstField}
-use Rattle.definition.proofs.NameOrder.{first-less, first-more, first-same}
-use Rattle.definition.proofs.NameFields.{upTo-end, upTo-mark, upTo-more}
+use Rattle.definition_names.specs.Names.{atMost, firstField}
+use Rattle.definition_names.proofs.NameOrder.{first-less, first-more, first-same}
+use Rattle.definition_names.proofs.NameFields.{upTo-end, upTo-mark, upTo-more}
 
 -- the name from i of s on does not come after the one from j of t on
 abbrev pub Before : List ℕ → ℕ → List ℕ → ℕ → Bool

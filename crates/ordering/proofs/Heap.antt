@@ -9,8 +9,8 @@ use lib.Dec.{eqb, ltb}
 use lib.ListN.{length, getD, set, length-set}
 use lib.Seq.{getD-set-same, getD-set-other}
 use borrow.Author.Tests.{eqb-true, eqb-false, ltb-true, ltb-false}
-use Rattle.definition.specs.IsIndex.{bit, count, Perm}
-use Rattle.definition.proofs.CharLaws.{cases}
+use Rattle.definition_names.specs.IsIndex.{bit, count, Perm}
+use Rattle.definition.proofs.moves.CharLaws.{cases}
 use Rattle.ordering.specs.Sorting.{swapped, Child, Le, Heap, Holed, Under, Sifted, Greatest, Heaped, Done, Sorted}
 
 same? : {P : Type 0} (x y : ℕ) → (x ≡ y → P) → ((x ≡ y → ⊥) → P) → P

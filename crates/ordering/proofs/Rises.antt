@@ -5,9 +5,9 @@ use mathlib.Core.List.{List}
 use Prim.Native.Nat.{ℕ, _+_, _≤_, _<_}
 use native.Mathlib.Omega.{arith}
 use lib.ListN.{length, getD}
-use Rattle.definition.specs.IsIndex.{inOrder, Rising}
-use Rattle.definition.proofs.NameOrder.{order-total, order-trans, order-refl}
-use Rattle.definition.proofs.NameLists.{same?, rises}
+use Rattle.definition_names.specs.IsIndex.{inOrder, Rising}
+use Rattle.definition_names.proofs.NameOrder.{order-total, order-trans, order-refl}
+use Rattle.definition_names.proofs.NameLists.{same?, rises}
 
 -- a list that rises so far
 module _ (file l : List ℕ) where

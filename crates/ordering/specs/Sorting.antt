@@ -4,7 +4,7 @@ use mathlib.Core.Path.{_≡_}
 use mathlib.Core.Bool.{Bool, true, false}
 use mathlib.Core.List.{List}
 use lib.ListN.{length, getD, set}
-use Rattle.definition.specs.IsIndex.{Perm, Rising}
+use Rattle.definition_names.specs.IsIndex.{Perm, Rising}
 
 -- the elements at i and j exchanged
 unfoldable pub swapped : List ℕ → ℕ → ℕ → List ℕ

@@ -4,8 +4,8 @@ ghost use Prim.Native.Nat.{_+_, _≤_, _<_};
 ghost use lib.Dec.{eqb};
 ghost use lib.ListN.{length, drop, getD};
 ghost use Rattle.definition.specs.Chars.{byte};
-ghost use Rattle.definition.specs.Names.{atMost, firstField, nameAt, bound, entryOf};
-ghost use Rattle.definition.specs.IsIndex.{inOrder};
+ghost use Rattle.definition_names.specs.Names.{atMost, firstField, nameAt, bound, entryOf};
+ghost use Rattle.definition_names.specs.IsIndex.{inOrder};
 ghost use Rattle.ordering.specs.Sorting.{swapped, Sifted, Greatest, Heaped, Sorted, RisingIs};
 
 // Whether the name that begins at p of s does not come after the one at q of t.

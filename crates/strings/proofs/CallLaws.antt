@@ -13,7 +13,7 @@ use Rattle.definition.specs.Numbers.{isBytes, isFString}
 use Rattle.definition.specs.Escapes.{Naming}
 use Rattle.definition.specs.Reading.{accepts, refuses, readFrom, sortOf, sortNumber, uMark, lastEnd, allChars, answered, outcomeOf, roomFor, roomed, Call, called, readNumbers, wordsAfter, textAfter, allWords, numbers, zeros}
 use Rattle.definition.specs.Reading as o
-use Rattle.definition.proofs.Laid.{laid-length}
+use Rattle.definition.proofs.join.Laid.{laid-length}
 use Rattle.buffers.specs.Over.{over}
 use Rattle.buffers.proofs.Over.{length-over, over-front}
 use Rattle.entry.specs.Literals.{literals}

@@ -10,8 +10,8 @@ use Rattle.definition.specs.Escapes.{Naming}
 use Rattle.definition.specs.Escapes as d
 use Rattle.definition.specs.Body.{Signs, Piece, spec, direct, filled, fresh, calls, textN, fieldN, specN, enough, firstEnd}
 use Rattle.definition.specs.Rows.{rowNumbers}
-use Rattle.definition.proofs.CharLaws.{next-past, next-in}
-use Rattle.definition.proofs.Steps.{firstPiece}
+use Rattle.definition.proofs.moves.CharLaws.{next-past, next-in}
+use Rattle.definition.proofs.moves.Steps.{firstPiece}
 use Rattle.utf8.specs.declared.Cursor.{Cursor}
 use Rattle.buffers.specs.Over.{over}
 use Rattle.strings.specs.declared.Refusal.{Refusal}

@@ -29,15 +29,15 @@ use Rattle.strings.specs.Sinks.{wholeOf, outOf, isHeld, loadOf, Fits, Em
 use Rattle.marks.specs.Marks.{converted}
 use Rattle.strings.specs.Fstring.{Room, Written, ReadIs, SpecIs, fieldEnd}
 use Rattle.strings.proofs.Emitted.{spec-last, emits-append, put-free}
-use Rattle.definition.proofs.Moves.{weight, fieldSize, filled-light, part-short}
-use Rattle.definition.proofs.CharLaws.{next-past, next-in, next-from}
+use Rattle.definition.proofs.moves.Moves.{weight, fieldSize, filled-light, part-short}
+use Rattle.definition.proofs.moves.CharLaws.{next-past, next-in, next-from}
 use Rattle.strings.specs.Text.{refusal, faultOf, StopsBy}
 use Rattle.strings.proofs.SinkLaws.{emits-both, grown}
-use Rattle.definition.proofs.Steps.{firstPiece}
-use Rattle.definition.proofs.Whole.{text-stop, text-end, text-field, text-field-stop, field-end, field-spec, field-spec-stop, spec-text, spec-end}
-use Rattle.definition.proofs.Fuel.{Reading, text-reading, field-reading, spec-reading, first-in}
-use Rattle.definition.proofs.Depths.{spec-apart}
-use Rattle.definition.proofs.Prefix.{following, text-prefix}
+use Rattle.definition.proofs.moves.Steps.{firstPiece}
+use Rattle.definition.proofs.moves.Whole.{text-stop, text-end, text-field, text-field-stop, field-end, field-spec, field-spec-stop, spec-text, spec-end}
+use Rattle.definition.proofs.moves.Fuel.{Reading, text-reading, field-reading, spec-reading, first-in}
+use Rattle.definition.proofs.moves.Depths.{spec-apart}
+use Rattle.definition.proofs.moves.Prefix.{following, text-prefix}
 use Rattle.strings.specs.FieldTurns.{isMarked, headState, HeadIs, EndedIs}
 
 part-length : (s : List ℕ) (i j : ℕ) → j ≤ length s → length (part s i j) ≡ j - i

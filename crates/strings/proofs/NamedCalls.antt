@@ -9,9 +9,9 @@ use Rattle.definition.specs.Numbers.{notSixes}
 use Rattle.definition.specs.Entry.{Literal, sixes, Refusal, refusal}
 use Rattle.definition.specs.Escapes.{Naming}
 use Rattle.definition.specs.Reading.{Outcome as Found, accepts, refuses, roomed, called, readNumbers}
-use Rattle.definition.specs.Names.{check, searched}
-use Rattle.definition.specs.NamedReading.{readNamed, namedNumbers}
-use Rattle.definition.proofs.NamedShown.{check-plain, named-entered, named-wrong, named-numbers}
+use Rattle.definition_names.specs.Names.{check, searched}
+use Rattle.definition_names.specs.NamedReading.{readNamed, namedNumbers}
+use Rattle.definition_names.proofs.NamedShown.{check-plain, named-entered, named-wrong, named-numbers}
 use Rattle.entry.specs.Answers.{checkNumbers}
 use Rattle.entry.proofs.Checks.{refused}
 use Rattle.entry.proofs.Passed.{passed}

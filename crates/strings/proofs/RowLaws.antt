@@ -12,7 +12,7 @@ use Rattle.definition.specs.Escapes.{Naming, got, refused}
 use Rattle.definition.specs.Body.{Signs, Piece, literal, field, spec, filled, direct, Field, fresh, Move, calls, selfDocumenting, fieldN, enough}
 use Rattle.definition.specs.Records.{Item, item, itemOf, top, raw, inner, covers}
 use Rattle.definition.specs.Rows.{Row, rowNumbers, signsAt, fieldRows, allNumbers}
-use Rattle.definition.proofs.CharLaws.{next-in}
+use Rattle.definition.proofs.moves.CharLaws.{next-in}
 use Rattle.marks.specs.Marks.{converted}
 use Rattle.buffers.specs.Over.{over}
 use Rattle.buffers.proofs.Over.{over-nil, over-out, over-append, over-comm, drop-over}

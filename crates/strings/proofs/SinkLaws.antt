@@ -20,7 +20,7 @@ use Rattle.strings.specs.Emit as e
 use Rattle.strings.specs.Emit.{Out, hold, put, closed, heldWords, emit, emits}
 use Rattle.strings.specs.Sinks.{wholeOf, outOf, isHeld, loadOf, Fits, Closes, Writes, Emits, documentation, Documents, UpTo}
 use Rattle.strings.proofs.Emitted.{closed-free, emits-append, emit-used, load, load-closed, load-emits, ordered-closed, ordered-emits, direct-light}
-use Rattle.definition.proofs.Moves.{weight}
+use Rattle.definition.proofs.moves.Moves.{weight}
 
 -- A HELD TEXT IS CLOSED
 pub closed-held : (w : Whole) (k : Sink) (words words′ : List ℕ) → k .held ≡ 1

@@ -35,8 +35,8 @@ ghost use Rattle.definition.specs.Entry.{placeOf, body, anyOf, notMixed, refusa
 ghost use Rattle.definition.specs.Body.{readBody};
 ghost use Rattle.definition.specs.Reading.{accepts, allChars, openedAt, sortOf, sortNumber, answered, roomed, called, readNumbers, zeros};
 ghost use Rattle.definition.specs.Rows.{signsNumbers};
-ghost use Rattle.definition.specs.Names.{searched};
-ghost use Rattle.definition.specs.NamedReading.{namedNumbers};
+ghost use Rattle.definition_names.specs.Names.{searched};
+ghost use Rattle.definition_names.specs.NamedReading.{namedNumbers};
 ghost use Rattle.escapes.specs.Answers.{namesBy};
 ghost use Rattle.entry.specs.Answers.{described, refusalOf};
 ghost use Rattle.entry.specs.Literals.{literals};

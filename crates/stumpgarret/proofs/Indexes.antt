@@ -3,7 +3,7 @@ use mathlib.Core.Path.{_≡_, refl}
 use mathlib.Core.List.{List}
 use Prim.Native.Nat.{ℕ}
 use Rattle.definition.specs.Reading.{Outcome, accepts, refuses}
-use Rattle.definition.specs.Names.{indexNumbers}
+use Rattle.definition_names.specs.Names.{indexNumbers}
 use Rattle.names.specs.Answers.{answerOf}
 use Rattle.stumpgarret.specs.Twelve.{indexSays}
 

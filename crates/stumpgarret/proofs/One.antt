@@ -7,11 +7,11 @@ use lib.ListN.{length, replicate}
 use Rattle.definition.specs.Escapes.{Naming}
 use Rattle.definition.specs.Reading.{numbers, Call, readNumbers}
 use Rattle.definition.specs.Words.{word}
-use Rattle.definition.specs.Literals.{literalsInto, listNumbers}
-use Rattle.definition.specs.Listing.{fieldsInto, fieldsNumbers}
-use Rattle.definition.proofs.Held.{numbers-one}
-use Rattle.definition.proofs.ListOne.{list-one}
-use Rattle.definition.proofs.ListingOne.{fields-one}
+use Rattle.definition_scripts.specs.Literals.{literalsInto, listNumbers}
+use Rattle.definition_scripts.specs.Listing.{fieldsInto, fieldsNumbers}
+use Rattle.definition.proofs.formed.Held.{numbers-one}
+use Rattle.definition_scripts.proofs.literals.ListOne.{list-one}
+use Rattle.definition_scripts.proofs.listing.ListingOne.{fields-one}
 use Rattle.stumpgarret.specs.Twelve.{twelve, CallIs, ListIs, FieldsIs}
 
 zeros-word : (n k : ℕ) → word (replicate n 0) k ≡ 0

@@ -5,9 +5,9 @@ use mathlib.Core.List.{List, [], _∷_, _++_}
 use lib.ListN.{length, replicate}
 use Rattle.definition.specs.Reading.{Call, numbers}
 use Rattle.definition.specs.Rows.{SignsCall, rowedNumbers}
-use Rattle.definition.specs.Literals.{ListCall, listNumbers}
-use Rattle.definition.specs.Listing.{FieldsCall, fieldsNumbers}
-use Rattle.definition.specs.Names.{BuildCall, indexNumbers}
+use Rattle.definition_scripts.specs.Literals.{ListCall, listNumbers}
+use Rattle.definition_scripts.specs.Listing.{FieldsCall, fieldsNumbers}
+use Rattle.definition_names.specs.Names.{BuildCall, indexNumbers}
 use Rattle.names.specs.declared.Answer.{Answer}
 use Rattle.names.specs.declared.Answer.the-variants.{Entries, Refused}
 

@@ -11,7 +11,7 @@ use lib.Dec.{eqb, leb, eqb→eq, leb→le, lit<}
 use lib.ListN.{length, getD}
 use Rattle.definition.specs.Chars.{if_then_else_, ascii, byte, Range, inside, table37, following, follow, width}
 use Rattle.utf8.specs.Classes.{classes, rowFrom, classOf, ranges}
-use Rattle.definition.proofs.CharLaws.{cases, Each}
+use Rattle.definition.proofs.moves.CharLaws.{cases, Each}
 use Rattle.utf8.proofs.Table.{at}
 
 -- the other tables, as the code has them

@@ -5,7 +5,7 @@ use mathlib.Core.List.{List}
 use Prim.Native.Nat.{ℕ, _+_}
 use native.Mathlib.Omega.{arith}
 use Rattle.definition.specs.Chars.{byte, _to_, inside, table37, following, follow, width}
-use Rattle.definition.proofs.CharLaws.{inside-true, inside-not}
+use Rattle.definition.proofs.moves.CharLaws.{inside-true, inside-not}
 
 module _ (s : List ℕ) (i : ℕ) where
   pub two-bytes : inside (0xC2 to 0xDF) (byte s i) ≡ true → inside (0x80 to 0xBF) (byte s (i + 1)) ≡ true → width s i ≡ 2

@@ -8,7 +8,7 @@ use borrow.Author.Tests.{le-leb, lt-leb, leb-true, leb-false, ne-eqb, eq-eqb, eq
 use lib.Dec.{T, leb, ltb, eqb, eqb→eq}
 use lib.ListN.{length, getD}
 use Rattle.definition.specs.Chars.{if_then_else_, byte, _to_, inside, table37, ascii, follow, width}
-use Rattle.definition.proofs.CharLaws.{cases, no, inside-yes, inside-not, inside-true, width-ascii, byte-is}
+use Rattle.definition.proofs.moves.CharLaws.{cases, no, inside-yes, inside-not, inside-true, width-ascii, byte-is}
 use Rattle.utf8.specs.Classes.{classes, rowFrom, classOf, ranges}
 use Rattle.utf8.specs.Runs.{Below, Formed}
 use Rattle.utf8.specs.Fits.{isDue, Fits, AllFit, Fitting, lastStart}

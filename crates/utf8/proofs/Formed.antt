@@ -7,7 +7,7 @@ use borrow.Author.Tests.{ltb-true, ltb-false}
 use lib.Dec.{ltb}
 use lib.ListN.{length}
 use Rattle.definition.specs.Chars.{width, formedFrom, wellFormed}
-use Rattle.definition.proofs.CharLaws.{cases, width-in, width-end, width-ascii}
+use Rattle.definition.proofs.moves.CharLaws.{cases, width-in, width-end, width-ascii}
 use Rattle.utf8.specs.Runs.{Below, Ascii, Formed}
 
 stop : (fuel : ℕ) (s : List ℕ) (i : ℕ) → width s i ≡ 0 → formedFrom fuel s i ≡ i

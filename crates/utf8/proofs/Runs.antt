@@ -7,7 +7,7 @@ use borrow.Author.Tests.{ltb-true, ltb-false}
 use lib.Dec.{ltb}
 use lib.ListN.{length}
 use Rattle.definition.specs.Chars.{byte}
-use Rattle.definition.proofs.CharLaws.{cases}
+use Rattle.definition.proofs.moves.CharLaws.{cases}
 use Rattle.utf8.specs.Runs.{Below, Ascii}
 
 module _ (s : List ℕ) where

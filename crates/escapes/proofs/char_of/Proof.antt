@@ -3,7 +3,7 @@ use borrow.Author.Needs.{needs}
 use native.Mathlib.Omega.{arith}
 use borrow.Author.Tests.{le-leb, lt-leb}
 use Rattle.definition.specs.Escapes.{scalar}
-use Rattle.definition.proofs.CharLaws.{inside-yes, inside-not}
+use Rattle.definition.proofs.moves.CharLaws.{inside-yes, inside-not}
 use Rattle.escapes.proofs.char_of.Statement.{statement}
 use Rattle.escapes.proofs.char_of.Tie as tie
 

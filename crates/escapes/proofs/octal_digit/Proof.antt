@@ -1,7 +1,7 @@
 -- `escapes::octal_digit` meets its contract. Assumes nothing.
 use native.Mathlib.Omega.{arith}
 use Rattle.definition.specs.Escapes.{octalDigit}
-use Rattle.definition.proofs.CharLaws.{inside-yes, inside-not}
+use Rattle.definition.proofs.moves.CharLaws.{inside-yes, inside-not}
 use Rattle.escapes.proofs.octal_digit.Statement.{statement}
 use Rattle.escapes.proofs.octal_digit.Tie as tie
 

@@ -14,7 +14,7 @@ use Rattle.definition.specs.Chars.{if_then_else_, _is_, atEnd, before}
 use Rattle.definition.specs.Numbers.{stringError}
 use Rattle.definition.specs.Escapes.{Naming, fault, refused, named, unicodeName}
 use Rattle.utf8.specs.declared.Cursor.{Cursor}
-use Rattle.definition.proofs.CharLaws.{cases, code-end, next-in}
+use Rattle.definition.proofs.moves.CharLaws.{cases, code-end, next-in}
 use Rattle.utf8.proofs.Steps.{Stepped, step-char, step-end}
 use Rattle.escapes.proofs.parse_unicode_name.Statement.{statement}
 use Rattle.escapes.proofs.parse_unicode_name.Tie as tie

@@ -7,7 +7,7 @@ use Prim.Native.Nat.{ℕ, _+_, _/_, _%_, _<_}
 use lib.ListN.{length, length-append}
 use borrow.Fn.Kinds.{In}
 use borrow.Fn.PlainCycle.{Measures, is, falls, and}
-use Rattle.definition.specs.Lines.{decimal}
+use Rattle.definition_lines.specs.Lines.{decimal}
 use Rattle.lines.proofs.Texts.{and-then, digit-one, digit-more}
 use Rattle.lines.proofs.write_number.Reads as write-number
 use Rattle.lines.proofs.write_number.Kinds as write-number-kinds

@@ -1,7 +1,7 @@
 -- `lines::hex_code` meets its contract. Assumes nothing.
 use borrow.Author.Needs.{needs}
 use borrow.Author.Tests.{lt-ltb, le-ltb}
-use Rattle.definition.specs.Lines.{hexCode}
+use Rattle.definition_lines.specs.Lines.{hexCode}
 use Rattle.lines.proofs.hex_code.Statement.{statement}
 use Rattle.lines.proofs.hex_code.Tie as tie
 

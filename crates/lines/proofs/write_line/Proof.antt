@@ -1,7 +1,7 @@
 -- `lines::write_line` meets its contract. Assumes nothing.
 use borrow.Author.Needs.{needs}
 use borrow.Author.Tests.{ne-eqb}
-use Rattle.definition.specs.Lines.{lineOf}
+use Rattle.definition_lines.specs.Lines.{lineOf}
 use Rattle.lines.proofs.write_line.Statement.{statement}
 use Rattle.lines.proofs.write_line.Tie as tie
 

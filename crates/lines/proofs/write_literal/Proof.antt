@@ -3,7 +3,7 @@ use borrow.Author.Needs.{needs}
 use native.Mathlib.Omega.{arith}
 use lib.ListN.{length-append}
 use Rattle.definition.specs.Chars.{ascii}
-use Rattle.definition.specs.Lines.{literalLine}
+use Rattle.definition_lines.specs.Lines.{literalLine}
 use Rattle.lines.proofs.Texts.{and-then}
 use Rattle.lines.proofs.write_literal.Statement.{statement}
 use Rattle.lines.proofs.write_literal.Tie as tie

@@ -3,7 +3,7 @@ use borrow.Author.Needs.{needs}
 use native.Mathlib.Omega.{arith}
 use lib.ListN.{length-append}
 use Rattle.definition.specs.Chars.{ascii}
-use Rattle.definition.specs.Lines.{refusalLine}
+use Rattle.definition_lines.specs.Lines.{refusalLine}
 use Rattle.lines.proofs.Texts.{and-then}
 use Rattle.lines.proofs.write_refusal.Statement.{statement}
 use Rattle.lines.proofs.write_refusal.Tie as tie

@@ -5,7 +5,7 @@ use mathlib.Core.Path.{_≡_, _∙_, ap}
 use Prim.Native.Nat.{_+_, _-_, _≤_}
 use lib.ListN.{length, take, getD, length-append}
 use lib.Seq.{take-all}
-use Rattle.definition.specs.Lines.{escapedText, escaped}
+use Rattle.definition_lines.specs.Lines.{escapedText, escaped}
 use Rattle.lines.specs.Written.{Adds}
 use Rattle.lines.proofs.Texts.{nothing, and-then, escaped-more, escaped-part}
 use Rattle.lines.proofs.write_text.Statement.{statement}

@@ -3,7 +3,7 @@ use borrow.Author.Needs.{needs}
 use native.Mathlib.Omega.{arith}
 use mathlib.Core.Path.{_≡_}
 use Prim.Native.Nat.{_+_, _-_, _≤_}
-use Rattle.definition.specs.Listing.{refusalsIn}
+use Rattle.definition_scripts.specs.Listing.{refusalsIn}
 use Rattle.listing.specs.Put.{rowsIn}
 use Rattle.listing.proofs.Written.{refusals-start, refusals-next, refusals-done}
 use Rattle.listing.proofs.refusals_in.Statement.{statement}

@@ -1,7 +1,7 @@
 -- `literals::apart` meets its contract. Assumes nothing.
 use borrow.Author.Needs.{needs}
 use borrow.Author.Tests.{eq-eqb, ne-eqb}
-use Rattle.definition.specs.Opening.{apart}
+use Rattle.definition_scripts.specs.Opening.{apart}
 use Rattle.literals.proofs.apart.Statement.{statement}
 use Rattle.literals.proofs.apart.Tie as tie
 

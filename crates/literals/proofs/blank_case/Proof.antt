@@ -1,7 +1,7 @@
 -- `literals::blank_case` meets its contract. Assumes nothing.
 use borrow.Author.Needs.{needs}
 use borrow.Author.Tests.{ne-eqb}
-use Rattle.definition.specs.Literals.{blankCase}
+use Rattle.definition_scripts.specs.Literals.{blankCase}
 use Rattle.literals.proofs.blank_case.Statement.{statement}
 use Rattle.literals.proofs.blank_case.Tie as tie
 

@@ -1,8 +1,8 @@
 -- `literals::body_case` meets its contract. Assumes nothing.
 use borrow.Author.Needs.{needs}
 use borrow.Author.Tests.{le-leb, lt-leb, eq-eqb, ne-eqb}
-use Rattle.definition.specs.Literals.{bodyCase}
-use Rattle.definition.proofs.CharLaws.{byte-is}
+use Rattle.definition_scripts.specs.Literals.{bodyCase}
+use Rattle.definition.proofs.moves.CharLaws.{byte-is}
 use Rattle.literals.proofs.body_case.Statement.{statement}
 use Rattle.literals.proofs.body_case.Tie as tie
 

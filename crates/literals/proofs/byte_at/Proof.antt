@@ -3,7 +3,7 @@ use borrow.Author.Needs.{needs}
 use native.Mathlib.Omega.{arith}
 use mathlib.Core.Path.{sym}
 use lib.ListN.{List·getD-eq-default}
-use Rattle.definition.proofs.CharLaws.{byte-is}
+use Rattle.definition.proofs.moves.CharLaws.{byte-is}
 use Rattle.literals.proofs.byte_at.Statement.{statement}
 use Rattle.literals.proofs.byte_at.Tie as tie
 

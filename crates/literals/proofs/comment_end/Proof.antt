@@ -3,8 +3,8 @@ use borrow.Author.Needs.{needs}
 use mathlib.Core.Path.{_≡_, refl, sym, _∙_}
 use Prim.Native.Nat.{_-_}
 use lib.ListN.{length}
-use Rattle.definition.specs.Cut.{commentEnd}
-use Rattle.definition.proofs.CharLaws.{before-end, before-here, before-next}
+use Rattle.definition_scripts.specs.Cut.{commentEnd}
+use Rattle.definition.proofs.moves.CharLaws.{before-end, before-here, before-next}
 use Rattle.literals.proofs.Cuts.{line-ten, line-thirteen, no-line}
 use Rattle.literals.proofs.comment_end.Statement.{statement}
 use Rattle.literals.proofs.comment_end.Tie as tie

@@ -3,8 +3,8 @@ use borrow.Author.Needs.{needs}
 use native.Mathlib.Omega.{arith}
 use mathlib.Core.Path.{sym, _∙_}
 use borrow.Author.Tests.{le-leb, lt-leb, eq-eqb}
-use Rattle.definition.specs.Cut.{cutCase}
-use Rattle.definition.proofs.CharLaws.{byte-is}
+use Rattle.definition_scripts.specs.Cut.{cutCase}
+use Rattle.definition.proofs.moves.CharLaws.{byte-is}
 use Rattle.literals.proofs.Cuts.{case-none, case-bare, case-apart, case-joined}
 use Rattle.literals.proofs.cut_case.Statement.{statement}
 use Rattle.literals.proofs.cut_case.Tie as tie

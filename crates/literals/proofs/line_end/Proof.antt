@@ -4,8 +4,8 @@ use mathlib.Core.Path.{_≡_, refl, sym, _∙_}
 use Prim.Native.Nat.{_-_}
 use borrow.Author.Tests.{eq-eqb, ne-eqb}
 use lib.ListN.{length}
-use Rattle.definition.specs.Opening.{lineEnd}
-use Rattle.definition.proofs.CharLaws.{before-end, before-here, before-next}
+use Rattle.definition_scripts.specs.Opening.{lineEnd}
+use Rattle.definition.proofs.moves.CharLaws.{before-end, before-here, before-next}
 use Rattle.literals.proofs.line_end.Statement.{statement}
 use Rattle.literals.proofs.line_end.Tie as tie
 

@@ -4,7 +4,7 @@ use native.Mathlib.Omega.{arith}
 use mathlib.Core.Path.{_≡_, refl, _∙_}
 use Prim.Native.Nat.{_-_}
 use lib.ListN.{length}
-use Rattle.definition.specs.Literals.{flat}
+use Rattle.definition_scripts.specs.Literals.{flat}
 use Rattle.literals.proofs.Listings.{Running, running-starts, running-ends, opens-here, running-refuses, literal-in, running-goes}
 use Rattle.literals.proofs.list_run.Statement.{statement}
 use Rattle.literals.proofs.list_run.Tie as tie

@@ -1,7 +1,7 @@
 -- `literals::literal_at` meets its contract. Assumes nothing.
 use borrow.Author.Needs.{needs}
 use native.Mathlib.Omega.{arith}
-use Rattle.definition.specs.Literals.{closedAt}
+use Rattle.definition_scripts.specs.Literals.{closedAt}
 use Rattle.literals.proofs.Founds.{starts-in, quote-in, body-in, found-is, found-closed, closed-in}
 use Rattle.literals.proofs.literal_at.Statement.{statement}
 use Rattle.literals.proofs.literal_at.Tie as tie

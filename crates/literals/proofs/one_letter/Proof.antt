@@ -1,6 +1,6 @@
 -- `literals::one_letter` meets its contract. Assumes nothing.
 use borrow.Author.Tests.{ne-eqb}
-use Rattle.definition.specs.Opening.{oneLetter}
+use Rattle.definition_scripts.specs.Opening.{oneLetter}
 use Rattle.literals.proofs.one_letter.Statement.{statement}
 use Rattle.literals.proofs.one_letter.Tie as tie
 

@@ -1,6 +1,6 @@
 -- `literals::opens` meets its contract. Assumes nothing.
 use borrow.Author.Needs.{needs}
-use Rattle.definition.specs.Opening.{opens}
+use Rattle.definition_scripts.specs.Opening.{opens}
 use Rattle.literals.proofs.opens.Statement.{statement}
 use Rattle.literals.proofs.opens.Tie as tie
 

@@ -6,7 +6,7 @@ use borrow.Author.Tests.{eq-eqb, ne-eqb}
 use lib.ListN.{length, drop}
 use Rattle.definition.specs.Chars.{before}
 use Rattle.literals.specs.Answers.{mark}
-use Rattle.definition.proofs.CharLaws.{before-end, before-here, before-next}
+use Rattle.definition.proofs.moves.CharLaws.{before-end, before-here, before-next}
 use Rattle.literals.proofs.plain_end.Statement.{statement}
 use Rattle.literals.proofs.plain_end.Tie as tie
 

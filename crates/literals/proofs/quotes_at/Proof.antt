@@ -1,7 +1,7 @@
 -- `literals::quotes_at` meets its contract. Assumes nothing.
 use borrow.Author.Needs.{needs}
 use borrow.Author.Tests.{eq-eqb, ne-eqb}
-use Rattle.definition.specs.Opening.{quotesAt}
+use Rattle.definition_scripts.specs.Opening.{quotesAt}
 use Rattle.literals.proofs.quotes_at.Statement.{statement}
 use Rattle.literals.proofs.quotes_at.Tie as tie
 

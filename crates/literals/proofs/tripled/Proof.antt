@@ -1,7 +1,7 @@
 -- `literals::tripled` meets its contract. Assumes nothing.
 use borrow.Author.Needs.{needs}
 use borrow.Author.Tests.{eq-eqb, ne-eqb}
-use Rattle.definition.specs.Opening.{tripled}
+use Rattle.definition_scripts.specs.Opening.{tripled}
 use Rattle.literals.proofs.tripled.Statement.{statement}
 use Rattle.literals.proofs.tripled.Tie as tie
 

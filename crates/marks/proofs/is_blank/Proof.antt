@@ -6,7 +6,7 @@ use mathlib.Core.Bool.{false, or-true}
 use lib.Dec.{lit≤}
 use Rattle.definition.specs.Chars.{insideAny, whiteSpace}
 use Rattle.definition.specs.Body.{isBlank}
-use Rattle.definition.proofs.CharLaws.{inside-yes, inside-none}
+use Rattle.definition.proofs.moves.CharLaws.{inside-yes, inside-none}
 use Rattle.marks.proofs.is_blank.Statement.{statement}
 use Rattle.marks.proofs.is_blank.Tie as tie
 

@@ -4,7 +4,7 @@ use native.Mathlib.Omega.{arith}
 use mathlib.Core.Path.{_≡_}
 use Prim.Native.Nat.{ℕ, _-_, _<_}
 use lib.ListN.{length, getD}
-use Rattle.definition.proofs.NameLists.{count-at, same?}
+use Rattle.definition_names.proofs.NameLists.{count-at, same?}
 use Rattle.names.proofs.Answers.{no-mark}
 use Rattle.names.proofs.has_mark.Statement.{statement}
 use Rattle.names.proofs.has_mark.Tie as tie

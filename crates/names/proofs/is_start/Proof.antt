@@ -2,7 +2,7 @@
 use borrow.Author.Needs.{needs}
 use mathlib.Core.Path.{sym, _∙_}
 use borrow.Author.Tests.{le-ltb, lt-ltb, not-true, not-false}
-use Rattle.definition.specs.IsIndex.{isStart}
+use Rattle.definition_names.specs.IsIndex.{isStart}
 use Rattle.names.proofs.is_start.Statement.{statement}
 use Rattle.names.proofs.is_start.Tie as tie
 

@@ -2,7 +2,7 @@
 use mathlib.Core.Path.{sym}
 use borrow.Author.Tests.{eq-eqb, ne-eqb}
 use native.Mathlib.Omega.{arith}
-use Rattle.definition.specs.IsIndex.{bit}
+use Rattle.definition_names.specs.IsIndex.{bit}
 use Rattle.names.proofs.mark_count.Statement.{statement}
 use Rattle.names.proofs.mark_count.Tie as tie
 

@@ -2,7 +2,7 @@
 use borrow.Author.Needs.{needs}
 use native.Mathlib.Omega.{arith}
 use mathlib.Core.Path.{sym, _∙_}
-use Rattle.definition.proofs.NameScan.{mark-inside, scan-unended, scan-few, scan-novalue, scan-short, scan-long, scan-empty, scan-nameless, scan-named, scan-none}
+use Rattle.definition_names.proofs.NameScan.{mark-inside, scan-unended, scan-few, scan-novalue, scan-short, scan-long, scan-empty, scan-nameless, scan-named, scan-none}
 use Rattle.names.proofs.read_line.Statement.{statement}
 use Rattle.names.proofs.read_line.Tie as tie
 

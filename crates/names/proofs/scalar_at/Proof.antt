@@ -2,7 +2,7 @@
 use borrow.Author.Needs.{needs}
 use mathlib.Core.Path.{_≡_, sym, _∙_}
 use mathlib.Core.Bool.{true, false}
-use Rattle.definition.specs.Names.{isScalar, scalarAt}
+use Rattle.definition_names.specs.Names.{isScalar, scalarAt}
 use Rattle.names.proofs.scalar_at.Statement.{statement}
 use Rattle.names.proofs.scalar_at.Tie as tie
 

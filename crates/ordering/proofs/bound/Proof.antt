@@ -3,8 +3,8 @@ use borrow.Author.Needs.{needs}
 use mathlib.Core.Path.{sym, _∙_}
 use Prim.Native.Nat.{_-_, _≤_}
 use lib.ListN.{length, drop}
-use Rattle.definition.specs.Names.{firstField, nameOf}
-use Rattle.definition.proofs.NameSearch.{Goes, goes-start, goes-end, goes-down, goes-up}
+use Rattle.definition_names.specs.Names.{firstField, nameOf}
+use Rattle.definition_names.proofs.NameSearch.{Goes, goes-start, goes-end, goes-down, goes-up}
 use Rattle.ordering.proofs.bound.Statement.{statement}
 use Rattle.ordering.proofs.bound.Tie as tie
 

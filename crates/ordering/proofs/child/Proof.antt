@@ -1,7 +1,7 @@
 -- `ordering::child` meets its contract. Assumes nothing.
 use borrow.Author.Needs.{needs}
 use mathlib.Core.Path.{sym, _∙_}
-use Rattle.definition.proofs.NameOrder.{order-total, order-trans, order-refl}
+use Rattle.definition_names.proofs.NameOrder.{order-total, order-trans, order-refl}
 use Rattle.ordering.proofs.Heap.{only, left, right}
 use Rattle.ordering.proofs.child.Statement.{statement}
 use Rattle.ordering.proofs.child.Tie as tie

@@ -1,8 +1,8 @@
 -- `ordering::entry_of` meets its contract. Assumes nothing.
 use borrow.Author.Needs.{needs}
 use mathlib.Core.Path.{sym, _∙_}
-use Rattle.definition.specs.Names.{nameOf}
-use Rattle.definition.proofs.NameSearch.{entry-out, entry-found, entry-missed}
+use Rattle.definition_names.specs.Names.{nameOf}
+use Rattle.definition_names.proofs.NameSearch.{entry-out, entry-found, entry-missed}
 use Rattle.ordering.proofs.entry_of.Statement.{statement}
 use Rattle.ordering.proofs.entry_of.Tie as tie
 

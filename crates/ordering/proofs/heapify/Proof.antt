@@ -1,8 +1,8 @@
 -- `ordering::heapify` meets its contract. Assumes nothing.
 use borrow.Author.Needs.{needs}
 use native.Mathlib.Omega.{arith}
-use Rattle.definition.specs.IsIndex.{inOrder}
-use Rattle.definition.proofs.NameOrder.{order-trans, order-refl}
+use Rattle.definition_names.specs.IsIndex.{inOrder}
+use Rattle.definition_names.proofs.NameOrder.{order-trans, order-refl}
 use Rattle.ordering.proofs.Heap.{Heaping, heaping, heaps, heaped}
 use Rattle.ordering.proofs.heapify.Statement.{statement}
 use Rattle.ordering.proofs.heapify.Tie as tie

@@ -1,8 +1,8 @@
 -- `ordering::in_order` meets its contract. Assumes nothing.
 use borrow.Author.Needs.{needs}
 use mathlib.Core.Path.{_∙_}
-use Rattle.definition.specs.Names.{nameOf}
-use Rattle.definition.specs.IsIndex.{inOrder}
+use Rattle.definition_names.specs.Names.{nameOf}
+use Rattle.definition_names.specs.IsIndex.{inOrder}
 use Rattle.ordering.proofs.in_order.Statement.{statement}
 use Rattle.ordering.proofs.in_order.Tie as tie
 

@@ -1,7 +1,7 @@
 -- `ordering::name_at` meets its contract. Assumes nothing.
 use borrow.Author.Needs.{needs}
 use mathlib.Core.Path.{sym, _∙_}
-use Rattle.definition.specs.Names.{nameAt}
+use Rattle.definition_names.specs.Names.{nameAt}
 use Rattle.ordering.proofs.name_at.Statement.{statement}
 use Rattle.ordering.proofs.name_at.Tie as tie
 

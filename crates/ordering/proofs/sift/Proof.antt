@@ -3,8 +3,8 @@ use borrow.Author.Needs.{needs}
 use native.Mathlib.Omega.{arith}
 use mathlib.Core.Path.{sym, _∙_}
 use Prim.Native.Nat.{_-_}
-use Rattle.definition.specs.IsIndex.{inOrder}
-use Rattle.definition.proofs.NameOrder.{order-total, order-trans, order-refl}
+use Rattle.definition_names.specs.IsIndex.{inOrder}
+use Rattle.definition_names.proofs.NameOrder.{order-total, order-trans, order-refl}
 use Rattle.ordering.proofs.Heap.{Sinking, sinking, sinks, stop, leaf}
 use Rattle.ordering.proofs.sift.Statement.{statement}
 use Rattle.ordering.proofs.sift.Tie as tie

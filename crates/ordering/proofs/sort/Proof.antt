@@ -2,8 +2,8 @@
 use borrow.Author.Needs.{needs}
 use native.Mathlib.Omega.{arith}
 use mathlib.Core.Path.{_∙_}
-use Rattle.definition.specs.IsIndex.{inOrder}
-use Rattle.definition.proofs.NameOrder.{order-trans, order-refl}
+use Rattle.definition_names.specs.IsIndex.{inOrder}
+use Rattle.definition_names.proofs.NameOrder.{order-trans, order-refl}
 use Rattle.ordering.proofs.Heap.{Sorting, sorting, sorts, sorted}
 use Rattle.ordering.proofs.sort.Statement.{statement}
 use Rattle.ordering.proofs.sort.Tie as tie

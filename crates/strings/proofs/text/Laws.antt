@@ -9,9 +9,9 @@ use lib.ListN.{length, length-append}
 use Rattle.definition.specs.Chars.{noCode, code, next}
 use Rattle.definition.specs.Escapes.{Naming, Read, got, refused, Meaning, escape}
 use Rattle.definition.specs.Body.{Move, goes, stops, calls, ends, withEscape, StringCase, stringCase, stringMove, stringN, TextCase, deep, opens, last, doubled, lone, textCase, textMove, enough}
-use Rattle.definition.proofs.CharLaws.{next-from, next-in}
-use Rattle.definition.proofs.Moves.{textSize, Ahead, string-ahead, text-ahead}
-use Rattle.definition.proofs.Whole.{string-on, string-stop, string-end, text-on, text-stop}
+use Rattle.definition.proofs.moves.CharLaws.{next-from, next-in}
+use Rattle.definition.proofs.moves.Moves.{textSize, Ahead, string-ahead, text-ahead}
+use Rattle.definition.proofs.moves.Whole.{string-on, string-stop, string-end, text-on, text-stop}
 use Rattle.buffers.specs.Over.{over}
 use Rattle.buffers.proofs.Over.{over-nil, length-over, over-append}
 use Rattle.utf8.specs.declared.Cursor.{Cursor}

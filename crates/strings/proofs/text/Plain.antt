@@ -14,9 +14,9 @@ use Rattle.definition.specs.Numbers.{isBytes}
 use Rattle.definition.specs.Chars.{byte, part, atEnd, code, next, char, before}
 use Rattle.definition.specs.Escapes.{Naming}
 use Rattle.definition.specs.Body.{goes, stringCase, stringMove, textCase, textMove}
-use Rattle.definition.proofs.CharLaws.{cases, no, between, next-from, next-past, next-in, next-ascii, code-ascii, code-is, before-in}
-use Rattle.definition.proofs.Moves.{part-short}
-use Rattle.definition.proofs.Whole.{string-on, text-on}
+use Rattle.definition.proofs.moves.CharLaws.{cases, no, between, next-from, next-past, next-in, next-ascii, code-ascii, code-is, before-in}
+use Rattle.definition.proofs.moves.Moves.{part-short}
+use Rattle.definition.proofs.moves.Whole.{string-on, text-on}
 use Rattle.marks.specs.Marks.{special}
 use Rattle.buffers.proofs.Over.{over-append}
 use Rattle.strings.specs.declared.text.Reached.{Reached}

@@ -1,7 +1,7 @@
 -- `utf8::byte_at` meets its contract. Assumes nothing.
 use borrow.Author.Needs.{needs}
 use native.Mathlib.Omega.{arith}
-use Rattle.definition.proofs.CharLaws.{byte-is}
+use Rattle.definition.proofs.moves.CharLaws.{byte-is}
 use Rattle.utf8.proofs.byte_at.Statement.{statement}
 use Rattle.utf8.proofs.byte_at.Tie as tie
 

@@ -6,7 +6,7 @@ use mathlib.Core.Path.{_≡_, sym, ap, _∙_}
 use Prim.Native.Nat.{_<_}
 use Rattle.definition.specs.Chars.{byte}
 use Rattle.utf8.specs.Classes.{classOf}
-use Rattle.definition.proofs.CharLaws.{byte-is}
+use Rattle.definition.proofs.moves.CharLaws.{byte-is}
 use Rattle.utf8.proofs.Classes.{class-small, more-small, width-none, width-class}
 use Rattle.utf8.proofs.char_len.Statement.{statement}
 use Rattle.utf8.proofs.char_len.Tie as tie

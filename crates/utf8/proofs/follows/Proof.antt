@@ -10,7 +10,7 @@ use lib.Dec.{lit<}
 use lib.ListN.{List·getD-eq-default}
 use Rattle.definition.specs.Chars.{byte, _to_, inside, follow}
 use Rattle.utf8.specs.Classes.{ranges}
-use Rattle.definition.proofs.CharLaws.{byte-is, inside-yes, inside-not}
+use Rattle.definition.proofs.moves.CharLaws.{byte-is, inside-yes, inside-not}
 use Rattle.utf8.proofs.follows.Statement.{statement}
 use Rattle.utf8.proofs.follows.Tie as tie
 

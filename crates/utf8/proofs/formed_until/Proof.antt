@@ -5,7 +5,7 @@ use mathlib.Core.Path.{sym, refl, _∙_}
 use Prim.Native.Nat.{_-_}
 use lib.ListN.{length}
 use Rattle.definition.specs.Chars.{ascii}
-use Rattle.definition.proofs.CharLaws.{width-in, width-ascii}
+use Rattle.definition.proofs.moves.CharLaws.{width-in, width-ascii}
 use Rattle.utf8.specs.Runs.{Formed}
 use Rattle.utf8.proofs.Formed.{more, past}
 use Rattle.utf8.proofs.formed_until.Statement.{statement}

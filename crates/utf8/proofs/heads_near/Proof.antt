@@ -3,7 +3,7 @@ use borrow.Author.Needs.{needs}
 use native.Mathlib.Omega.{arith}
 use mathlib.Core.Path.{_≡_, sym, _∙_, ap, ap₂}
 use Prim.Native.Nat.{_+_, _-_, _≤_}
-use Rattle.definition.proofs.CharLaws.{byte-is}
+use Rattle.definition.proofs.moves.CharLaws.{byte-is}
 use Rattle.utf8.specs.Runs.{headOf, headsFrom}
 use Rattle.utf8.proofs.FirstBytes.{head-most, heads-none, heads-next, heads-most}
 use Rattle.utf8.proofs.heads_near.Statement.{statement}

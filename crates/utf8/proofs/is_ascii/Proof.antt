@@ -3,7 +3,7 @@ use borrow.Author.Needs.{needs}
 use native.Mathlib.Omega.{arith}
 use Prim.Native.Nat.{_+_, _-_}
 use borrow.Author.Tests.{ltb-true}
-use Rattle.definition.proofs.CharLaws.{byte-is}
+use Rattle.definition.proofs.moves.CharLaws.{byte-is}
 use Rattle.utf8.specs.Runs.{Below}
 use Rattle.utf8.proofs.Runs.{below-none, below-one, below-append}
 use Rattle.utf8.proofs.is_ascii.Statement.{statement}

@@ -4,7 +4,7 @@ use borrow.Author.Tests.{le-leb}
 use native.Mathlib.Omega.{arith}
 use mathlib.Core.Path.{sym}
 use Prim.Native.Nat.{_<_}
-use Rattle.definition.proofs.CharLaws.{inside-not, byte-in, byte-is}
+use Rattle.definition.proofs.moves.CharLaws.{inside-not, byte-in, byte-is}
 use Rattle.utf8.proofs.is_between.Statement.{statement}
 use Rattle.utf8.proofs.is_between.Tie as tie
 

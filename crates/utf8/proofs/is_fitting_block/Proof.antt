@@ -1,7 +1,7 @@
 -- `utf8::is_fitting_block` meets its contract. Assumes nothing.
 use borrow.Author.Needs.{needs}
 use mathlib.Core.Path.{sym, _∙_}
-use Rattle.definition.proofs.CharLaws.{no}
+use Rattle.definition.proofs.moves.CharLaws.{no}
 use Rattle.utf8.proofs.Fitting.{ascii-fits}
 use Rattle.utf8.proofs.is_fitting_block.Statement.{statement}
 use Rattle.utf8.proofs.is_fitting_block.Tie as tie

@@ -6,7 +6,7 @@ use mathlib.Core.Path.{_≡_, refl}
 use borrow.Author.Tests.{lt-leb}
 use Rattle.definition.specs.Chars.{ascii, code, next}
 use Rattle.utf8.specs.Steps.{stepAt}
-use Rattle.definition.proofs.CharLaws.{step-in}
+use Rattle.definition.proofs.moves.CharLaws.{step-in}
 use Rattle.utf8.proofs.next_wide.Statement.{statement}
 use Rattle.utf8.proofs.next_wide.Tie as tie
 

@@ -3,7 +3,7 @@ use borrow.Author.Needs.{needs}
 use native.Mathlib.Omega.{arith}
 use borrow.Author.Tests.{ne-eqb}
 use Rattle.definition.specs.Chars.{ascii}
-use Rattle.definition.specs.Why.{reasonEnd}
+use Rattle.definition_lines.specs.Why.{reasonEnd}
 use Rattle.lines.proofs.why.write_reason.Statement.{statement}
 use Rattle.lines.proofs.why.write_reason.Tie as tie
 

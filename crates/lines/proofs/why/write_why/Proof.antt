@@ -3,7 +3,7 @@ use borrow.Author.Needs.{needs}
 use native.Mathlib.Omega.{arith}
 use lib.ListN.{length-append}
 use Rattle.definition.specs.Chars.{ascii}
-use Rattle.definition.specs.Why.{whyLine}
+use Rattle.definition_lines.specs.Why.{whyLine}
 use Rattle.lines.proofs.Texts.{and-then}
 use Rattle.lines.proofs.why.write_why.Statement.{statement}
 use Rattle.lines.proofs.why.write_why.Tie as tie

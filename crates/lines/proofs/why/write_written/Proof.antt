@@ -3,7 +3,7 @@ use borrow.Author.Needs.{needs}
 use native.Mathlib.Omega.{arith}
 use lib.ListN.{length-append}
 use Rattle.definition.specs.Chars.{ascii}
-use Rattle.definition.specs.Why.{writtenEnd}
+use Rattle.definition_lines.specs.Why.{writtenEnd}
 use Rattle.lines.proofs.Texts.{and-then}
 use Rattle.lines.proofs.why.write_written.Statement.{statement}
 use Rattle.lines.proofs.why.write_written.Tie as tie

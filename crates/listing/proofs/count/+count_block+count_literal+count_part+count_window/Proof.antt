@@ -4,8 +4,8 @@ use native.Mathlib.Omega.{arith}
 use mathlib.Core.Path.{sym, _∙_}
 use Prim.Native.Nat.{_+_, _-_, _*_}
 use lib.ListN.{length, length-take, length-replicate}
-use Rattle.definition.specs.Cut.{cutPart}
-use Rattle.definition.specs.Listing.{readRows, cutRows}
+use Rattle.definition_scripts.specs.Cut.{cutPart}
+use Rattle.definition_scripts.specs.Listing.{readRows, cutRows}
 use Rattle.literals.specs.Answers.{literalOf}
 use Rattle.escapes.specs.Answers.{namesBy}
 use Rattle.listing.specs.Put.{rowsIn}

@@ -1,7 +1,7 @@
 -- `listing::count::own_rows` meets its contract. Assumes nothing.
 use borrow.Author.Needs.{needs}
 use borrow.Author.Tests.{lt-ltb, le-ltb}
-use Rattle.definition.specs.Listing.{otherwiseRow}
+use Rattle.definition_scripts.specs.Listing.{otherwiseRow}
 use Rattle.listing.proofs.count.own_rows.Statement.{statement}
 use Rattle.listing.proofs.count.own_rows.Tie as tie
 

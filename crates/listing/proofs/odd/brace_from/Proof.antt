@@ -5,8 +5,8 @@ use Prim.Native.Nat.{_-_}
 use borrow.Author.Tests.{eq-eqb, ne-eqb}
 use lib.ListN.{length}
 use Rattle.definition.specs.Chars.{_is_}
-use Rattle.definition.specs.Opening.{firstAt}
-use Rattle.definition.proofs.CharLaws.{before-end, before-here, before-next}
+use Rattle.definition_scripts.specs.Opening.{firstAt}
+use Rattle.definition.proofs.moves.CharLaws.{before-end, before-here, before-next}
 use Rattle.listing.proofs.odd.brace_from.Statement.{statement}
 use Rattle.listing.proofs.odd.brace_from.Tie as tie
 

@@ -2,7 +2,7 @@
 use borrow.Author.Needs.{needs}
 use native.Mathlib.Omega.{arith}
 use borrow.Author.Tests.{ne-eqb}
-use Rattle.definition.specs.Listing.{sourceEnd}
+use Rattle.definition_scripts.specs.Listing.{sourceEnd}
 use Rattle.listing.proofs.odd.source_end.Statement.{statement}
 use Rattle.listing.proofs.odd.source_end.Tie as tie
 

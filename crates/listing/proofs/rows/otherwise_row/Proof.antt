@@ -1,7 +1,7 @@
 -- `listing::rows::otherwise_row` meets its contract. Assumes nothing.
 use borrow.Author.Needs.{needs}
 use borrow.Author.Tests.{lt-ltb, le-ltb}
-use Rattle.definition.specs.Listing.{otherwiseRow}
+use Rattle.definition_scripts.specs.Listing.{otherwiseRow}
 use Rattle.listing.proofs.Written.{puts-none, puts-one}
 use Rattle.listing.proofs.rows.otherwise_row.Statement.{statement}
 use Rattle.listing.proofs.rows.otherwise_row.Tie as tie

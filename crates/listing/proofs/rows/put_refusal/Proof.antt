@@ -1,6 +1,6 @@
 -- `listing::rows::put_refusal` meets its contract. Assumes nothing.
 use borrow.Author.Needs.{needs}
-use Rattle.definition.specs.Listing.{tenOf}
+use Rattle.definition_scripts.specs.Listing.{tenOf}
 use Rattle.listing.proofs.rows.put_refusal.Statement.{statement}
 use Rattle.listing.proofs.rows.put_refusal.Tie as tie
 

@@ -2,7 +2,7 @@
 use borrow.Author.Tests.{leb-true}
 use native.Mathlib.Omega.{arith}
 use mathlib.Core.Bool.{false≢true}
-use Rattle.definition.proofs.CharLaws.{inside-yes, inside-not}
+use Rattle.definition.proofs.moves.CharLaws.{inside-yes, inside-not}
 use Rattle.strings.proofs.field.is_passing.Statement.{statement}
 use Rattle.strings.proofs.field.is_passing.Tie as tie
 

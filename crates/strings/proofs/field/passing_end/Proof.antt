@@ -9,7 +9,7 @@ use Prim.Native.Nat.{ℕ, _+_, _-_, _≤_, _<_}
 use lib.Dec.{ltb}
 use lib.ListN.{length}
 use Rattle.definition.specs.Chars.{byte}
-use Rattle.definition.proofs.CharLaws.{cases, byte-is}
+use Rattle.definition.proofs.moves.CharLaws.{cases, byte-is}
 use Rattle.strings.specs.FieldTurns.{passing}
 use Rattle.strings.proofs.field.passing_end.Statement.{statement}
 use Rattle.strings.proofs.field.passing_end.Tie as tie

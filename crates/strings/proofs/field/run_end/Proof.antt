@@ -6,7 +6,7 @@ use borrow.Author.Tests.{eq-eqb, ne-eqb}
 use lib.Dec.{eqb}
 use lib.ListN.{length, drop}
 use Rattle.definition.specs.Chars.{before}
-use Rattle.definition.proofs.CharLaws.{before-end, before-here, before-next}
+use Rattle.definition.proofs.moves.CharLaws.{before-end, before-here, before-next}
 use Rattle.strings.proofs.field.run_end.Statement.{statement}
 use Rattle.strings.proofs.field.run_end.Tie as tie
 

@@ -1,6 +1,6 @@
 -- `strings::fstring::read_first` meets its contract. Assumes nothing.
 use borrow.Author.Needs.{needs}
-use Rattle.definition.proofs.Fuel.{first-in}
+use Rattle.definition.proofs.moves.Fuel.{first-in}
 use Rattle.strings.proofs.fstring.read_first.Statement.{statement}
 use Rattle.strings.proofs.fstring.read_first.Tie as tie
 

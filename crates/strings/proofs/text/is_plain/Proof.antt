@@ -9,7 +9,7 @@ use mathlib.Core.List.{List}
 use lib.Dec.{ltb, leb}
 use Rattle.definition.specs.Numbers.{isBytes}
 use Rattle.definition.specs.Chars.{byte}
-use Rattle.definition.proofs.CharLaws.{cases, byte-is}
+use Rattle.definition.proofs.moves.CharLaws.{cases, byte-is}
 use Rattle.marks.specs.Marks.{special}
 use Rattle.strings.proofs.text.Plain.{not-true}
 use Rattle.strings.proofs.text.is_plain.Statement.{statement}

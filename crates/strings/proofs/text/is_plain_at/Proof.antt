@@ -2,7 +2,7 @@
 use borrow.Author.Needs.{needs}
 use mathlib.Core.Path.{sym, _∙_}
 use mathlib.Core.Bool.{false≢true}
-use Rattle.definition.proofs.CharLaws.{byte-is}
+use Rattle.definition.proofs.moves.CharLaws.{byte-is}
 use Rattle.strings.proofs.text.Plain.{not-true}
 use Rattle.strings.proofs.text.is_plain_at.Statement.{statement}
 use Rattle.strings.proofs.text.is_plain_at.Tie as tie

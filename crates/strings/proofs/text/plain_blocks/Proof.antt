@@ -6,7 +6,7 @@ use Prim.Native.Nat.{ℕ, _+_, _-_, _≤_}
 use mathlib.Core.List.{List}
 use lib.Dec.{ltb}
 use lib.ListN.{length}
-use Rattle.definition.proofs.CharLaws.{cases}
+use Rattle.definition.proofs.moves.CharLaws.{cases}
 use Rattle.strings.specs.Text.{AllPlain}
 use Rattle.strings.proofs.text.plain_blocks.Statement.{statement}
 use Rattle.strings.proofs.text.plain_blocks.Tie as tie

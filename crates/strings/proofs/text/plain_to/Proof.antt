@@ -4,7 +4,7 @@ use native.Mathlib.Omega.{arith}
 use mathlib.Core.Path.{_≡_, refl, sym, _∙_}
 use Prim.Native.Nat.{_-_, _≤_}
 use Rattle.definition.specs.Chars.{byte}
-use Rattle.definition.proofs.CharLaws.{byte-is}
+use Rattle.definition.proofs.moves.CharLaws.{byte-is}
 use Rattle.marks.specs.Marks.{special}
 use Rattle.strings.specs.Text.{plainEnd}
 use Rattle.strings.proofs.text.Plain.{end-special, end-plain}

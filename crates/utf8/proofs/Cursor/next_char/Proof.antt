@@ -2,7 +2,7 @@
 use borrow.Author.Needs.{needs}
 use borrow.Author.Tests.{le-leb, lt-leb}
 use Rattle.utf8.specs.Steps.{stepAt}
-use Rattle.definition.proofs.CharLaws.{code-ascii, next-ascii}
+use Rattle.definition.proofs.moves.CharLaws.{code-ascii, next-ascii}
 use Rattle.utf8.proofs.Cursor.next_char.Statement.{statement}
 use Rattle.utf8.proofs.Cursor.next_char.Tie as tie
 

@@ -3,7 +3,7 @@ use borrow.Author.Needs.{needs}
 use borrow.Author.Tests.{le-leb}
 use mathlib.Core.Path.{sym, _∙_}
 use Rattle.definition.specs.Chars.{code}
-use Rattle.definition.proofs.CharLaws.{code-ascii}
+use Rattle.definition.proofs.moves.CharLaws.{code-ascii}
 use Rattle.utf8.proofs.Steps.{step-char, step-end}
 use Rattle.utf8.proofs.Cursor.peek.Statement.{statement}
 use Rattle.utf8.proofs.Cursor.peek.Tie as tie

@@ -1,0 +1,6 @@
+pub mod Outcomes
+pub mod Placed
+pub mod Room
+pub mod Tight
+pub mod Lent
+pub mod ViewLaw

@@ -1,0 +1,14 @@
+pub mod NameOrder
+pub mod NameLists
+pub mod NameFields
+pub mod NameLines
+pub mod NameScan
+pub mod NameIndex
+pub mod NameLookup
+pub mod NameWalk
+pub mod NameSearch
+pub mod NameChecked
+pub mod NamesShown
+pub mod NameTable
+pub mod NamedTable
+pub mod NamedShown

@@ -1,0 +1,105 @@
+-- What is known of a file's names: what each entry says stands in the file, and the index is the one list that meets IsIndex. Assumes nothing.
+use mathlib.Core.Path.{_≡_, refl, sym, ap, _∙_}
+use mathlib.Core.Bool.{true, false}
+use mathlib.Core.List.{List, [], _∷_, map}
+use mathlib.Core.Option.{none, some}
+use Prim.Native.Nat.{ℕ, _≤_, zero-le}
+use native.Mathlib.Omega.{arith}
+use lib.Dec.{ltb}
+use lib.ListN.{length, getD, length-map}
+use borrow.Author.Tests.{ltb-true, ltb-false}
+use Rattle.definition.specs.Chars.{same, noCode}
+use Rattle.definition_names.specs.Names.{isScalar, Entry, named, has, lookupIn, lookupOf, lookupFile, twice, byName, at, indexOf, nameOf, codeAt, entryOf, scalarAt, searched}
+use Rattle.definition_names.specs.IsIndex.{bit, count, Perm, isStart, IsIndex}
+use Rattle.definition.proofs.moves.CharLaws.{cases}
+use Rattle.definition_names.proofs.NameOrder.{never}
+use Rattle.definition_names.proofs.NameLists.{same?, count-later, count-none, count-at, stands}
+use Rattle.definition_names.proofs.NameIndex.{All, all-first, all-rest, all-map, Faithful, twice-false, distinct-twice, perm-byName, index-rises, index-unique, rising-distinct}
+use Rattle.definition_names.proofs.NameLookup.{byName-length, lookup-has, lookup-none}
+use Rattle.definition_names.proofs.NameSearch.{EntryIs, entry-is}
+use Rattle.definition_names.proofs.NameWalk.{Says, all-sound}
+
+pub some-same : (a b : List Entry) → some a ≡ some b → a ≡ b
+some-same a b h = cc
+
+pub index-size : (es : List Entry) → length (indexOf es) ≡ length es
+index-size es = length-map (byName es) at ∙ byName-length es
+
+-- the code of a line that an entry names
+scalar-there : (file : List ℕ) (es : List Entry) → All (Says file) es → (x : ℕ) → 1 ≤ count x (map at es) → isScalar (codeAt file x) ≡ true
+scalar-there file [] a x h = let z = count-none x in absurd (omega arith)
+scalar-there file (e ∷ es) a x h =
+    let s = all-first _ e es a in
+    same? x (at e) (λ q. rw (q, s .1) (s .2))
+    (λ q. let c = count-later x (at e) (map at es) q in scalar-there file es (all-rest _ e es a) x (omega arith))
+
+module _ (file : List ℕ) (es : List Entry) (h : named file ≡ some es) where
+  says : All (Says file) es
+  says = all-sound file es h .says
+
+  pub faithful : Faithful file es
+  faithful = all-map (Says file) _ (λ e s. s .0) es says
+
+  codes : All (λ e. codeAt file (e .at) ≡ e .code) es
+  codes = all-map (Says file) _ (λ e s. s .1) es says
+
+  pub scalars : All (λ e. isScalar (e .code) ≡ true) es
+  scalars = all-map (Says file) _ (λ e s. s .2) es says
+
+  pub starts : (q : ℕ) → count q (map at es) ≡ bit (isStart file q)
+  starts q = all-sound file es h .here q zero-le
+
+  -- THE INDEX IS WHAT IsIndex SAYS, and nothing else is
+  pub index-is : twice es ≡ false → IsIndex file (indexOf es)
+  index-is t = record {
+    once = λ p. perm-byName es p ∙ starts p;
+    rises = index-rises file es faithful (twice-false es t);
+  }
+
+  pub index-only : (l : List ℕ) → IsIndex file l → (twice es ≡ false) × (l ≡ indexOf es)
+  index-only l i =
+      let p : Perm l (map at es) = λ x. i .once x ∙ sym (starts x) in
+      let d = rising-distinct file es l faithful (i .rises) p in
+      (distinct-twice es d, index-unique file es l faithful d (i .rises) p)
+
+  -- A NAME SEARCHED by the index is found exactly if the file has it, with its code
+  pub searched-right : twice es ≡ false → (name : List ℕ) → searched file (indexOf es) name ≡ lookupFile file name
+  unfolding searched scalarAt lookupOf
+  searched-right t name =
+      cases (ltb k (length (indexOf es)))
+      (λ u.
+      let l = ltb-true k (length (indexOf es)) u in
+      let c = in-file p (count-at (indexOf es) k l) in
+      rw (u, h, scalar-there file es says p c) (sym (lookup-has file es name faithful codes (twice-false es t) p c (e .has l))))
+      (λ u.
+      rw (u, h)
+      (sym (lookup-none file es name faithful
+      (λ x m w.
+      let s = stands x (indexOf es) (let q = perm-byName es x in omega arith) in
+      e .none (ltb-false k (length (indexOf es)) u) (s .at) (s .inside) (ap (nameOf file) (s .is) ∙ w)))))
+    where
+      k : ℕ
+      k = entryOf file (indexOf es) name
+
+      p : ℕ
+      p = getD (indexOf es) k 0
+
+      e : EntryIs file (indexOf es) name k
+      e = entry-is file (indexOf es) name (index-is t .rises)
+
+      in-file : (x : ℕ) → 1 ≤ count x (indexOf es) → 1 ≤ count x (map at es)
+      in-file x m = let q = perm-byName es x in omega arith
+
+-- a name among entries has a code, and no other has
+pub has-code : (es : List Entry) (n : List ℕ) → All (λ e. isScalar (e .code) ≡ true) es → has es n ≡ true → isScalar (lookupIn es n) ≡ true
+unfolding has lookupIn
+has-code [] n a h = never refl h
+has-code (e ∷ es) n a h =
+    cases (same (e .name) n) (λ t. rw t (all-first _ e es a))
+    (λ t. rw t (has-code es n (all-rest _ e es a) (rw t at h)))
+
+pub has-none : (es : List Entry) (n : List ℕ) → has es n ≡ false → lookupIn es n ≡ noCode
+unfolding has lookupIn
+has-none [] n h = refl
+has-none (e ∷ es) n h =
+    cases (same (e .name) n) (λ t. never (rw t at h) refl) (λ t. rw t (has-none es n (rw t at h)))

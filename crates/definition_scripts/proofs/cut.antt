@@ -1,0 +1,5 @@
+pub mod CutLaws
+pub mod CutOnce
+pub mod CutSteps
+pub mod RunInCut
+pub mod PartLaws

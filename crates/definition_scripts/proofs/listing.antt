@@ -1,0 +1,12 @@
+pub mod RowPlaces
+pub mod SourceLaws
+pub mod ListingLaws
+pub mod RowCount
+pub mod FieldBytes
+pub mod FewRows
+pub mod OtherwiseLaws
+pub mod FieldsLaw
+pub mod CompleteLaw
+pub mod ListingSteps
+pub mod RunRows
+pub mod ListingOne

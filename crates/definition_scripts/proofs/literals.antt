@@ -1,0 +1,7 @@
+pub mod OpeningLaws
+pub mod LiteralLaws
+pub mod LiteralFound
+pub mod RunLaws
+pub mod LiteralSteps
+pub mod ListLaw
+pub mod ListOne

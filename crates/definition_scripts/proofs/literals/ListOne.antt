@@ -1,0 +1,73 @@
+-- Two calls for literals that return the same numbers and leave the same list have one listing. Assumes nothing.
+use mathlib.Core.Path.{_≡_, refl, sym, _∙_, ap}
+use mathlib.Core.Bool.{Bool, true, false}
+use mathlib.Core.List.{List, _++_}
+use mathlib.Core.Option.{some}
+use Prim.Native.Nat.{ℕ, _*_, _≤_}
+use native.Mathlib.Omega.{arith}
+use lib.Dec.{ltb, lit≤}
+use lib.ListN.{length, take}
+use lib.Seq.{take-append-seam}
+use Rattle.definition.specs.Chars.{if_then_else_}
+use Rattle.definition.specs.Entry.{Literal, Refusal, refusal, sixes}
+use Rattle.definition.specs.Reading.{Outcome, accepts, refuses}
+use Rattle.definition.specs.Words.{word}
+use Rattle.definition_scripts.specs.IsRun.{Unclosed, toEnd, toNewline}
+use Rattle.definition_scripts.specs.Literals.{Run, literalsFrom, flat, Listing, lists, refused, short, listed, listAfter, listInto, literalsInto, listNumbers}
+use Rattle.definition_scripts.proofs.literals.ListLaw.{Refused, tooLong, noneOpens, neverCloses, Told, list-told, sixes-flat, flat-length}
+
+-- what the numbers do not show of a listing
+abbrev Settled : Listing → Type 0
+Settled (lists x) = Unit {0}
+Settled (refused r) = (r ≡ refusal (r .number) 0 (r .place) 0 0) × (49 ≤ r .number) × (r .number ≤ 52)
+Settled (short n) = Unit {0}
+
+unclosed-within : {s : List ℕ} {quote flag i n : ℕ} → Unclosed s quote flag i n → (49 ≤ n) × (n ≤ 52)
+unclosed-within (toEnd u h) = (lit≤ tt, lit≤ tt)
+unclosed-within (toNewline u h) = (lit≤ tt, lit≤ tt)
+
+refused-settled : {script : List ℕ} {offset : ℕ} {r : Refusal} → Refused script offset r → Settled (refused r)
+unfolding refusal
+refused-settled (tooLong h) = (refl, lit≤ tt, lit≤ tt)
+refused-settled (noneOpens h) = (refl, lit≤ tt, lit≤ tt)
+refused-settled (neverCloses r h) = let w = unclosed-within (h .unclosed) in (h .bare, w .0, w .1)
+
+listed-settled : (script : List ℕ) (offset room : ℕ) (o : Outcome Run) → Told script offset o → Settled (listed room o)
+unfolding listed
+listed-settled script offset room (refuses r) t = refused-settled t
+listed-settled script offset room (accepts x) t = go (ltb room (6 * length (x .literals)))
+  where
+    go : (b : Bool) → Settled (if b then short (6 * length (x .literals)) else lists x)
+    go true = tt
+    go false = tt
+
+-- lists of one length whose numbers stand in front are the same
+flat-same : (ls ms : List Literal) (r t : List ℕ) → length ls ≡ length ms → flat ls ++ r ≡ flat ms ++ t → ls ≡ ms
+flat-same ls ms r t n e =
+    let l : length (flat ls) ≡ length (flat ms) = omega (arith, flat-length ls, flat-length ms) in
+    let f : flat ls ≡ flat ms = sym (take-append-seam (flat ls) r) ∙ ap (take (length (flat ls))) e ∙ ap (λ k. take k (flat ms ++ t)) l ∙ take-append-seam (flat ms) t in
+    let s : some ls ≡ some ms = sym (sixes-flat ls) ∙ ap sixes f ∙ sixes-flat ms in
+    cc
+
+one-listing : (x y : Listing) (b b′ : List ℕ) → Settled x → Settled y → ((k : ℕ) → word (listNumbers x) k ≡ word (listNumbers y) k) → listAfter x b ≡ listAfter y b′ → x ≡ y
+unfolding listNumbers listAfter
+one-listing (lists x) (lists y) b b′ p q n l =
+    let e = flat-same (x .literals) (y .literals) _ _ (n 1) l in λ i. lists (record { literals = e i; stop = n 3 i })
+one-listing (lists x) (refused r) b b′ p q n l = let z = n 0 in absurd (omega (arith, q .1))
+one-listing (lists x) (short m) b b′ p q n l = let z = n 0 in absurd (omega arith)
+one-listing (refused r) (lists y) b b′ p q n l = let z = n 0 in absurd (omega (arith, p .1))
+one-listing (refused r) (refused t) b b′ p q n l = ap refused (p .0 ∙ (λ i. refusal (n 0 i) 0 (n 2 i) 0 0) ∙ sym (q .0))
+one-listing (refused r) (short m) b b′ p q n l = let z = n 0 in absurd (omega (arith, p .2))
+one-listing (short m) (lists y) b b′ p q n l = let z = n 0 in absurd (omega arith)
+one-listing (short m) (refused t) b b′ p q n l = let z = n 0 in absurd (omega (arith, q .2))
+one-listing (short m) (short k) b b′ p q n l = ap short (n 9)
+
+pub list-one : (script : List ℕ) (offset : ℕ) (buffer script′ : List ℕ) (offset′ : ℕ) (buffer′ : List ℕ)
+    → ((k : ℕ) → word (listNumbers (literalsInto script offset buffer .listing)) k ≡ word (listNumbers (literalsInto script′ offset′ buffer′ .listing)) k)
+    → literalsInto script offset buffer .list ≡ literalsInto script′ offset′ buffer′ .list
+    → literalsInto script offset buffer .listing ≡ literalsInto script′ offset′ buffer′ .listing
+unfolding literalsInto listInto
+list-one script offset buffer script′ offset′ buffer′ n l =
+    one-listing (listed (length buffer) (literalsFrom script offset)) (listed (length buffer′) (literalsFrom script′ offset′)) buffer buffer′
+    (listed-settled script offset (length buffer) (literalsFrom script offset) (list-told script offset))
+    (listed-settled script′ offset′ (length buffer′) (literalsFrom script′ offset′) (list-told script′ offset′)) n l

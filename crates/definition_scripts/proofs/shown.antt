@@ -1,0 +1,3 @@
+pub mod ListShown
+pub mod CutShown
+pub mod ListingShown

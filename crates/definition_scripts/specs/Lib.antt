@@ -1,0 +1,7 @@
+pub mod Opening
+pub mod IsRun
+pub mod Literals
+pub mod IsCut
+pub mod Cut
+pub mod Listing
+pub mod Complete

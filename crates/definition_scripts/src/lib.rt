@@ -1,0 +1,1 @@
+// What the literals and fields of a whole script are, with no code: specs/ is the definition, and proofs/ what is shown of it.
