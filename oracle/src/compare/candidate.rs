@@ -8,12 +8,46 @@ use std::io::{BufReader, Read, Write};
 use std::process::{Child, ChildStdin, ChildStdout, Command, Stdio};
 
 use inputs::{FILL_BYTE, FILL_WORD};
-
-use crate::check::{Answer, Room};
+use oracle::answer::Numbers;
 
 /// Requests that go together, and their answers, are less than a pipe holds, so that neither
 /// end waits for the other to read.
 const PIPE: usize = 1 << 15;
+
+/// What is asked for, and lent for it.
+#[derive(Clone, Copy, Debug)]
+pub enum Room {
+    Records {
+        words: usize,
+        text: usize,
+    },
+    /// The rows of a list's fields.
+    Rows(usize),
+    /// Those of a whole script.
+    Fields(usize),
+}
+
+impl Room {
+    pub fn words(self) -> usize {
+        let (Room::Records { words, .. } | Room::Rows(words) | Room::Fields(words)) = self;
+        words
+    }
+
+    pub fn text(self) -> usize {
+        match self {
+            Room::Records { text, .. } => text,
+            _ => 0,
+        }
+    }
+}
+
+/// The numbers answered, and both buffers. What stands around them is watched by server.c.
+#[derive(PartialEq)]
+pub struct Answer {
+    pub numbers: Numbers,
+    pub words: Vec<u32>,
+    pub text: Vec<u8>,
+}
 
 struct Server {
     // Kept, so that its end can be told.

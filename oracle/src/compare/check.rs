@@ -8,46 +8,11 @@ use oracle::answer::{Numbers, Outcome};
 use oracle::listing::{self, Listing};
 use oracle::rules::{self, RECORD_WORDS, ROW_NUMBERS};
 
-use crate::candidate;
+use crate::candidate::{self, Answer, Room};
 
 /// How many records and text bytes are printed.
 const RECORDS_SHOWN: usize = 40;
 const TEXT_SHOWN: usize = 2_000;
-
-/// What is asked for, and lent for it.
-#[derive(Clone, Copy, Debug)]
-pub enum Room {
-    Records {
-        words: usize,
-        text: usize,
-    },
-    /// The rows of a list's fields.
-    Rows(usize),
-    /// Those of a whole script.
-    Fields(usize),
-}
-
-impl Room {
-    pub fn words(self) -> usize {
-        let (Room::Records { words, .. } | Room::Rows(words) | Room::Fields(words)) = self;
-        words
-    }
-
-    pub fn text(self) -> usize {
-        match self {
-            Room::Records { text, .. } => text,
-            _ => 0,
-        }
-    }
-}
-
-/// The numbers answered, and both buffers. What stands around them is watched by server.c.
-#[derive(PartialEq)]
-pub struct Answer {
-    pub numbers: Numbers,
-    pub words: Vec<u32>,
-    pub text: Vec<u8>,
-}
 
 impl Answer {
     /// What is answered and left with a room, by what answers and fills both buffers.
