@@ -24,13 +24,8 @@
    index, the list, the script, the words and the text. A row buffer is lent as the words.
    Answer: 12 u32, the index, the words, the text after the call.
 
-   Requests may come together; what was answered goes out before more is waited for. */
-#include <stdint.h>
-#include <stdio.h>
-#include <stdlib.h>
-#include <string.h>
-#include <unistd.h>
-
+   Requests may come together. */
+#include "../pipe.h"
 #include "stumpgarret.h"
 
 enum { GUARD = 16, FILL = 0x5A };
@@ -41,10 +36,8 @@ static const uint32_t BUILD = UINT32_MAX - 2, CHECK = UINT32_MAX - 3,
 static void *lend(size_t size)
 {
     uint8_t *whole = malloc(size + 2 * GUARD);
-    if (!whole) {
-        fputs("server: no memory\n", stderr);
-        exit(4);
-    }
+    if (!whole)
+        fail(4, "no memory");
     memset(whole, FILL, GUARD);
     memset(whole + GUARD + size, FILL, GUARD);
     return whole + GUARD;
@@ -60,44 +53,6 @@ static void give_back(void *lent, size_t size, const char *name)
             exit(3);
         }
     free(whole);
-}
-
-static uint8_t block[1 << 16];
-static size_t taken, filled;
-
-/* Whether there is more to take. */
-static int more(void)
-{
-    if (taken < filled)
-        return 1;
-    if (fflush(stdout))
-        exit(6);
-    ssize_t got = read(STDIN_FILENO, block, sizeof block);
-    taken = 0;
-    filled = got < 0 ? 0 : (size_t)got;
-    return filled > 0;
-}
-
-static void take(void *to, size_t size)
-{
-    uint8_t *at = to;
-    while (size) {
-        if (!more()) {
-            fputs("server: request cut short\n", stderr);
-            exit(5);
-        }
-        size_t here = size < filled - taken ? size : filled - taken;
-        memcpy(at, block + taken, here);
-        taken += here;
-        at += here;
-        size -= here;
-    }
-}
-
-static void put(const void *from, size_t size)
-{
-    if (size && fwrite(from, 1, size, stdout) != size)
-        exit(6);
 }
 
 static void unchanged(const void *now, const void *before, size_t size, const char *name)

@@ -9,13 +9,9 @@
    Calls: 0 builds an index in the words, 1 checks the index, 2 reads with the names of the file, 3
    with names searched, 4 lists the fields in the words.
    Answer: 12 u32, the words, the text after the call; they are filled with A5 before it. */
-#include <stdint.h>
-#include <stdio.h>
-#include <stdlib.h>
-#include <string.h>
 #include <sys/mman.h>
-#include <unistd.h>
 
+#include "../pipe.h"
 #include "stumpgarret.h"
 
 void stumpgarret_names_build(const uint8_t *file, size_t file_length, uint32_t *index,
@@ -46,12 +42,6 @@ struct lent {
     size_t length, size;
     int mapped; /* without a copy and bytes around it, since nothing can be written to it */
 };
-
-static void fail(int status, const char *words)
-{
-    fprintf(stderr, "server: %s\n", words);
-    exit(status);
-}
 
 static struct lent lend(size_t length, size_t width)
 {
@@ -100,36 +90,6 @@ static void give_back(struct lent *lent)
     *lent = (struct lent){0};
 }
 
-static uint8_t block[1 << 16];
-static size_t taken, filled;
-
-/* Whether there is more to take. */
-static int more(void)
-{
-    if (taken < filled)
-        return 1;
-    if (fflush(stdout))
-        exit(6);
-    ssize_t got = read(STDIN_FILENO, block, sizeof block);
-    taken = 0;
-    filled = got < 0 ? 0 : (size_t)got;
-    return filled > 0;
-}
-
-static void take(void *to, size_t size)
-{
-    uint8_t *at = to;
-    while (size) {
-        if (!more())
-            fail(5, "request cut short");
-        size_t here = size < filled - taken ? size : filled - taken;
-        memcpy(at, block + taken, here);
-        taken += here;
-        at += here;
-        size -= here;
-    }
-}
-
 static struct lent take_lent(size_t length, size_t width)
 {
     struct lent lent = lend(length, width);
@@ -139,12 +99,6 @@ static struct lent take_lent(size_t length, size_t width)
         fail(4, "no memory");
     memcpy(lent.copy, lent.at, lent.size);
     return lent;
-}
-
-static void put(const void *from, size_t size)
-{
-    if (size && fwrite(from, 1, size, stdout) != size)
-        exit(6);
 }
 
 static struct lent file, names; /* the file and its index, kept for the requests that follow */
