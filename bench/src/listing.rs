@@ -1,6 +1,6 @@
 //! Whole scripts beside Python: their literals from each run's offset on beside tokenize, and all their fields beside
 //! `ast.parse` with a walk for fields.
-use crate::{call, ROUNDS};
+use crate::{call, figure, rounds};
 use std::time::{Duration, Instant};
 
 struct Script<'a> {
@@ -24,18 +24,21 @@ pub fn measure(file: &[u8]) {
         .collect();
     let scripts = scripts(&mut rest);
     let bytes = scripts.iter().map(|script| script.source.len()).sum::<usize>() as f64;
+    let per_byte = |name: &str, time: f64| figure(name, time / bytes);
     let mut numbers = vec![0; 10 << 20];
     println!("scripts {}, bytes {}", scripts.len(), bytes);
 
     let runs = scripts.iter().map(|script| script.offsets.len()).sum::<usize>();
     let (literals, ours) = best(&scripts, 1, |script| literals(script, &mut numbers));
-    let (ours, tokenize) = (ours / bytes, times[0] as f64 / bytes);
+    let ours = per_byte("literals", ours);
+    let tokenize = per_byte("tokenize", times[0] as f64);
     println!("runs {runs}, literals {literals}: {ours:.3} ns/byte, tokenize {tokenize:.0}");
     println!("ratio tokenize {:.0}", tokenize / ours);
     flat("listed", LINE, |script| self::literals(script, &mut numbers));
 
     let (fields, ours) = best(&scripts, 1, |script| self::fields(script, &mut numbers));
-    let (ours, ast) = (ours / bytes, times[1] as f64 / bytes);
+    let ours = per_byte("fields", ours);
+    let ast = per_byte("ast", times[1] as f64);
     println!("fields {fields} ({} by ast): {ours:.3} ns/byte, ast {ast:.0}", times[2]);
     println!("ratio ast {:.0}", ast / ours);
     flat("fields", LINE, |script| self::fields(script, &mut numbers));
@@ -48,7 +51,8 @@ fn flat(name: &str, line: &str, mut work: impl FnMut(&Script) -> usize) {
         let script = Script { source: source.as_bytes(), offsets: vec![0] };
         let times = (8 << 20) / size;
         let (_, ours) = best(&[script], times, &mut work);
-        println!("bytes {size:>8} {name}: {:.3} ns/byte", ours / (times * source.len()) as f64);
+        let ours = figure(name, ours / (times * source.len()) as f64);
+        println!("bytes {size:>8} {name}: {ours:.3} ns/byte");
     }
 }
 
@@ -89,7 +93,7 @@ fn fields(script: &Script, rows: &mut [u32]) -> usize {
 /// What a pass over the scripts gives, each script so many times, and the best time of a pass in nanoseconds.
 fn best(scripts: &[Script], times: usize, mut work: impl FnMut(&Script) -> usize) -> (usize, f64) {
     let mut best = (0, Duration::MAX);
-    for _ in 0..ROUNDS {
+    for _ in rounds() {
         let begun = Instant::now();
         let given = (0..times).flat_map(|_| scripts).map(&mut work).sum();
         best = (given, best.1.min(begun.elapsed()));

@@ -1,10 +1,10 @@
 //! Times the library and the published Rust on the same inputs, in one process.
 //!
-//!   bench LIBRARY_RUNS LIBRARY_SCRIPTS [UNICODE_DATA]
+//!   bench ROUNDS LIBRARY_RUNS LIBRARY_SCRIPTS [UNICODE_DATA]
 //!
-//! LIBRARY_RUNS has runs of literals, as crates/try_readings takes them. LIBRARY_SCRIPTS has scripts, as
-//! bench/library-scripts writes them. UNICODE_DATA is the file of names that Unicode publishes. Where the Rust's
-//! source was not at hand, the library is timed alone.
+//! Each input is timed ROUNDS times, and the best time counts. LIBRARY_RUNS has runs of literals, as crates/try_readings
+//! takes them. LIBRARY_SCRIPTS has scripts, as bench/library-scripts writes them. UNICODE_DATA is the file of names that
+//! Unicode publishes. Where the Rust's source was not at hand, the library is timed alone.
 
 #[allow(dead_code)]
 #[path = "../../bindings/rust/src/call.rs"]
@@ -17,10 +17,8 @@ mod reference {
 }
 
 use inputs::{Case, Input};
+use std::num::NonZeroUsize;
 use std::time::{Duration, Instant};
-
-/// Each input is timed so often, and the best time counts.
-const ROUNDS: usize = 15;
 
 /// Buffers that are lent to each call.
 struct Buffers {
@@ -48,10 +46,11 @@ struct Times {
     rust: Option<Duration>,
 }
 
+const USAGE: &str = "usage: bench ROUNDS LIBRARY_RUNS LIBRARY_SCRIPTS [UNICODE_DATA]";
+
 fn main() {
-    let usage = "usage: bench LIBRARY_RUNS LIBRARY_SCRIPTS [UNICODE_DATA]";
-    let runs = std::env::args().nth(1).expect(usage);
-    let scripts = std::env::args().nth(2).expect(usage);
+    let runs = argument(2).expect(USAGE);
+    let scripts = argument(3).expect(USAGE);
     let mut buffers = Buffers { words: vec![0; 8 << 20], text: vec![0; 4 << 20] };
     println!("{}", reference::WHAT);
     println!("input        calls      bytes   ours ns/byte  noise %   Rust ns/byte");
@@ -69,14 +68,29 @@ fn main() {
         println!("bytes {:>8}: {:.3} ns/byte", size, per_byte(times.ours, &input));
     }
     listing::measure(&std::fs::read(scripts).expect("the scripts can be read"));
-    if let Some(names) = std::env::args().nth(3) {
+    if let Some(names) = argument(4) {
         names::measure(&std::fs::read(names).expect("the file of names can be read"));
     }
 }
 
+fn argument(at: usize) -> Option<String> {
+    std::env::args().nth(at)
+}
+
+fn rounds() -> std::ops::Range<usize> {
+    let rounds: NonZeroUsize = argument(1).and_then(|word| word.parse().ok()).expect(USAGE);
+    0..rounds.get()
+}
+
+/// A figure that is told, which must be finite and more than nothing.
+fn figure(name: &str, value: f64) -> f64 {
+    assert!(value.is_finite() && value > 0.0, "{name}: {value} is no figure");
+    value
+}
+
 fn measure(input: &Input, buffers: &mut Buffers) -> Times {
     let mut times = Times { ours: Duration::MAX, ours_worst: Duration::ZERO, rust: None };
-    for _ in 0..ROUNDS {
+    for _ in rounds() {
         let begun = Instant::now();
         let ours = input.calls().fold((0, 0), |sum, case| add(sum, buffers.read(case)));
         let time = begun.elapsed();
@@ -95,7 +109,7 @@ fn add(one: (usize, usize), other: (usize, usize)) -> (usize, usize) {
 }
 
 fn per_byte(time: Duration, input: &Input) -> f64 {
-    time.as_secs_f64() * 1e9 / input.bytes() as f64
+    figure(input.name, time.as_secs_f64() * 1e9 / input.bytes() as f64)
 }
 
 fn print(input: &Input, times: &Times) {
@@ -120,7 +134,7 @@ fn copy(buffers: &mut Buffers) {
     let input = inputs::plain();
     let ours = measure(&input, buffers).ours;
     let mut best = Duration::MAX;
-    for _ in 0..ROUNDS {
+    for _ in rounds() {
         let begun = Instant::now();
         for case in input.calls() {
             buffers.text[..case.script.len()].copy_from_slice(&case.script);
@@ -128,7 +142,7 @@ fn copy(buffers: &mut Buffers) {
         }
         best = best.min(begun.elapsed());
     }
-    let ratio = best.as_secs_f64() / ours.as_secs_f64();
+    let ratio = figure("copy", best.as_secs_f64() / ours.as_secs_f64());
     println!("ratio copy {:.3}", ratio);
     println!("plain takes {:.1} times as long as a copy", 1.0 / ratio);
 }

@@ -1,5 +1,5 @@
 //! A lent file of names, as Unicode publishes it: its index built and checked, and names looked up.
-use crate::{call, ROUNDS};
+use crate::{call, figure, rounds};
 use std::time::{Duration, Instant};
 
 /// A call takes at most so many literals.
@@ -27,9 +27,9 @@ pub fn measure(file: &[u8]) {
     println!(
         "names {count}, bytes {}: build {:.2} ms, check {:.2} ms, check of a wrong index {:.2} ms",
         file.len(),
-        1e3 * built,
-        1e3 * checked,
-        1e3 * wrong
+        figure("build", 1e3 * built),
+        figure("check", 1e3 * checked),
+        figure("check of a wrong index", 1e3 * wrong)
     );
 
     let asked: Vec<Asked> =
@@ -42,13 +42,12 @@ pub fn measure(file: &[u8]) {
     let (_, one) = best(|| singles.iter().map(|list| read(list, file, &index)).sum());
     let (_, alone) =
         best(|| singles.iter().zip(&asked).map(|(list, asked)| read(list, asked.line, &[0])).sum());
-    let per_name = |time: f64| 1e9 * time / count as f64;
+    let per_name = |time: f64| figure("lookup", 1e9 * time / count as f64);
     println!("lookup, {MOST_LITERALS} names a call: {:.0} ns/name", per_name(many));
+    let (one, alone) = (per_name(one), per_name(alone));
     println!(
-        "lookup, one name a call: {:.0} ns/name, in a file of its line alone {:.0}: the search {:.0}",
-        per_name(one),
-        per_name(alone),
-        per_name(one - alone)
+        "lookup, one name a call: {one:.0} ns/name, in a file of its line alone {alone:.0}: the search {:.0}",
+        one - alone
     );
 }
 
@@ -95,7 +94,7 @@ fn search((script, list): &List, file: &[u8], index: &[u32], text: &mut [u8]) ->
 /// What the work gives, and its best time in seconds.
 fn best(mut work: impl FnMut() -> usize) -> (usize, f64) {
     let mut best = (0, Duration::MAX);
-    for _ in 0..ROUNDS {
+    for _ in rounds() {
         let begun = Instant::now();
         let given = work();
         best = (given, best.1.min(begun.elapsed()));
