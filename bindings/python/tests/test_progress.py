@@ -1,9 +1,8 @@
-"""What is told while long work goes on: by ./fields while it builds, and by ./test."""
+"""What is told while long work goes on, by ./fields while it builds and by ./test, and what it took."""
 
 import os
 import pathlib
 import pty
-import re
 import subprocess
 import tempfile
 import time
@@ -39,15 +38,26 @@ class Progress(unittest.TestCase):
             self.assertRegex(line, r"^\.\.\. crate 2 of 9 is being proved, 0 min \d s in all so far$")
 
 
+# What ./test calls beside rt and .ci/times, in its order.
+PYTHON = ["crates/definition/blanks.py", "crates/try_leaves/expected.py", "crates/try_readings/expected.py"]
+TESTED = ["oracle/test", "bindings/c/test", "bindings/rust/test", "bindings/python/test"]
+BESIDE = [*PYTHON, *(f"{one} target/staticlib/libstumpgarret.a" for one in TESTED)]
+TIMES = "What it took, in seconds:"
+EXPECTED = ["expected of try_leaves", "expected of try_readings"]
+PARTS = ["blanks", *EXPECTED, "library", "oracle", "bindings/c", "bindings/rust", "bindings/python"]
+
+
 class Test(unittest.TestCase):
-    """./test, where all that it calls is a stand-in."""
+    """./test, where all that it calls is a stand-in that says its words, but for what says the times."""
 
     def setUp(self):
         self.clone = pathlib.Path(self.enterContext(tempfile.TemporaryDirectory()))
-        script = (CLONE / "test").read_text()
-        for name in ["bin/python3", *re.findall(r"^ *([\w.]\S*/\S+|\./\S+)", script, re.M)]:
-            self.write(name, "#!/bin/sh\n")
-        self.write("test", script)
+        for name in "test", ".ci/times":
+            self.write(name, (CLONE / name).read_text())
+        for name in "prepare", *TESTED:
+            self.write(name, f'#!/bin/sh\necho {name} "$@"\n')
+        for name in PYTHON:
+            self.write(name, f"print('{name}')\n")
 
     def write(self, name, content):
         path = self.clone / name
@@ -57,34 +67,78 @@ class Test(unittest.TestCase):
 
     def run_with(self, rt):
         """Exit status, and each line with the seconds since the first."""
-        self.write("bin/rt", f'#!/bin/sh\ntest "$1" = ci || exit 0\n{rt}')
+        self.write("bin/rt", f'#!/bin/sh\ntest "$1" != staticlib || exit 0\n{rt}')
         variables = {**os.environ, "PATH": f"{self.clone}/bin:{os.environ['PATH']}"}
         streams = {"stdout": subprocess.PIPE, "stderr": subprocess.STDOUT, "text": True}
         with subprocess.Popen([self.clone / "test"], env=variables, **streams) as ran:
             lines = [(line.rstrip("\n"), time.monotonic()) for line in ran.stdout]
         return ran.returncode, [(line, told - lines[0][1]) for line, told in lines]
 
+    def lines_with(self, rt):
+        status, lines = self.run_with(rt)
+        return status, [line for line, _ in lines]
+
     def test_as_they_come(self):
-        self.write("bindings/python/test", "#!/bin/sh\necho bindings are tested\n")
-        status, lines = self.run_with("echo one; sleep 4; echo two >&2; echo '7 passed, 0 failed'")
-        told = ["one", "two", "bindings are tested", "7 passed, 0 failed"]
-        self.assertEqual((status, [line for line, _ in lines]), (0, told))
-        self.assertGreater(lines[1][1], 1)
+        status, lines = self.run_with("echo one $*; sleep 4; echo two >&2; echo '7 passed, 0 failed'")
+        told = [line for line, _ in lines]
+        before = ["prepare", "one ci", "two", *BESIDE, TIMES]
+        self.assertEqual((status, told[: len(before)], told[-1]), (0, before, "7 passed, 0 failed"))
+        self.assertGreater(lines[2][1] - lines[1][1], 1)
+        parts = [line.rsplit(None, 1) for line in told[len(before) + 3 : -1]]
+        self.assertEqual([name for name, _ in parts], ["prepare", "rt ci", *PARTS, "whole"])
+        self.assertGreaterEqual(int(parts[1][1]), 4)
+        self.assertEqual([line for line in told if "passed" in line], told[-1:])
 
     def test_count_only_if_all_passed(self):
-        self.write("bindings/python/test", "#!/bin/sh\necho it fails\nexit 1\n")
-        status, lines = self.run_with("echo one; echo '7 passed, 0 failed'")
-        self.assertEqual((status, [line for line, _ in lines]), (1, ["one", "it fails"]))
+        for at, name in enumerate(TESTED, len(PYTHON)):
+            stands = (self.clone / name).read_text()
+            self.write(name, stands + "exit 1\n")
+            status, told = self.lines_with("echo one; echo '7 passed, 0 failed'")
+            self.assertEqual((status, told), (1, ["prepare", "one", *BESIDE[: at + 1]]))
+            self.write(name, stands)
 
     def test_failed(self):
-        status, lines = self.run_with("echo one; echo '6 passed, 1 failed'; exit 1")
-        self.assertEqual((status, [line for line, _ in lines]), (1, ["one", "6 passed, 1 failed"]))
+        status, told = self.lines_with("echo one; echo '6 passed, 1 failed'; exit 1")
+        self.assertEqual((status, told), (1, ["prepare", "one", "6 passed, 1 failed"]))
 
     def test_no_count(self):
-        status, lines = self.run_with("echo one; exit 1")
-        self.assertEqual((status, [line for line, _ in lines]), (1, ["one"]))
-        status, lines = self.run_with("echo one")
-        self.assertEqual((status, lines[-1][0]), (1, "rt ci did not end with its count: one"))
+        self.assertEqual(self.lines_with("echo one; exit 1"), (1, ["prepare", "one"]))
+        status, told = self.lines_with("echo one")
+        self.assertEqual((status, told[-1]), (1, "rt ci did not end with its count: one"))
+
+
+LOG = """\
+library std: modules loaded=0 checked=0
+rt: definition proved (11 s)
+rt: utf8 proved (unchanged since it was last proved)
+rt: why proved (85 s)
+rt: must-fail definition/a_b: refused, as it must be (first at specs/Chars.antt:10:5; 130 s)
+rt: must-fail definition/c: refused, as it must be (7 s)
+rt: must-fail utf8/d: refused, as it must be (first at src/lib.rt:3:1; 40 s)
+rt: why ran as nobody, and wrote what its file 'stdout' has (0 s)
+rt: ok, 3 crates proved, 3 must-fail edits refused
+6 passed, 0 failed
+test: rt ci (215 s)
+test: bindings/c (12 s)
+"""
+TABLE = """\
+What it took, in seconds:
+crate                        proof       run     edits their sum
+definition                      11         -         2       137
+utf8                             -         -         1        40
+why                             85         0         -         -
+together                        96         0         3       177
+part                          time
+rt ci                          215
+bindings/c                      12
+whole                          230
+"""
+
+
+class Times(unittest.TestCase):
+    def test_table(self):
+        ran = subprocess.run([CLONE / ".ci/times", "/dev/stdin", "230"], input=LOG, capture_output=True, text=True)
+        self.assertEqual((ran.returncode, ran.stdout, ran.stderr), (0, TABLE, ""))
 
 
 if __name__ == "__main__":
