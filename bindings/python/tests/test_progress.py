@@ -41,10 +41,10 @@ class Progress(unittest.TestCase):
 # What ./test calls beside rt and .ci/times, in its order.
 PYTHON = ["crates/definition/blanks.py", "crates/try_leaves/expected.py", "crates/try_readings/expected.py"]
 TESTED = ["oracle/test", "bindings/c/test", "bindings/rust/test", "bindings/python/test"]
-BESIDE = [*PYTHON, *(f"{one} target/staticlib/libstumpgarret.a" for one in TESTED)]
+BESIDE = [*PYTHON, *(f"{one} target/staticlib/libstumpgarret.a" for one in TESTED), "bench/run --short"]
 TIMES = "What it took, in seconds:"
 EXPECTED = ["expected of try_leaves", "expected of try_readings"]
-PARTS = ["blanks", *EXPECTED, "library", "oracle", "bindings/c", "bindings/rust", "bindings/python"]
+PARTS = ["blanks", *EXPECTED, "library", "oracle", "bindings/c", "bindings/rust", "bindings/python", "bench"]
 
 
 class Test(unittest.TestCase):
@@ -54,7 +54,7 @@ class Test(unittest.TestCase):
         self.clone = pathlib.Path(self.enterContext(tempfile.TemporaryDirectory()))
         for name in "test", ".ci/times":
             self.write(name, (CLONE / name).read_text())
-        for name in "prepare", *TESTED:
+        for name in "prepare", *TESTED, "bench/run":
             self.write(name, f'#!/bin/sh\necho {name} "$@"\n')
         for name in PYTHON:
             self.write(name, f"print('{name}')\n")
@@ -90,7 +90,7 @@ class Test(unittest.TestCase):
         self.assertEqual([line for line in told if "passed" in line], told[-1:])
 
     def test_count_only_if_all_passed(self):
-        for at, name in enumerate(TESTED, len(PYTHON)):
+        for at, name in enumerate([*TESTED, "bench/run"], len(PYTHON)):
             stands = (self.clone / name).read_text()
             self.write(name, stands + "exit 1\n")
             status, told = self.lines_with("echo one; echo '7 passed, 0 failed'")
