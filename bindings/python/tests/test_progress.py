@@ -65,17 +65,17 @@ class Test(unittest.TestCase):
         path.write_text(content)
         path.chmod(0o755)
 
-    def run_with(self, rt):
+    def run_with(self, rt, *words):
         """Exit status, and each line with the seconds since the first."""
         self.write("bin/rt", f'#!/bin/sh\ntest "$1" != staticlib || exit 0\n{rt}')
         variables = {**os.environ, "PATH": f"{self.clone}/bin:{os.environ['PATH']}"}
         streams = {"stdout": subprocess.PIPE, "stderr": subprocess.STDOUT, "text": True}
-        with subprocess.Popen([self.clone / "test"], env=variables, **streams) as ran:
+        with subprocess.Popen([self.clone / "test", *words], env=variables, **streams) as ran:
             lines = [(line.rstrip("\n"), time.monotonic()) for line in ran.stdout]
         return ran.returncode, [(line, told - lines[0][1]) for line, told in lines]
 
-    def lines_with(self, rt):
-        status, lines = self.run_with(rt)
+    def lines_with(self, rt, *words):
+        status, lines = self.run_with(rt, *words)
         return status, [line for line, _ in lines]
 
     def test_as_they_come(self):
@@ -89,12 +89,24 @@ class Test(unittest.TestCase):
         self.assertGreaterEqual(int(parts[1][1]), 4)
         self.assertEqual([line for line in told if "passed" in line], told[-1:])
 
+    def test_quick(self):
+        status, told = self.lines_with("echo rt $*; echo 'rt: utf8 proved (unchanged since it was last proved)'", "quick")
+        self.assertEqual((status, told[:2], told[3 : 4 + len(BESIDE)]), (0, ["prepare", "rt check"], [*BESIDE, TIMES]))
+        self.assertRegex(told[-1], "^quick: passed; the wrong edits were left out")
+        self.assertEqual(self.lines_with("echo one; exit 1", "quick"), (1, ["prepare", "one"]))
+
+    def test_unknown_word(self):
+        for words in ["quik"], ["quick", "quick"], ["--quick"]:
+            status, told = self.lines_with("echo one", *words)
+            self.assertEqual((status, told), (2, [f"usage: {self.clone}/test [quick]"]))
+
     def test_count_only_if_all_passed(self):
         for at, name in enumerate([*TESTED, "bench/run"], len(PYTHON)):
             stands = (self.clone / name).read_text()
             self.write(name, stands + "exit 1\n")
-            status, told = self.lines_with("echo one; echo '7 passed, 0 failed'")
-            self.assertEqual((status, told), (1, ["prepare", "one", *BESIDE[: at + 1]]))
+            for word in [], ["quick"]:
+                status, told = self.lines_with("echo one; echo '7 passed, 0 failed'", *word)
+                self.assertEqual((status, told), (1, ["prepare", "one", *BESIDE[: at + 1]]))
             self.write(name, stands)
 
     def test_failed(self):
