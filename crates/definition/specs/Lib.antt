@@ -1,5 +1,5 @@
-pub mod Numbers
 pub mod Chars
+pub mod Numbers
 pub mod Counts
 pub mod Escapes
 pub mod Body

@@ -1,9 +1,10 @@
 -- Numbers by their names: the kinds of a literal (RULES 2.2), and what a refusal returns (RULES 11).
 use Prim.Native.Nat.{ℕ}
-use mathlib.Core.Bool.{Bool, false, _&&_, _||_}
+use mathlib.Core.Bool.{Bool, true, false, _&&_, _||_}
 use mathlib.Core.List.{List, [], _∷_}
 use lib.Dec.{leb, eqb}
 use lib.ListN.{getD}
+use Rattle.definition.specs.Chars.{if_then_else_, _is_, _to_, inside}
 
 -- Kinds: 0 String, 1 FString, 2 Bytes, 3 RawString, 4 RawFString, 5 RawBytes, 6 Unicode
 abbrev pub isFString : ℕ → Bool
@@ -182,3 +183,12 @@ ofEntry n = leb n 7 && n among refusals
 -- a refusal of a body: 10 to 28, and in the table
 abbrev pub ofBody : ℕ → Bool
 ofBody n = leb 10 n && leb n 28 && n among refusals
+
+-- A REFUSAL'S DETAILS (RULES 11), by its number: 20's first is one of five reasons; 23 has an opener and a closer, 26 a closer, 30 and 31
+-- two counts; all others have none
+abbrev pub detailed : (number a b : ℕ) → Bool
+detailed number a b =
+    if eqb number unclosedLbrace then inside (afterBang to lastBrace) a && eqb b 0 else
+    if eqb number mismatchedDelimiter then a is "([{" && b is ")]}" else
+    if eqb number unmatched then a is ")]}" && eqb b 0 else
+    if leb tooFewRecordPlaces number then true else eqb a 0 && eqb b 0

@@ -8,7 +8,7 @@ use native.Mathlib.Omega.{arith}
 use lib.Dec.{T, ltb, leb, eqb}
 use lib.ListN.{length, drop, length-append, length-take, length-replicate}
 use borrow.Author.Tests.{leb-true, leb-false}
-use Rattle.definition.specs.Numbers.{isBytes, isRaw, ofBody, unicodeError, nameNotHeld, stringError, emptyExpression, unclosedLbrace, tooManyBrackets, mismatchedDelimiter, unmatched, unterminatedString, tooFewRecordPlaces, afterBang, lastBrace}
+use Rattle.definition.specs.Numbers.{isBytes, isRaw, ofBody, detailed, unicodeError, nameNotHeld, stringError, emptyExpression, tooManyBrackets, mismatchedDelimiter, unterminatedString}
 use Rattle.definition.specs.Chars.{if_then_else_, _is_, part, noCode, atEnd, inside, _to_, code, next, char, utf8, before}
 use Rattle.definition.specs.Escapes.{Naming, Fault, fault, Read, got, refused, Meaning, stands, stays, vanishes, octalDigit, octalFrom, hexDigit, scalar, hexFrom, named, unicodeName, EscapeCase, ended, simple, octal, hex, name, newline, foreign, other, escapeCase, escape, encode, meant}
 use Rattle.definition.specs.Body.{Signs, Piece, literal, field, spec, Bracket, wrong, Move, goes, stops, calls, ends, withEscape, StringCase, stringCase, stringMove, TextCase, deep, opens, last, doubled, lone, textCase, textMove, Field, state, withEquals, withClose, isBlank, add, documented, formatted, spaced, FieldCase, pair, converts, documents, formats, opener, closes, closer, quote, space, backslash, stray, outside, fieldCase, caseOf, conversionMove, openMove, matching, closeMove, quoteMove, fieldMove, filled, finished, specified, selfDocumenting, fieldPieces, conversionOf}
@@ -16,15 +16,6 @@ use Rattle.definition.proofs.moves.CharLaws.{next-past, next-in, next-f
 use Rattle.definition.proofs.moves.Adds.{sees-char, adds-pair, closing, adds-quoted}
 use Rattle.definition.proofs.moves.Cases.{Tells, told}
 use Rattle.definition.proofs.moves.OpenBrackets.{Level, Open, Wrong, open-on, open-more, open-less, closes-wrong}
-
--- A REFUSAL'S DETAILS (RULES 11), by its number: 20's first is one of five reasons; 23 has an opener and a closer, 26 a closer, 30 and 31
--- two counts; all others have none
-abbrev pub detailed : (number a b : ℕ) → Bool
-detailed number a b =
-    if eqb number unclosedLbrace then inside (afterBang to lastBrace) a && eqb b 0 else
-    if eqb number mismatchedDelimiter then a is "([{" && b is ")]}" else
-    if eqb number unmatched then a is ")]}" && eqb b 0 else
-    if leb tooFewRecordPlaces number then true else eqb a 0 && eqb b 0
 
 -- the number is one of a body's, with its details
 abbrev pub OfBody : (number a b : ℕ) → Type 0

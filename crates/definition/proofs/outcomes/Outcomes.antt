@@ -8,14 +8,14 @@ use native.Mathlib.Omega.{arith}
 use lib.Dec.{T, ltb, leb}
 use lib.ListN.{length, drop, length-append, length-drop, length-replicate}
 use borrow.Author.Tests.{ltb-false}
-use Rattle.definition.specs.Numbers.{isBytes, emptyList, refusals, _among_, ofEntry, tooManyLiterals, badDescriptor, bodiesTooLong, notUtf8, mixedBytes}
+use Rattle.definition.specs.Numbers.{isBytes, emptyList, refusals, _among_, ofEntry, tooManyLiterals, badDescriptor, bodiesTooLong, notUtf8, mixedBytes, detailed}
 use Rattle.definition.specs.Chars.{if_then_else_}
 use Rattle.definition.specs.Escapes.{Naming, Read, got, refused}
 use Rattle.definition.specs.Body.{Piece, readBody}
 use Rattle.definition.specs.Records.{Item, Record, wordsOf, merged, texts, recordAt, laid, cover, Answer, answerOf}
 use Rattle.definition.specs.Entry.{Literal, sixes, placeOf, body, Refusal, refusal, moved, notEmpty, notMany, firstBad, bad, allGood, total, notLong, formed, illFormed, allUtf8, anyOf, firstStart, notMixed, firstOf, entry}
 use Rattle.definition.specs.Reading.{Outcome, accepts, refuses, refusalIn, readLiteral, andThen, readFrom, uMark, lastEnd, answered, read, outcomeOf, shortOf, roomFor, roomed, allWords, inFront, wordsAfter, textAfter, Call, called, readInto, readNumbers}
-use Rattle.definition.proofs.moves.Moves.{detailed, OfBody, Sound}
+use Rattle.definition.proofs.moves.Moves.{OfBody, Sound}
 use Rattle.definition.proofs.moves.Fuel.{body-reading}
 
 -- THE TABLE'S NUMBERS, in its order

@@ -11,7 +11,7 @@ use native.Mathlib.Omega.{arith}
 use lib.Dec.{T, ltb, leb, eqb, leb→le}
 use lib.ListN.{length, take}
 use borrow.Author.Tests.{lt-leb}
-use Rattle.definition.specs.Numbers.{mismatchedDelimiter, refusals, _among_, ofEntry, ofBody, tooFewRecordPlaces}
+use Rattle.definition.specs.Numbers.{mismatchedDelimiter, refusals, _among_, ofEntry, ofBody, tooFewRecordPlaces, detailed}
 use Rattle.definition.specs.Chars.{if_then_else_}
 use Rattle.definition.specs.Counts.{counted}
 use Rattle.definition.specs.Escapes.{Naming, Fault, Read, got, refused}
@@ -20,7 +20,7 @@ use Rattle.definition.specs.Records.{Item, Answer, answerOf}
 use Rattle.definition.specs.Entry.{Literal, sixes, placeOf, body, Refusal, refusal, moved, entry}
 use Rattle.definition.specs.Reading.{Outcome, accepts, refuses, allChars, openedAt, refusalIn, readLiteral, andThen, readFrom, answered, read, outcomeOf, shortOf, roomFor, roomed, called, readInto, readNumbers}
 use Rattle.definition.proofs.moves.OpenBrackets.{Wrong}
-use Rattle.definition.proofs.moves.Moves.{detailed, Names, Sound}
+use Rattle.definition.proofs.moves.Moves.{Names, Sound}
 use Rattle.definition.proofs.moves.Fuel.{body-reading}
 use Rattle.definition.proofs.outcomes.Outcomes.{OfEntry, Refusing, entry-refusing}
 

@@ -8,12 +8,12 @@ use native.Mathlib.Omega.{arith}
 use lib.Dec.{T, ltb, leb}
 use lib.ListN.{length}
 use borrow.Author.Tests.{le-ltb, leb-true}
-use Rattle.definition.specs.Numbers.{refusals, _among_, notSixes, tooFewRecordPlaces, tooLittleTextRoom}
+use Rattle.definition.specs.Numbers.{refusals, _among_, notSixes, tooFewRecordPlaces, tooLittleTextRoom, detailed}
 use Rattle.definition.specs.Escapes.{Naming}
 use Rattle.definition.specs.Records.{Answer}
 use Rattle.definition.specs.Entry.{Literal, Refusal, refusal, moved, sixes, entry}
 use Rattle.definition.specs.Reading.{Outcome, accepts, refuses, read, outcomeOf, shortOf, roomFor, roomed, Call, called, readInto, readNumbers}
-use Rattle.definition.proofs.moves.Moves.{detailed, OfBody}
+use Rattle.definition.proofs.moves.Moves.{OfBody}
 use Rattle.definition.proofs.outcomes.Outcomes.{Numbered, read-numbered}
 
 -- with any room, of what is accepted as x with some: an acceptance is x, a refusal's details are how many records and text bytes x has
