@@ -31,7 +31,7 @@ def cut(script):
 
 
 def is_cut(script, literals, ending):
-    """Whether the statements (a) to (e) of crates/definition/specs/IsCut.antt hold."""
+    """Whether the statements (a) to (e) of crates/definition_scripts/specs/IsCut.antt hold."""
     begin = 0
     for start, end in literals:
         if not (begins(script, begin, start) and closes(script, start) == (None, end)):

@@ -1,4 +1,4 @@
-"""A lent file of names: a small model of crates/definition/specs/Names.antt, and random files for it."""
+"""A lent file of names: a small model of crates/definition_names/specs/Names.antt, and random files for it."""
 
 import itertools
 import re

@@ -6,7 +6,9 @@ use mathlib.Core.Option.{none, some}
 use lib.Dec.{eqb, leb}
 use Rattle.definition.specs.Numbers.{isBytes, afterBang, afterConversion, afterEquals, inField, lastBrace}
 use Rattle.definition.specs.Chars.{if_then_else_, _is_}
+use Rattle.definition.specs.Escapes.{Fault}
 use Rattle.definition.specs.Body.{conversionOf}
+use Rattle.marks.specs.declared.Refusal.{Refusal}
 use Rattle.marks.specs.declared.Unclosed.{Unclosed}
 use Rattle.marks.specs.declared.Unclosed.the-variants.{AfterBang, AfterConversion, AfterEquals, InField, LastBrace}
 
@@ -25,3 +27,10 @@ reasonOf AfterConversion = afterConversion
 reasonOf AfterEquals = afterEquals
 reasonOf InField = inField
 reasonOf LastBrace = lastBrace
+
+-- the code's refusal of a fault, and back
+abbrev pub refusal : Fault → Refusal
+refusal x = record { number = x .number; opened = x .opened; taken = x .taken; a = x .a; b = x .b }
+
+abbrev pub faultOf : Refusal → Fault
+faultOf x = record { number = x .number; taken = x .taken; a = x .a; b = x .b; opened = x .opened }

@@ -3,10 +3,20 @@ use escapes::is_any_bytes;
 ghost use mathlib.Core.Path.{_≡_};
 ghost use mathlib.Core.Bool.{_&&_, not};
 ghost use lib.Dec.{leb};
-ghost use Rattle.definition.specs.Numbers.{isBytes, isRaw};
+ghost use Rattle.definition.specs.Numbers.{isBytes, isRaw, unclosedLbrace};
 ghost use Rattle.definition.specs.Chars.{_is_};
+ghost use Rattle.definition.specs.Escapes.{detail};
 ghost use Rattle.definition.specs.Body.{isBlank, matching, firstEnd};
-ghost use Rattle.marks.specs.Marks.{special, converted, reasonOf};
+ghost use Rattle.marks.specs.Marks.{special, converted, reasonOf, refusal};
+
+// Why a body is refused: the number, the bytes taken just after the bracket that it names and at its place, two details.
+pub struct Refusal {
+    pub number: u32,
+    pub opened: u32,
+    pub taken: usize,
+    pub a: u32,
+    pub b: u32,
+}
 
 // Why a brace counts as unclosed: the body ends right after `!`; the character after a conversion is neither `}` nor `:`, or there is none; something not allowed follows a self-documenting `=`; the body ends elsewhere inside a field; a `{` at depth 0 is the last character.
 pub enum Unclosed {
@@ -16,6 +26,8 @@ pub enum Unclosed {
     InField,
     LastBrace,
 }
+
+const UNCLOSED_LBRACE: u32 = 20;
 
 // Whether a kind is raw.
 fn is_raw(kind: u32) -> bool
@@ -155,7 +167,7 @@ pub fn conversion_of(documented: bool, conversion: u32, parts: u32) -> u32
 }
 
 // The number of a reason.
-pub fn reason(why: Unclosed) -> u32
+fn reason(why: Unclosed) -> u32
     ensures { λ r. ⌜ r ≡ reasonOf why ⌝ }
 {
     match why {
@@ -164,5 +176,18 @@ pub fn reason(why: Unclosed) -> u32
         Unclosed::AfterEquals => 3,
         Unclosed::InField => 4,
         Unclosed::LastBrace => 5,
+    }
+}
+
+// A brace that counts as unclosed, and why.
+pub fn unclosed_brace(why: Unclosed, taken: usize) -> Refusal
+    ensures { λ r. ⌜ r ≡ refusal (detail unclosedLbrace taken (reasonOf why)) ⌝ }
+{
+    Refusal {
+        number: UNCLOSED_LBRACE,
+        opened: 0,
+        taken,
+        a: reason(why),
+        b: 0,
     }
 }

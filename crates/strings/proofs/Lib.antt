@@ -1,13 +1,4 @@
-pub mod Emitted
-pub mod SinkLaws
-pub mod FieldLaws
-pub mod FieldLoop
-pub mod FstringLaws
-pub mod RowLaws
-pub mod CycleLaws
-pub mod ListLaws
-pub mod RowCalls
-pub mod TopLaws
 pub mod CallLaws
+pub mod RowCalls
 pub mod One
 pub mod NamedCalls

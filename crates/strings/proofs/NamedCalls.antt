@@ -4,18 +4,16 @@ use mathlib.Core.List.{List}
 use mathlib.Core.Option.{Option, none, some}
 use Prim.Native.Nat.{ℕ}
 use native.Mathlib.Omega.{arith}
-use lib.ListN.{length}
 use Rattle.definition.specs.Numbers.{notSixes}
 use Rattle.definition.specs.Entry.{Literal, sixes, Refusal, refusal}
 use Rattle.definition.specs.Escapes.{Naming}
 use Rattle.definition.specs.Reading.{Outcome as Found, accepts, refuses, roomed, called, readNumbers}
 use Rattle.definition_names.specs.Names.{check, searched}
-use Rattle.definition_names.specs.NamedReading.{readNamed, namedNumbers}
+use Rattle.definition_names.specs.NamedReading.{namedNumbers}
 use Rattle.definition_names.proofs.NamedShown.{check-plain, named-entered, named-wrong, named-numbers}
 use Rattle.entry.specs.Answers.{checkNumbers}
 use Rattle.entry.proofs.Checks.{refused}
 use Rattle.entry.proofs.Passed.{passed}
-use Rattle.names.specs.declared.Answer.{Answer}
 use Rattle.names.specs.declared.Answer.the-variants.{Entries, Refused}
 use Rattle.names.specs.Answers.{answerOf}
 use Rattle.strings.specs.declared.Outcome.{Outcome}

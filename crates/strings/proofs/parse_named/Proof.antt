@@ -2,9 +2,7 @@
 use borrow.Author.Needs.{needs}
 use mathlib.Core.Path.{refl, sym, _∙_, ap}
 use Rattle.definition.specs.Reading.{refuses, called}
-use Rattle.definition_names.specs.NamedReading.{namedNumbers}
 use Rattle.entry.specs.Answers.{refusalOf}
-use Rattle.strings.specs.Strings.{CallIs}
 use Rattle.strings.proofs.CallLaws.{refused-call}
 use Rattle.strings.proofs.NamedCalls.{refused-entry, wrong-names, right-names}
 use Rattle.strings.proofs.parse_named.Statement.{statement}

@@ -1,6 +1,5 @@
 -- `strings::parse_signs` meets its contract. Assumes nothing.
 use borrow.Author.Needs.{needs}
-use native.Mathlib.Omega.{arith}
 use mathlib.Core.Path.{refl}
 use mathlib.Core.List.{[]}
 use Rattle.escapes.proofs.Lent.{names-none}

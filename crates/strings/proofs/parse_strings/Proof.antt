@@ -1,12 +1,9 @@
 -- `strings::parse_strings` meets its contract. Assumes nothing.
 use borrow.Author.Needs.{needs}
-use native.Mathlib.Omega.{arith}
 use mathlib.Core.Path.{refl}
-use Rattle.definition.specs.Escapes.{heldNames}
-use Rattle.definition.specs.Reading.{readNumbers}
-use Rattle.entry.specs.Answers.{refusalOf}
-use Rattle.entry.proofs.Passed.{passed, refused-reads}
-use Rattle.strings.proofs.CallLaws.{refused-call}
+use mathlib.Core.List.{[]}
+use Rattle.escapes.proofs.Lent.{names-none}
+use Rattle.strings.proofs.CallLaws.{refused-flat, refused-call, few}
 use Rattle.strings.proofs.parse_strings.Statement.{statement}
 use Rattle.strings.proofs.parse_strings.Tie as tie
 
@@ -14,15 +11,16 @@ pub parse-strings-spec : {M : Type 1} → statement M
 parse-strings-spec =
     tie.close
     (tie.spec
-    (λ c κs. search needs)  -- check-requires
+    (λ c. search needs)  -- slice-aggregate-read-all
+    (λ c. search needs)  -- slice-aggregate-read-all-2
+    (λ c. search needs)  -- slice-aggregate-read-all-3
+    (λ c κs. search needs)  -- read-all-requires
     (λ c. search needs)  -- enum-known-r
-    (λ c κs. search needs)  -- refuse-requires
-    (λ c. search needs)  -- enum-known-chars
-    (λ c. let a = c .before .before .before .before .before .before .before .before .args in let p = passed (a .script .now) (a .numbers .now) (c .before .chars .given .0 .0) (rw (c .before .chars .given .1) at (c .before .before .before .check .ensures)) in omega (arith, p .0 .few))  -- cast-count
-    (λ c κs. let a = c .before .before .before .before .before .before .before .before .before .before .args in passed (a .script .now) (a .numbers .now) (c .before .before .before .chars .given .0 .0) (rw (c .before .before .before .chars .given .1) at (c .before .before .before .before .before .check .ensures)))  -- read-held-requires
+    (λ c. search needs)  -- enum-known-w
+    (λ c κs. few (rw (c .before .before .before .w .given .1) at (c .before .before .before .before .before .before .before .before .before .before .read-all .ensures)))  -- finish-requires
     (λ c. search needs)  -- same-length
     (λ c. search needs)  -- same-length-2
-    (λ c. let a = (c .before .before .before .before .before .before .before .before .before .before .before .before .before .before .before .args) in let x = (c .before .before .before .before .before .before .before .before .r .given .0 .0) in refused-call (a .words .now) (a .text .now) (a .words .now) (a .text .now) (c .before .before .before .before .refuse .last .0) (c .before .before .before .before .refuse .last .1 .0) x (c .before .before .before .before .refuse .result) (readNumbers heldNames (a .script .now) (a .numbers .now) (a .words .now) (a .text .now)) (refused-reads heldNames (a .script .now) (a .numbers .now) (a .words .now) (a .text .now) (refusalOf x) (rw (c .before .before .before .before .before .before .before .before .r .given .1) at (c .before .before .before .before .before .before .before .before .before .before .check .ensures))) refl refl (c .before .before .before .before .refuse .ensures))  -- returns
+    (λ c. let R = rw (names-none [] [] refl, (c .before .r .given .1)) at (c .before .before .before .before .before .before .before .before .read-all .ensures) in refused-call (c .before .before .before .before .before .before .before .before .before .before .before .before .before .before .before .before .before .before .args .words .now) (c .before .before .before .before .before .before .before .before .before .before .before .before .before .before .before .before .before .before .args .text .now) (c .before .before .before .before .before .before .before .before .before .before .before .before .before .before .before .before .before .before .args .words .now) (c .before .before .before .before .before .before .before .before .before .before .before .before .before .before .before .before .before .before .args .text .now) _ _ (c .before .r .given .0 .0) _ _ (refused-flat _ (c .before .before .before .before .before .before .before .before .before .before .before .before .before .before .before .before .before .before .args .script .now) (c .before .before .before .before .before .before .before .before .before .before .before .before .before .before .before .before .before .before .args .numbers .now) (c .before .before .before .before .before .before .before .before .before .before .before .before .before .before .before .before .before .before .args .words .now) (c .before .before .before .before .before .before .before .before .before .before .before .before .before .before .before .before .before .before .args .text .now) _ (R .reads)) refl refl (refl, R .words-are, R .text-is))  -- returns
     (λ c. search needs)  -- same-length-3
     (λ c. search needs)  -- same-length-4
-    (λ c. search needs))  -- returns-2
+    (λ c. let R = rw (names-none [] [] refl, (c .before .before .before .before .before .before .before .before .w .given .1)) at (c .before .before .before .before .before .before .before .before .before .before .before .before .before .before .before .read-all .ensures) in (c .before .before .before .before .finish .ensures) _ _ _ _ _ _ _ _ R))  -- returns-2

@@ -1,11 +1,8 @@
 -- `strings::parse_window` meets its contract. Assumes nothing.
 use borrow.Author.Needs.{needs}
-use native.Mathlib.Omega.{arith}
 use mathlib.Core.Path.{refl}
-use Rattle.entry.specs.Answers.{refusalOf}
-use Rattle.entry.proofs.Passed.{passed}
-use Rattle.strings.specs.Window.{windowNumbers}
-use Rattle.strings.proofs.RowCalls.{refused-rows, refused-window}
+use Rattle.strings.proofs.RowCalls.{refused-window, refused-rows, accepted-rows}
+use Rattle.strings.proofs.CallLaws.{few}
 use Rattle.strings.proofs.parse_window.Statement.{statement}
 use Rattle.strings.proofs.parse_window.Tie as tie
 
@@ -13,13 +10,13 @@ pub parse-window-spec : {M : Type 1} → statement M
 parse-window-spec =
     tie.close
     (tie.spec
-    (λ c κs. search needs)  -- check-requires
+    (λ c. search needs)  -- slice-aggregate-read-all
+    (λ c. search needs)  -- slice-aggregate-read-all-2
+    (λ c κs. search needs)  -- read-all-requires
     (λ c. search needs)  -- enum-known-r
-    (λ c κs. search needs)  -- refuse-rows-requires
-    (λ c. search needs)  -- enum-known-chars
-    (λ c. let a = (c .before .before .before .before .before .before .before .before .before .args) in let p = passed (a .script .now) (a .numbers .now) (c .before .chars .given .0 .0) (rw (c .before .chars .given .1) at (c .before .before .before .check .ensures)) in omega (arith, p .0 .few))  -- cast-count
-    (λ c κs. let a = (c .before .before .before .before .before .before .before .before .before .before .args) in passed (a .script .now) (a .numbers .now) (c .before .before .chars .given .0 .0) (rw (c .before .before .chars .given .1) at (c .before .before .before .before .check .ensures)))  -- read-rows-requires
-    (λ c. let l0 = (c .before .rows .given) in search needs)  -- same-length
-    (λ c. let a = (c .before .before .before .before .before .before .before .before .before .before .before .before .before .args) in let x = (c .before .before .before .before .before .r .given .0 .0) in refused-rows (a .rows .now) (a .rows .now) _ x _ (windowNumbers _ (a .within) (a .skip) (a .script .now) (a .numbers .now) (a .rows .now)) (refused-window _ (a .script .now) (a .numbers .now) (a .within) (a .skip) (a .rows .now) (refusalOf x) (rw (c .before .before .before .before .before .r .given .1) at (c .before .before .before .before .before .before .before .check .ensures))) refl (c .before .before .refuse-rows .ensures))  -- returns
-    (λ c. let l0 = (c .before .rows2 .given) in search needs)  -- same-length-2
-    (λ c. search needs))  -- returns-2
+    (λ c. search needs)  -- enum-known-w
+    (λ c κs. few (rw (c .before .w .given .1) at (c .before .before .before .before .before .before .before .read-all .ensures)))  -- answer-of-requires
+    (λ c. search needs)  -- same-length
+    (λ c. let R = rw (c .before .r .given .1) at (c .before .before .before .before .before .before .before .read-all .ensures) in refused-rows (c .before .before .before .before .before .before .before .before .before .before .before .before .before .before .before .before .args .rows .now) (c .before .before .before .before .before .before .before .before .before .before .before .before .before .before .before .before .args .rows .now) _ (c .before .r .given .0 .0) _ _ (refused-window _ (c .before .before .before .before .before .before .before .before .before .before .before .before .before .before .before .before .args .script .now) (c .before .before .before .before .before .before .before .before .before .before .before .before .before .before .before .before .args .numbers .now) (c .before .before .before .before .before .before .before .before .before .before .before .before .before .before .before .before .args .within) (c .before .before .before .before .before .before .before .before .before .before .before .before .before .before .before .before .args .skip) (c .before .before .before .before .before .before .before .before .before .before .before .before .before .before .before .before .args .rows .now) _ (R .reads)) refl (refl, R .rows-are))  -- returns
+    (λ c. search needs)  -- same-length-2
+    (λ c. let R = rw (c .before .before .w .given .1) at (c .before .before .before .before .before .before .before .before .read-all .ensures) in rw (c .answer-of .ensures) (accepted-rows _ (c .before .before .before .before .before .before .before .before .before .before .before .before .before .before .before .before .before .args .script .now) (c .before .before .before .before .before .before .before .before .before .before .before .before .before .before .before .before .before .args .numbers .now) R)))  -- returns-2

@@ -1,0 +1,12 @@
+pub mod Emitted
+pub mod SinkLaws
+pub mod RecordLaws
+pub mod FieldLaws
+pub mod FieldLoop
+pub mod FstringLaws
+pub mod RowLaws
+pub mod CycleLaws
+pub mod ListLaws
+pub mod RowCalls
+pub mod TopLaws
+pub mod CallLaws

@@ -1,0 +1,45 @@
+-- `bodies::field::pass` meets its contract. Assumes nothing.
+use borrow.Author.Needs.{needs}
+use borrow.Author.Tests.{eq-eqb, ne-eqb, le-ltb}
+use native.Mathlib.Omega.{arith}
+use mathlib.Core.Path.{refl, _∙_}
+use mathlib.Core.List.{List}
+use Prim.Native.Nat.{ℕ, _≤_}
+use lib.ListN.{length}
+use Rattle.bodies.specs.declared.field.State.{State}
+use Rattle.bodies.specs.FieldTurns.{Passed}
+use Rattle.bodies.proofs.FieldLaws.{and-false, and-true}
+use Rattle.bodies.proofs.field.pass.Statement.{statement}
+use Rattle.bodies.proofs.field.pass.Tie as tie
+
+-- over nothing
+nothing : (s : List ℕ) (f : State) → f .at ≤ length s → Passed s f f
+nothing s f h =
+    record {
+      end = f .at;
+      on = omega arith;
+      within = h;
+      all = λ k a b. absurd (omega arith);
+      undocumented = λ a. absurd (omega arith);
+      is = rw (eq-eqb (f .at) (f .at) refl, and-true (f .blank));
+    }
+
+pub pass-spec : {M : Type 1} → statement M
+pass-spec =
+    tie.close
+    (tie.spec
+    (λ c. nothing _ _ (c .before .before .before .pre))  -- returns
+    (λ c κs. search needs)  -- passing-end-requires
+    (λ c. nothing _ _ (c .before .before .before .before .before .before .pre))  -- returns-2
+    (λ c κs. search needs)  -- kept-requires
+    (λ c.
+    let f = (c .before .before .before .before .before .before .before .args .f) in
+    let e = (c .before .before .before .passing-end .ensures) in
+    record {
+      end = (c .before .before .before .passing-end .result);
+      on = e .0;
+      within = e .1;
+      all = e .2;
+      undocumented = λ _. le-ltb _ _ (c .before .before .before .before .if1 .left);
+      is = (c .kept .ensures) ∙ rw (ne-eqb _ (f .at) (c .before .if2 .left), and-false (f .blank));
+    }))  -- returns-3

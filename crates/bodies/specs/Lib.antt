@@ -1,0 +1,6 @@
+pub mod Emit
+pub mod Sinks
+pub mod FieldTurns
+pub mod Rows
+pub mod Fstring
+pub mod Lists

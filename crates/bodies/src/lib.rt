@@ -1,0 +1,347 @@
+// Bodies of literals read to records, one text and rows: the first refusal, or all in order.
+mod field;
+mod fstring;
+
+use entry::Checked;
+use entry::Class;
+use entry::Descriptor;
+use fstring::Read;
+use fstring::parse_fstring;
+use marks::Refusal;
+use records::Frame;
+use records::Sink;
+use records::Whole;
+use records::Window;
+use records::close_held;
+use records::literal;
+use texts::Text;
+use texts::parse_string;
+use utf8::Cursor;
+ghost use mathlib.Core.Path.{_≡_};
+ghost use mathlib.Core.Option.{none};
+ghost use Prim.Native.Nat.{_<_, _≤_};
+ghost use Rattle.definition.specs.Numbers.{isBytes, isUnicode};
+ghost use Rattle.definition.specs.Chars.{if_then_else_};
+ghost use Rattle.definition.specs.Entry.{placeOf, body, notMixed};
+ghost use Rattle.definition.specs.Body.{readBody};
+ghost use Rattle.definition.specs.Reading.{allChars, openedAt, zeros};
+ghost use Rattle.escapes.specs.Answers.{namesBy};
+ghost use Rattle.entry.specs.Answers.{described, refusalOf};
+ghost use Rattle.entry.specs.Literals.{literals};
+ghost use Rattle.entry.proofs.Passed.{Passed};
+ghost use Rattle.marks.specs.Marks.{faultOf};
+ghost use Rattle.bodies.specs.declared.Reading.the-variants.{Refused};
+ghost use Rattle.bodies.specs.Sinks.{wholeOf};
+ghost use Rattle.bodies.specs.Fstring.{Room as BodyRoom, ReadIs, SignedIs};
+ghost use Rattle.bodies.specs.Lists.{wholeFor, Room, Stands, First, refusedAt, frameOf, ListIs, RowsAre, ReadingIs};
+
+// A list that was checked, read and written: what its top-level records carry, and how many records, text bytes, fields and characters it has.
+pub struct Written {
+    pub kind: u32,
+    pub mark: u32,
+    pub start: u32,
+    pub end: u32,
+    pub records: u32,
+    pub text: u32,
+    pub fields: u32,
+    pub chars: u32,
+}
+
+pub enum Reading {
+    Done(Written),
+    Refused(entry::Refusal),
+}
+
+// A list that was read and written, with the count of its fields; or the first refusal.
+pub(crate) enum Listed {
+    Done(Sink, usize),
+    Refused(entry::Refusal),
+}
+
+pub(crate) const EMPTY_EXPRESSION: u32 = 22;
+
+pub(crate) const MISMATCHED_DELIMITER: u32 = 23;
+
+// A literal's body, read and written.
+fn read_body(
+    s: &[u8],
+    fr: Frame,
+    words: &mut [u32],
+    text: &mut [u8],
+    rows: &mut [u32],
+    k: Sink,
+    fields: usize,
+    file: &[u8],
+    index: &[u32],
+) -> Read
+    requires { ⌜ BodyRoom (now s) 0 fr k ⌝ }
+    requires { ⌜ fields ≤ k .count ⌝ }
+    ensures { λ r. ⌜ ReadIs (readBody (namesBy (now (file .entry)) (now (index .entry))) (fr .kind) (now (s .entry))) fr 0 (now (words .entry)) (now (text .entry)) (now (words .exit)) (now (text .exit)) k r × SignedIs r (readBody (namesBy (now (file .entry)) (now (index .entry))) (fr .kind) (now (s .entry))) fr (now (rows .entry)) (now (rows .exit)) fields ⌝ }
+{
+    if entry::is_of(Class::FStrings, fr.kind) {
+        return parse_fstring(
+            s,
+            Cursor { at: 0 },
+            0,
+            fr,
+            words,
+            text,
+            rows,
+            k,
+            fields,
+            file,
+            index,
+        );
+    }
+    match parse_string(s, fr.kind, text, k.used, file, index) {
+        Text::Refused(r) => Read::Refused(r),
+        Text::Done(used) => {
+            Read::Done(
+                Cursor { at: s.len() },
+                literal(words, fr, k, used, 0),
+                fields,
+            )
+        }
+    }
+}
+
+// A literal of the script, read and written.
+fn read_literal(
+    script: &[u8],
+    l: Descriptor,
+    whole: Whole,
+    words: &mut [u32],
+    text: &mut [u8],
+    rows: &mut [u32],
+    k: Sink,
+    fields: usize,
+    window: Window,
+    file: &[u8],
+    index: &[u32],
+) -> Read
+    requires { ⌜ Room (now script) l k ⌝ }
+    requires { ⌜ fields ≤ k .count ⌝ }
+    ensures { λ r. ⌜ ReadIs (readBody (namesBy (now (file .entry)) (now (index .entry))) (l .kind) (body (now (script .entry)) (described l))) (frameOf l whole window) 0 (now (words .entry)) (now (text .entry)) (now (words .exit)) (now (text .exit)) k r × SignedIs r (readBody (namesBy (now (file .entry)) (now (index .entry))) (l .kind) (body (now (script .entry)) (described l))) (frameOf l whole window) (now (rows .entry)) (now (rows .exit)) fields ⌝ }
+{
+    let from = l.offset as usize;
+    let to = from + l.size as usize;
+    let base = l.start + entry::opening(l);
+    let fr = Frame {
+        kind: l.kind,
+        start: l.start,
+        end: l.end,
+        base,
+        whole,
+        window,
+    };
+    read_body(
+        &script[from..to],
+        fr,
+        words,
+        text,
+        rows,
+        k,
+        fields,
+        file,
+        index,
+    )
+}
+
+// The place just after the bracket that a body's refusal names; 0 if it names none.
+fn opened_at(l: Descriptor, x: Refusal) -> u32
+    requires { ⌜ placeOf (described l) (x .opened) < 4294967296 ⌝ }
+    ensures { λ r. ⌜ r ≡ openedAt (described l) (faultOf x) ⌝ }
+{
+    if x.number == MISMATCHED_DELIMITER {
+        return entry::place(l, x.opened) as u32;
+    }
+    0
+}
+
+// How many characters the first literals have, which passed the checks.
+fn chars_before(script: &[u8], numbers: &[u32], count: u32) -> u32
+    requires { ⌜ First (now script) (now numbers) count ⌝ }
+    ensures { λ r. ⌜ r ≡ allChars (now (script .entry)) (literals (now (numbers .entry)) 0 count) ⌝ }
+{
+    let mut chars: u32 = 0;
+    let mut i: u32 = 0;
+    while i < count {
+        let l = entry::literal_at(numbers, i);
+        let from = l.offset as usize;
+        let to = from + l.size as usize;
+        chars += utf8::heads(&script[from..to]) as u32;
+        i += 1;
+    }
+    chars
+}
+
+// The refusal of a body, number i of the list: its place, line and column, the place of its bracket, and the characters before.
+fn refusal_in(script: &[u8], numbers: &[u32], i: u32, l: Descriptor, x: Refusal) -> entry::Refusal
+    requires { ⌜ Stands (now script) l (x .taken) (x .opened) × First (now script) (now numbers) i ⌝ }
+    ensures { λ r. ⌜ refusalOf r ≡ refusedAt (now (script .entry)) (now (numbers .entry)) i (described l) (faultOf x) ⌝ }
+{
+    let from = l.offset as usize;
+    let to = from + l.size as usize;
+    let k = utf8::count_before(&script[from..to], x.taken);
+    entry::Refusal {
+        number: x.number,
+        literal: i,
+        place: entry::place(l, x.taken as u32) as u32,
+        a: x.a,
+        b: x.b,
+        opened: opened_at(l, x),
+        line: k.line as u32,
+        column: k.column as u32,
+        chars: chars_before(script, numbers, i) + k.chars as u32,
+    }
+}
+
+// All literals in order, read and written: the first refusal ends it.
+fn read_list(
+    script: &[u8],
+    numbers: &[u32],
+    count: u32,
+    whole: Whole,
+    words: &mut [u32],
+    text: &mut [u8],
+    rows: &mut [u32],
+    window: Window,
+    file: &[u8],
+    index: &[u32],
+) -> Listed
+    requires { ⌜ Passed (now script) (now numbers) count ⌝ }
+    ensures { λ r. ⌜ ListIs (namesBy (now (file .entry)) (now (index .entry))) (now (script .entry)) (literals (now (numbers .entry)) 0 count) (wholeOf whole) (now (words .entry)) (now (text .entry)) (now (words .exit)) (now (text .exit)) r × RowsAre (namesBy (now (file .entry)) (now (index .entry))) window (now (script .entry)) (literals (now (numbers .entry)) 0 count) (now (rows .entry)) (now (rows .exit)) r ⌝ }
+{
+    let mut sink = Sink {
+        count: 0,
+        used: 0,
+        held: 0,
+        from: 0,
+        parts: 0,
+    };
+    let mut fields = 0;
+    let mut i: u32 = 0;
+    while i < count {
+        let l = entry::literal_at(numbers, i);
+        match read_literal(
+            script,
+            l,
+            whole,
+            words,
+            text,
+            rows,
+            sink,
+            fields,
+            window,
+            file,
+            index,
+        ) {
+            Read::Refused(x) => {
+                return Listed::Refused(refusal_in(script, numbers, i, l, x));
+            }
+            Read::Done(_, next, n) => {
+                sink = next;
+                fields = n;
+            }
+        }
+        i += 1;
+    }
+    Listed::Done(sink, fields)
+}
+
+// The kind of a top-level record, by the first literal's: 4 in bytes, else 1.
+fn kind_of(kind: u32) -> u32
+    ensures { λ r. ⌜ r ≡ (if isBytes kind then 4 else 1) ⌝ }
+{
+    if entry::is_of(Class::Bytes, kind) {
+        return 4;
+    }
+    1
+}
+
+// The u mark of a first kind.
+fn u_mark(kind: u32) -> u32
+    ensures { λ r. ⌜ r ≡ (if isUnicode kind then 1 else 0) ⌝ }
+{
+    if kind == 6 {
+        return 1;
+    }
+    0
+}
+
+// What every top-level record of the literals carries.
+fn whole_of(numbers: &[u32], count: u32) -> Whole
+    requires { ⌜ (0 < count) × (notMixed (literals (now numbers) 0 count) ≡ none) ⌝ }
+    ensures { λ r. ⌜ wholeOf r ≡ wholeFor (literals (now (numbers .entry)) 0 count) ⌝ }
+{
+    let first = entry::literal_at(numbers, 0);
+    let last = entry::literal_at(numbers, count - 1);
+    Whole {
+        kind: kind_of(first.kind),
+        start: first.start,
+        end: last.end,
+        mark: u_mark(first.kind),
+    }
+}
+
+// A refusal: all three buffers are filled with zeros.
+fn refuse(words: &mut [u32], text: &mut [u8], rows: &mut [u32], r: entry::Refusal) -> Reading
+    ensures { λ x. ⌜ (x ≡ Refused r) × (now (words .exit) ≡ zeros (now (words .entry))) × (now (text .exit) ≡ zeros (now (text .entry))) × (now (rows .exit) ≡ zeros (now (rows .entry))) ⌝ }
+{
+    buffers::fill_words(words, 0);
+    buffers::fill(text, 0);
+    buffers::fill_words(rows, 0);
+    Reading::Refused(r)
+}
+
+// Reads the literals whose numbers are listed, six for each, with the names of a lent file, or where that is empty the held ones: their records, their text, and the
+// rows of their fields from number `skip` on, each with `within` as its last number, are written as far as there is room.
+pub fn read_all(
+    script: &[u8],
+    numbers: &[u32],
+    within: u32,
+    skip: u32,
+    words: &mut [u32],
+    text: &mut [u8],
+    rows: &mut [u32],
+    file: &[u8],
+    index: &[u32],
+) -> Reading
+    ensures { λ r. ⌜ ReadingIs (namesBy (now (file .entry)) (now (index .entry))) within skip (now (script .entry)) (now (numbers .entry)) (now (words .entry)) (now (text .entry)) (now (rows .entry)) (now (words .exit)) (now (text .exit)) (now (rows .exit)) r ⌝ }
+{
+    match entry::check(script, numbers) {
+        Checked::Refused(r) => refuse(words, text, rows, r),
+        Checked::Passed(chars) => {
+            let count = (numbers.len() / 6) as u32;
+            let whole = whole_of(numbers, count);
+            let window = Window { within, skip };
+            match read_list(
+                script,
+                numbers,
+                count,
+                whole,
+                words,
+                text,
+                rows,
+                window,
+                file,
+                index,
+            ) {
+                Listed::Refused(r) => refuse(words, text, rows, r),
+                Listed::Done(sink, fields) => {
+                    let k = close_held(words, whole, sink);
+                    Reading::Done(Written {
+                        kind: whole.kind,
+                        mark: whole.mark,
+                        start: whole.start,
+                        end: whole.end,
+                        records: k.count as u32,
+                        text: k.used as u32,
+                        fields: fields as u32,
+                        chars,
+                    })
+                }
+            }
+        }
+    }
+}

@@ -1,0 +1,95 @@
+-- `plain::is_plain` meets its contract. Assumes nothing.
+use borrow.Author.Needs.{needs}
+use borrow.Author.Tests.{not-true, ltb-true, ltb-false, ne-eqb, lt-leb, leb-false}
+use native.Mathlib.Omega.{arith}
+use mathlib.Core.Path.{_≡_, refl, sym, _∙_, subst}
+use mathlib.Core.Bool.{Bool, true, false, _&&_, not, false≢true}
+use Prim.Native.Nat.{ℕ, _+_, _-_, _≤_, _<_}
+use mathlib.Core.List.{List}
+use lib.Dec.{ltb, leb}
+use Rattle.definition.specs.Numbers.{isBytes}
+use Rattle.definition.specs.Chars.{byte}
+use Rattle.definition.proofs.moves.CharLaws.{cases, byte-is}
+use Rattle.marks.specs.Marks.{special}
+use Rattle.plain.proofs.is_plain.Statement.{statement}
+use Rattle.plain.proofs.is_plain.Tie as tie
+
+-- what the marks tell of a byte that was seen
+record Marked (b most left right backslash : ℕ) : Type 0 where
+  below : b ≤ most
+  lefts : b ≡ 123 → 1 ≤ left
+  rights : b ≡ 125 → 1 ≤ right
+  backslashes : b ≡ 92 → 1 ≤ backslash
+
+-- of all bytes from i up to j
+abbrev Seen : List ℕ → ℕ → ℕ → ℕ → ℕ → ℕ → ℕ → Type 0
+Seen s i j most left right backslash = (k : ℕ) → i ≤ k → k < j → Marked (byte s k) most left right backslash
+
+one-more : (s : List ℕ) (i j m l r b m′ l′ r′ b′ : ℕ) → m ≤ m′ → l ≤ l′ → r ≤ r′ → b ≤ b′ → Marked (byte s j) m′ l′ r′ b′ → Seen s i j m l r b → Seen s i (j + 1) m′ l′ r′ b′
+one-more s i j m l r b m′ l′ r′ b′ m≤ l≤ r≤ b≤ new p k a c =
+    cases (ltb k j)
+    (λ t.
+    let q = p k a (ltb-true k j t) in
+    record { below = omega (arith, q .below); lefts = λ e. omega (arith, q .lefts e); rights = λ e. omega (arith, q .rights e); backslashes = λ e. omega (arith, q .backslashes e) })
+    (λ t. let e : j ≡ k = omega (arith, ltb-false k j t) in subst (λ (n : ℕ). Marked (byte s n) m′ l′ r′ b′) e new)
+
+-- no mark was set, and the greatest byte may stand there
+not-special : (kind b m : ℕ) → Marked b m 0 0 0 → (isBytes kind && leb 0x80 m) ≡ false → special kind b ≡ false
+not-special kind b m p f =
+    rw (ne-eqb b 123 (λ e. omega (arith, p .lefts e)), ne-eqb b 125 (λ e. omega (arith, p .rights e)), ne-eqb b 92 (λ e. omega (arith, p .backslashes e)))
+    (cases (isBytes kind) (λ t. let q = leb-false 0x80 m (rw t at f) in rw (t, lt-leb 0x80 b (omega (arith, p .below)))) (λ t. rw t))
+
+abbrev Inv-loop : tie.InvT-loop
+Inv-loop s from to kind most₀ left₀ right₀ backslash₀ i₀ most left right backslash i = Seen s from i most left right backslash
+
+abbrev μ-loop : tie.MeasureT-loop
+μ-loop s from to kind most₀ left₀ right₀ backslash₀ i₀ most left right backslash i = to - i
+
+pub is-plain-spec : {M : Type 1} → statement M
+is-plain-spec =
+    tie.close
+    (tie.spec
+    Inv-loop
+    μ-loop
+    (λ c k h l. absurd (omega arith))  -- loop-holds
+    (λ c. search needs)  -- shared-slice-read-b
+    (λ c κs. search needs)  -- greater-requires
+    (λ c κs. search needs)  -- is-byte-requires
+    (λ c κs. search needs)  -- greater-requires-2
+    (λ c κs. search needs)  -- is-byte-requires-2
+    (λ c κs. search needs)  -- greater-requires-3
+    (λ c κs. search needs)  -- is-byte-requires-3
+    (λ c κs. search needs)  -- greater-requires-4
+    (λ c. search needs)  -- add-i
+    (λ c. search needs)  -- loop-less
+    (λ c.
+    let a = c .before .before .before .before .before .before .before .before .before .before .before .args in
+    let l = c .before .before .before .before .before .before .before .before .before .loop in
+    let m = c .before .before .before .before .before .before .greater .ensures in
+    let x = c .before .before .before .before .greater2 .ensures in
+    let y = c .before .before .greater3 .ensures in
+    let z = c .greater4 .ensures in
+    let b = byte-is (a .s .now) (l .i) (omega (arith, c .before .before .before .before .before .before .before .before .loop-test .taken, c .before .before .before .before .before .before .before .before .before .before .before .pre)) in
+    one-more (a .s .now) (a .from) (l .i) _ _ _ _ _ _ _ _ (omega (arith, m)) (omega (arith, x)) (omega (arith, y)) (omega (arith, z))
+    (record {
+      below = omega (arith, m, b);
+      lefts = λ e. omega (arith, x, c .before .before .before .before .before .is-byte .ensures (b ∙ e));
+      rights = λ e. omega (arith, y, c .before .before .before .is-byte2 .ensures (b ∙ e));
+      backslashes = λ e. omega (arith, z, c .before .is-byte3 .ensures (b ∙ e));
+    })
+    (l .inv))  -- loop-again
+    (λ c κs. search needs)  -- greater-requires-5
+    (λ c κs. search needs)  -- greater-requires-6
+    (λ c e. absurd (false≢true e))  -- returns
+    (λ c κs. search needs)  -- wide-requires
+    (λ c κs. search needs)  -- is-foreign-requires
+    (λ c e k h l.
+    let a = c .before .before .before .before .before .before .before .before .args in
+    let v = c .before .before .before .before .before .before .loop in
+    let t = c .before .before .if1 .left in
+    let g = c .before .before .before .greater6 .ensures in
+    let f = c .before .before .before .before .greater5 .ensures in
+    let p = v .inv k h (omega (arith, c .before .before .before .before .before .loop-test .left)) in
+    not-special (a .kind) (byte (a .s .now) k) (v .most)
+    (record { below = p .below; lefts = λ q. omega (arith, p .lefts q, t, g, f); rights = λ q. omega (arith, p .rights q, t, g, f); backslashes = λ q. omega (arith, p .backslashes q, t, g, f) })
+    (rw (c .before .wide .ensures) at (sym (c .is-foreign .ensures) ∙ not-true _ e))))  -- returns-2

@@ -1,0 +1,19 @@
+-- `records::end_text` meets its contract. Assumes nothing.
+use borrow.Author.Needs.{needs}
+use mathlib.Core.Path.{ap}
+use borrow.Author.Tests.{eq-eqb, ne-eqb}
+use Rattle.records.specs.Written.{ended, literal, written}
+use Rattle.records.proofs.end_text.Statement.{statement}
+use Rattle.records.proofs.end_text.Tie as tie
+
+pub end-text-spec : {M : Type 1} → statement M
+unfolding ended literal
+end-text-spec =
+    tie.close
+    (tie.spec
+    (λ c. rw (eq-eqb _ _ (c .if1 .taken)))  -- returns
+    (λ c κs. search needs)  -- hold-requires
+    (λ c. rw (ne-eqb _ _ (c .before .before .if1 .left), eq-eqb _ _ (c .before .if2 .taken)) (ap (written _) (c .hold .ensures)))  -- returns-2
+    (λ c κs. search needs)  -- literal-requires
+    (λ c. search needs)  -- same-length
+    (λ c. rw (ne-eqb _ _ (c .before .before .before .before .before .if1 .left)) (c .before .before .literal .ensures)))  -- returns-3

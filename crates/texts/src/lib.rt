@@ -1,0 +1,384 @@
+// The text of a body: strings, bytes, and what stands between an f-string's fields.
+use escapes::Escaped;
+use escapes::is_any_bytes;
+use marks::Refusal;
+use marks::Unclosed;
+use marks::is_escape;
+use marks::is_foreign;
+use marks::unclosed_brace;
+use plain::is_plain_at;
+use plain::plain_end;
+use utf8::Cursor;
+use utf8::Step;
+ghost use mathlib.Core.Path.{_≡_};
+ghost use mathlib.Core.Bool.{_&&_, not};
+ghost use mathlib.Core.List.{[]};
+ghost use Prim.Native.Nat.{ℕ, _+_, _≤_, _<_, _^_};
+ghost use lib.ListN.{length};
+ghost use Rattle.definition.specs.Numbers.{isRaw};
+ghost use Rattle.definition.specs.Chars.{_is_, part, code};
+ghost use Rattle.definition.specs.Escapes.{Naming, fault, encode, escape};
+ghost use Rattle.definition.specs.Body.{goes, withEscape, stringMove, stringN, textMove, enough};
+ghost use Rattle.escapes.specs.Answers.{namesBy};
+ghost use Rattle.marks.specs.Marks.{refusal};
+ghost use Rattle.buffers.specs.Over.{over};
+ghost use Rattle.texts.specs.Text.{Room, Taken, PlainIs, Does, StringBy, StringIs, RunBy, RunIs};
+
+const LARGEST_BODY: usize = 1048576;
+
+const LARGEST_TEXT: usize = 4294967296;
+
+const BODIES_TOO_LONG: u32 = 5;
+
+const NON_ASCII_IN_BYTES: u32 = 12;
+
+const EXPRESSION_NESTED_TOO_DEEPLY: u32 = 24;
+
+const SINGLE_RBRACE: u32 = 25;
+
+// A string's or bytes' used length, or why it is refused.
+pub enum Text {
+    Done(usize),
+    Refused(Refusal),
+}
+
+// What stops a run of text, with the used length: a field, with the cursor after its `{`; the text's end, with the cursor there. Or why it is refused.
+pub enum Run {
+    Field(Cursor, usize),
+    Over(Cursor, usize),
+    Refused(Refusal),
+}
+
+// What a character does: it goes into the text, with the cursor after it and the used length; it opens a field, with the cursor after it; it ends the text. Or it is refused.
+enum Piece {
+    On(Cursor, usize),
+    Field(Cursor),
+    Over,
+    Refused(Refusal),
+}
+
+// A place in a body, and the used length of the text up to it.
+struct Reached {
+    cursor: Cursor,
+    used: usize,
+}
+
+// A refusal without details.
+fn refused_at(number: u32, taken: usize) -> Refusal
+    ensures { λ r. ⌜ r ≡ refusal (fault number taken) ⌝ }
+{
+    Refusal {
+        number,
+        opened: 0,
+        taken,
+        a: 0,
+        b: 0,
+    }
+}
+
+fn refuse(number: u32, taken: usize) -> Piece
+    ensures { λ r. ⌜ r ≡ Piece.Refused (refusal (fault number taken)) ⌝ }
+{
+    Piece::Refused(refused_at(number, taken))
+}
+
+// Writes the bytes of a body from `from` up to `to` at the used length, and gives the new one.
+fn add_part(s: &[u8], from: usize, to: usize, text: &mut [u8], used: usize) -> usize
+    requires { ⌜ (from ≤ to) × (to ≤ length (now s)) × Room (now s) used ⌝ }
+    ensures { λ r. ⌜ (r ≡ used + length (part (now (s .entry)) from to)) × (now (text .exit) ≡ over (now (text .entry)) used (part (now (s .entry)) from to)) ⌝ }
+{
+    buffers::add_run(text, used, &s[from..to]);
+    used + (to - from)
+}
+
+// The bytes of a body from a cursor up to another go into the text, and reading goes on at `next`.
+fn take(s: &[u8], from: Cursor, to: Cursor, next: Cursor, text: &mut [u8], used: usize) -> Piece
+    requires { ⌜ (from .at ≤ to .at) × (to .at ≤ length (now s)) × Room (now s) used ⌝ }
+    ensures { λ r. ⌜ Does (goes (next .at) (part (now (s .entry)) (from .at) (to .at))) (now (s .entry)) (from .at) used (now (text .entry)) (now (text .exit)) r ⌝ }
+{
+    let length = add_part(s, from.at, to.at, text, used);
+    Piece::On(next, length)
+}
+
+// Writes the text of a code at the used length, and gives the new one; in bytes, its low eight bits.
+fn add_code(text: &mut [u8], used: usize, code: u32, kind: u32) -> usize
+    requires { ⌜ used ≤ 2 ^ 33 ⌝ }
+    ensures { λ r. ⌜ (r ≡ used + length (encode kind code)) × (now (text .exit) ≡ over (now (text .entry)) used (encode kind code)) ⌝ }
+{
+    if is_any_bytes(kind) {
+        buffers::put(text, used, (code % 256) as u8);
+        return used + 1;
+    }
+    let n = buffers::add_char(text, used, code);
+    used + n
+}
+
+// The escape of the backslash at `from`, which was just taken.
+fn escape_text(
+    s: &[u8],
+    from: Cursor,
+    after: Cursor,
+    kind: u32,
+    text: &mut [u8],
+    used: usize,
+    file: &[u8],
+    index: &[u32],
+) -> Piece
+    requires { ⌜ Taken (now s) (from .at) (after .at) × Room (now s) used ⌝ }
+    ensures { λ r. ⌜ Does (withEscape kind (now (s .entry)) (from .at) [] (escape (namesBy (now (file .entry)) (now (index .entry))) kind (now (s .entry)) (after .at))) (now (s .entry)) (from .at) used (now (text .entry)) (now (text .exit)) r ⌝ }
+{
+    let escaped = escapes::parse_escaped_char(s, after, kind, file, index);
+    match escaped {
+        Escaped::Code(code, to) => {
+            let length = add_code(text, used, code, kind);
+            Piece::On(to, length)
+        }
+        Escaped::Kept(to) => take(s, from, to, to, text, used),
+        Escaped::Gone(to) => Piece::On(to, used),
+        Escaped::Refused(r) => refuse(r.number, r.at),
+    }
+}
+
+// The character of a string or bytes at a cursor.
+fn string_piece(
+    s: &[u8],
+    from: Cursor,
+    kind: u32,
+    text: &mut [u8],
+    used: usize,
+    file: &[u8],
+    index: &[u32],
+) -> Piece
+    requires { ⌜ Room (now s) used ⌝ }
+    ensures { λ r. ⌜ Does (stringMove (namesBy (now (file .entry)) (now (index .entry))) kind (now (s .entry)) (from .at) []) (now (s .entry)) (from .at) used (now (text .entry)) (now (text .exit)) r ⌝ }
+{
+    let Step::Char(c, after) = from.next_char(s) else {
+        return Piece::Over;
+    };
+    if is_escape(c, kind) {
+        return escape_text(s, from, after, kind, text, used, file, index);
+    }
+    if is_foreign(c, kind) {
+        return refuse(NON_ASCII_IN_BYTES, after.at);
+    }
+    take(s, from, after, after, text, used)
+}
+
+// At a `{`: doubled it is one, at depth 0; as the last character it is refused there; else a field opens.
+fn left_brace(
+    s: &[u8],
+    from: Cursor,
+    after: Cursor,
+    nested: usize,
+    text: &mut [u8],
+    used: usize,
+) -> Piece
+    requires { ⌜ Taken (now s) (from .at) (after .at) × (code (now s) (from .at) ≡ 123) × (nested < 2) × Room (now s) used ⌝ }
+    ensures { λ r. ⌜ ((look : Naming) (kind : ℕ) → Does (textMove look kind (now (s .entry)) nested (from .at) []) (now (s .entry)) (from .at) used (now (text .entry)) (now (text .exit)) r) ⌝ }
+{
+    if nested != 0 {
+        return Piece::Field(after);
+    }
+    let Step::Char(c, past) = after.next_char(s) else {
+        return Piece::Refused(unclosed_brace(Unclosed::LastBrace, after.at));
+    };
+    if c != 0x7B {
+        return Piece::Field(after);
+    }
+    take(s, from, after, past, text, used)
+}
+
+// At a `}`: it ends the text at depth 1; doubled it is one; else it is refused.
+fn right_brace(
+    s: &[u8],
+    from: Cursor,
+    after: Cursor,
+    nested: usize,
+    text: &mut [u8],
+    used: usize,
+) -> Piece
+    requires { ⌜ Taken (now s) (from .at) (after .at) × (code (now s) (from .at) ≡ 125) × (nested < 2) × Room (now s) used ⌝ }
+    ensures { λ r. ⌜ ((look : Naming) (kind : ℕ) → Does (textMove look kind (now (s .entry)) nested (from .at) []) (now (s .entry)) (from .at) used (now (text .entry)) (now (text .exit)) r) ⌝ }
+{
+    if nested != 0 {
+        return Piece::Over;
+    }
+    let Step::Char(c, past) = after.next_char(s) else {
+        return refuse(SINGLE_RBRACE, after.at);
+    };
+    if c != 0x7D {
+        return refuse(SINGLE_RBRACE, after.at);
+    }
+    take(s, from, after, past, text, used)
+}
+
+// Whether a character of f-string text begins an escape: a backslash does, but not in a raw one, nor before a brace.
+fn begins_escape(s: &[u8], c: u32, after: Cursor, kind: u32) -> bool
+    ensures { λ r. ⌜ r ≡ (c is "\\" && not (isRaw kind) && not (code (now (s .entry)) (after .at) is "{}")) ⌝ }
+{
+    if is_escape(c, kind) {
+        match after.peek(s) {
+            0x7B => false,
+            0x7D => false,
+            _ => true,
+        }
+    } else {
+        false
+    }
+}
+
+// The character of f-string text at a cursor.
+fn text_piece(
+    s: &[u8],
+    from: Cursor,
+    nested: usize,
+    kind: u32,
+    text: &mut [u8],
+    used: usize,
+    file: &[u8],
+    index: &[u32],
+) -> Piece
+    requires { ⌜ (nested < 2) × Room (now s) used ⌝ }
+    ensures { λ r. ⌜ Does (textMove (namesBy (now (file .entry)) (now (index .entry))) kind (now (s .entry)) nested (from .at) []) (now (s .entry)) (from .at) used (now (text .entry)) (now (text .exit)) r ⌝ }
+{
+    let Step::Char(c, after) = from.next_char(s) else {
+        return Piece::Over;
+    };
+    if c == 0x7B {
+        return left_brace(s, from, after, nested, text, used);
+    }
+    if c == 0x7D {
+        return right_brace(s, from, after, nested, text, used);
+    }
+    if begins_escape(s, c, after, kind) {
+        return escape_text(s, from, after, kind, text, used, file, index);
+    }
+    take(s, from, after, after, text, used)
+}
+
+// The plain bytes from a cursor on go into the text, as one run.
+fn plain_text(s: &[u8], from: Cursor, kind: u32, text: &mut [u8], used: usize) -> Reached
+    requires { ⌜ (from .at ≤ length (now s)) × Room (now s) used ⌝ }
+    ensures { λ r. ⌜ PlainIs kind (now (s .entry)) (from .at) used (now (text .entry)) (now (text .exit)) r ⌝ }
+{
+    let at = plain_end(s, from.at, kind);
+    let length = add_part(s, from.at, at, text, used);
+    Reached {
+        cursor: Cursor { at },
+        used: length,
+    }
+}
+
+// The text of a string or bytes, at the used length.
+fn string_text(
+    s: &[u8],
+    kind: u32,
+    text: &mut [u8],
+    used: usize,
+    file: &[u8],
+    index: &[u32],
+) -> Text
+    requires { ⌜ (length (now s) ≤ 1048576) × (used ≤ 2 ^ 32) ⌝ }
+    ensures { λ r. ⌜ StringBy (namesBy (now (file .entry)) (now (index .entry))) kind (now (s .entry)) (stringN (namesBy (now (file .entry)) (now (index .entry))) (enough (now (s .entry))) kind (now (s .entry)) 0 []) used (now (text .entry)) (now (text .exit)) r ⌝ }
+{
+    let mut cursor = Cursor { at: 0 };
+    let mut end = used;
+    loop {
+        if is_plain_at(s, cursor.at, kind) {
+            let run = plain_text(s, cursor, kind, text, end);
+            cursor = run.cursor;
+            end = run.used;
+            continue;
+        }
+        let piece = string_piece(s, cursor, kind, text, end, file, index);
+        match piece {
+            Piece::On(after, length) => {
+                cursor = after;
+                end = length;
+            }
+            Piece::Refused(r) => return Text::Refused(r),
+            _ => return Text::Done(end),
+        }
+    }
+}
+
+// A string's or bytes' body: its text, at the used length. A body of more than 2^20 bytes, or a used length of more than 2^32, is refused before.
+pub fn parse_string(
+    s: &[u8],
+    kind: u32,
+    text: &mut [u8],
+    used: usize,
+    file: &[u8],
+    index: &[u32],
+) -> Text
+    ensures { λ r. ⌜ StringIs (namesBy (now (file .entry)) (now (index .entry))) kind (now (s .entry)) used (now (text .entry)) (now (text .exit)) r ⌝ }
+{
+    if LARGEST_BODY < s.len() {
+        return Text::Refused(refused_at(BODIES_TOO_LONG, 0));
+    }
+    if LARGEST_TEXT < used {
+        return Text::Refused(refused_at(BODIES_TOO_LONG, 0));
+    }
+    string_text(s, kind, text, used, file, index)
+}
+
+// F-string text from a cursor on, up to what stops it.
+fn fstring_text(
+    s: &[u8],
+    at: Cursor,
+    nested: usize,
+    kind: u32,
+    text: &mut [u8],
+    used: usize,
+    file: &[u8],
+    index: &[u32],
+) -> Run
+    requires { ⌜ (nested < 2) × (length (now s) ≤ 1048576) × (used ≤ 2 ^ 32) ⌝ }
+    ensures { λ r. ⌜ RunBy (namesBy (now (file .entry)) (now (index .entry))) kind (now (s .entry)) nested (at .at) used (now (text .entry)) (now (text .exit)) r ⌝ }
+{
+    let mut cursor = at;
+    let mut end = used;
+    loop {
+        if is_plain_at(s, cursor.at, kind) {
+            let run = plain_text(s, cursor, kind, text, end);
+            cursor = run.cursor;
+            end = run.used;
+            continue;
+        }
+        let piece = text_piece(s, cursor, nested, kind, text, end, file, index);
+        match piece {
+            Piece::On(after, length) => {
+                cursor = after;
+                end = length;
+            }
+            Piece::Field(after) => return Run::Field(after, end),
+            Piece::Over => return Run::Over(cursor, end),
+            Piece::Refused(r) => return Run::Refused(r),
+        }
+    }
+}
+
+// F-string text from a cursor on, up to what stops it; at a depth of 2 or more it is refused there. A body or a used length that is too large is refused before.
+pub fn text_run(
+    s: &[u8],
+    at: Cursor,
+    nested: usize,
+    kind: u32,
+    text: &mut [u8],
+    used: usize,
+    file: &[u8],
+    index: &[u32],
+) -> Run
+    ensures { λ r. ⌜ RunIs (namesBy (now (file .entry)) (now (index .entry))) kind (now (s .entry)) nested (at .at) used (now (text .entry)) (now (text .exit)) r ⌝ }
+{
+    if LARGEST_BODY < s.len() {
+        return Run::Refused(refused_at(BODIES_TOO_LONG, 0));
+    }
+    if LARGEST_TEXT < used {
+        return Run::Refused(refused_at(BODIES_TOO_LONG, 0));
+    }
+    if 2 <= nested {
+        return Run::Refused(refused_at(EXPRESSION_NESTED_TOO_DEEPLY, at.at));
+    }
+    fstring_text(s, at, nested, kind, text, used, file, index)
+}
