@@ -137,10 +137,13 @@ called o words text = record { outcome = o; words = wordsAfter o words; text = t
 unfoldable pub readInto : Naming → List ℕ → List Literal → List ℕ → List ℕ → Call
 readInto look script ls words text = called (roomed (length words) (length text) (read look script ls)) words text
 
+-- a call over flat numbers, by any call over a list of literals
+unfoldable pub numbersBy : (List Literal → Call) → (ns words text : List ℕ) → Call
+numbersBy call ns words text = elim (sixes ns) [ none ↦ called (refuses (refusal notSixes 0 0 0 0)) words text | some ls ↦ call ls ]
+
 -- the entry over flat numbers
 unfoldable pub readNumbers : Naming → List ℕ → List ℕ → List ℕ → List ℕ → Call
-readNumbers look script ns words text =
-    elim (sixes ns) [ none ↦ called (refuses (refusal notSixes 0 0 0 0)) words text | some ls ↦ readInto look script ls words text ]
+readNumbers look script ns words text = numbersBy (λ ls. readInto look script ls words text) ns words text
 
 -- The numbers of RULES 5.1 and 5.6: of a sort; of an outcome, 0 first for an acceptance
 unfoldable pub sortNumber : Sort → ℕ

@@ -12,12 +12,12 @@ use Rattle.definition.specs.Numbers.{lineMalformed, nameTwice, wrongIndex}
 use Rattle.definition.specs.Chars.{if_then_else_, same}
 use Rattle.definition.specs.Records.{Answer}
 use Rattle.definition.specs.Entry.{Literal, sixes, Refusal, refusal, firstOf, entry}
-use Rattle.definition.specs.Reading.{Outcome, accepts, refuses, read, roomed, called, readInto, readNumbers}
+use Rattle.definition.specs.Reading.{Outcome, accepts, refuses, read, roomed, called, readInto, readNumbers, numbersBy}
 use Rattle.definition.specs.Join.{joinOutcomes, Enough}
 use Rattle.definition.specs.Words.{word}
 use Rattle.definition_names.specs.Names.{Entry, named, lookupFile, twice, indexOf, refuse, indexed, tooLong, against, check, searched}
 use Rattle.definition_scripts.specs.Listing.{tooLong as longScript, wrongNames, fieldsOf, fieldsCall, fieldsInto, fieldsNumbers}
-use Rattle.definition_names.specs.NamedReading.{ofNames, readNamed, namedNumbers, fieldsNamedOf, fieldsNamedInto}
+use Rattle.definition_names.specs.NamedReading.{ofNames, readNamed, namedInto, namedNumbers, fieldsNamedOf, fieldsNamedInto}
 use Rattle.definition.proofs.moves.CharLaws.{cases}
 use Rattle.definition.proofs.join.EntrySplit.{entry-left, entry-right}
 use Rattle.definition.proofs.join.JoinLaw.{read-join, called-join, sixes-append}
@@ -74,12 +74,12 @@ module _ (file index script : List ℕ) (ls : List Literal) where
 
 -- so it is of flat numbers: the same call
 pub named-numbers : (file index script ns words text m : List ℕ) → check file index ≡ accepts m → namedNumbers file index script ns words text ≡ readNumbers (searched file index) script ns words text
-unfolding namedNumbers readNumbers readInto
+unfolding namedNumbers readNumbers numbersBy namedInto readInto
 named-numbers file index script ns words text m h = go (sixes ns) refl
   where
     go : (o : Option (List Literal)) → sixes ns ≡ o → namedNumbers file index script ns words text ≡ readNumbers (searched file index) script ns words text
-    go none e = rw (e, namedNumbers, readNumbers)
-    go (some ls) e = rw (e, namedNumbers, readNumbers) (ap (λ o. called (roomed (length words) (length text) o) words text) (named-read file index script ls m h))
+    go none e = rw (e, namedNumbers, readNumbers, numbersBy, namedInto)
+    go (some ls) e = rw (e, namedNumbers, readNumbers, numbersBy, namedInto) (ap (λ o. called (roomed (length words) (length text) o) words text) (named-read file index script ls m h))
 
 -- and of every field of a script
 pub named-fields : (file index script buffer m : List ℕ) → check file index ≡ accepts m → fieldsNamedInto file index script buffer ≡ fieldsInto (searched file index) script buffer
@@ -103,8 +103,8 @@ named-join file index script x xs y ys passed = go (check file index) refl
         ∙ ap₂ (joinOutcomes (length (x ∷ xs))) (sym (named-read file index script (x ∷ xs) m e)) (sym (named-read file index script (y ∷ ys) m e))
 
 named-of : (file index script ns w t : List ℕ) (ls : List Literal) → sixes ns ≡ some ls → namedNumbers file index script ns w t ≡ called (roomed (length w) (length t) (readNamed file index script ls)) w t
-unfolding namedNumbers
-named-of file index script ns w t ls e = rw (e, namedNumbers)
+unfolding namedNumbers numbersBy namedInto
+named-of file index script ns w t ls e = rw (e, namedNumbers, numbersBy, namedInto)
 
 -- over flat numbers
 pub named-numbers-join : (file index script ns ms : List ℕ) (x : Literal) (xs : List Literal) (y : Literal) (ys : List Literal) (w t w₁ t₁ w₂ t₂ : List ℕ)

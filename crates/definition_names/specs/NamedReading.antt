@@ -5,10 +5,9 @@ use mathlib.Core.List.{List, [], _∷_}
 use mathlib.Core.Option.{Option, none, some}
 use lib.Dec.{ltb}
 use lib.ListN.{length}
-use Rattle.definition.specs.Numbers.{notSixes}
 use Rattle.definition.specs.Records.{Answer}
-use Rattle.definition.specs.Entry.{Literal, sixes, Refusal, refusal, firstOf, entry}
-use Rattle.definition.specs.Reading.{Outcome, accepts, refuses, read, roomed, Call, called}
+use Rattle.definition.specs.Entry.{Literal, Refusal, firstOf, entry}
+use Rattle.definition.specs.Reading.{Outcome, accepts, refuses, read, roomed, Call, called, numbersBy}
 use Rattle.definition_names.specs.Names.{lookupFile, check}
 use Rattle.definition_scripts.specs.Listing.{Fields, tooLong, wrongNames, fieldsOf, FieldsCall, fieldsCall}
 
@@ -21,13 +20,12 @@ unfoldable pub readNamed : (file index script : List ℕ) → List Literal → O
 readNamed file index script ls =
     elim (firstOf (entry script ls ∷ ofNames file index ∷ [])) [ some r ↦ refuses r | none ↦ read (lookupFile file) script ls ]
 
--- WHAT A CALL RETURNS AND LEAVES, with both buffers lent: over flat numbers
+-- WHAT A CALL RETURNS AND LEAVES, with both buffers lent: over descriptors, and over flat numbers
+unfoldable pub namedInto : (file index script : List ℕ) → List Literal → (words text : List ℕ) → Call
+namedInto file index script ls words text = called (roomed (length words) (length text) (readNamed file index script ls)) words text
+
 unfoldable pub namedNumbers : (file index script ns words text : List ℕ) → Call
-namedNumbers file index script ns words text =
-    elim (sixes ns) [
-      | none ↦ called (refuses (refusal notSixes 0 0 0 0)) words text
-      | some ls ↦ called (roomed (length words) (length text) (readNamed file index script ls)) words text
-    ]
+namedNumbers file index script ns words text = numbersBy (λ ls. namedInto file index script ls words text) ns words text
 
 -- EVERY FIELD OF A SCRIPT, in a buffer of so many numbers: file and index are checked once, after 49
 unfoldable pub fieldsNamedOf : (file index script : List ℕ) (room : ℕ) → Fields

@@ -12,7 +12,7 @@ use lib.Seq.{take-suc, take-length, take-append-le, length-take-le}
 use Rattle.definition.specs.Numbers.{tooManyLiterals}
 use Rattle.definition.specs.Escapes.{heldNames}
 use Rattle.definition.specs.Entry.{Literal, sixes, oneMore, refusal, notEmpty, notMany, firstOf, entry}
-use Rattle.definition.specs.Reading.{read, readInto, readNumbers}
+use Rattle.definition.specs.Reading.{read, readInto, readNumbers, numbersBy}
 use Rattle.buffers.specs.Over.{over}
 use Rattle.buffers.proofs.Over.{over-append, over-front}
 use Rattle.entry.specs.Answers.{described}
@@ -53,8 +53,8 @@ counted ds = min (length ds) 1025
 module _ (script : List ℕ) (ds : List Descriptor) (words text : List ℕ) where
   -- THE TWO ENTRIES AGREE: over the numbers of descriptors, and over the descriptors
   pub agrees : readNumbers heldNames script (flattened ds) words text ≡ readInto heldNames script (map described ds) words text
-  unfolding readNumbers
-  agrees = rw (sixes-flattened ds, readNumbers)
+  unfolding readNumbers numbersBy
+  agrees = rw (sixes-flattened ds, readNumbers, numbersBy)
 
   -- the descriptors that are copied are read as all are
   first-enough : readInto heldNames script (map described (take (counted ds) ds)) words text ≡ readInto heldNames script (map described ds) words text

@@ -14,7 +14,7 @@ use Rattle.definition.specs.Numbers.{notSixes, badDescriptor, tooManyLiterals, 
 use Rattle.definition.specs.Chars.{if_then_else_, wellFormed}
 use Rattle.definition.specs.Escapes.{Naming}
 use Rattle.definition.specs.Entry.{Literal, sixes, opening, placeOf, body, Refusal, refusal, notEmpty, notMany, firstBad, bad, allGood, total, notLong, formed, illFormed, allUtf8, notMixed, firstOf, entry}
-use Rattle.definition.specs.Reading.{accepts, refuses, allChars, andThen, readLiteral, readFrom, answered, read, roomed, called, readInto, readNumbers}
+use Rattle.definition.specs.Reading.{accepts, refuses, allChars, andThen, readLiteral, readFrom, answered, read, roomed, called, readInto, readNumbers, numbersBy}
 use Rattle.definition.proofs.moves.CharLaws.{cases}
 use Rattle.entry.specs.Answers.{checkNumbers}
 use Rattle.entry.specs.Literals.{literalAt, literals}
@@ -152,16 +152,16 @@ module _ (look : Naming) (script ns : List ℕ) where
   -- what a call gives then: the refusal, or the literals' reading
   module _ (words text : List ℕ) where
     pub refused-reads : (r : Refusal) → refuses r ≡ checkNumbers script ns → readNumbers look script ns words text ≡ called (refuses r) words text
-    unfolding checkNumbers readNumbers readInto read roomed
+    unfolding checkNumbers readNumbers numbersBy readInto read roomed
     refused-reads r e = go (sixes ns) refl
       where
         go : (o : Option (List Literal)) → sixes ns ≡ o → readNumbers look script ns words text ≡ called (refuses r) words text
-        go none q = let h : r ≡ refusal notSixes 0 0 0 0 = (let y = rw (q, checkNumbers) at e in cc) in rw (q, readNumbers, h)
-        go (some ls) q = rw (q, readNumbers, readInto, refused _ r _ (rw (q, checkNumbers) at e), read, roomed)
+        go none q = let h : r ≡ refusal notSixes 0 0 0 0 = (let y = rw (q, checkNumbers) at e in cc) in rw (q, readNumbers, numbersBy, h)
+        go (some ls) q = rw (q, readNumbers, numbersBy, readInto, refused _ r _ (rw (q, checkNumbers) at e), read, roomed)
 
     pub passed-reads : (n : ℕ) → Passed script ns n → let ls = literals ns 0 n in readNumbers look script ns words text ≡ called (roomed (length words) (length text) (answered script ls (readFrom look script 0 ls))) words text
-    unfolding readNumbers readInto read
-    passed-reads n p = rw (p .listed, readNumbers, p .enters, read)
+    unfolding readNumbers numbersBy readInto read
+    passed-reads n p = rw (p .listed, readNumbers, numbersBy, p .enters, read)
 
   -- literal by literal
   module _ (n i : ℕ) where

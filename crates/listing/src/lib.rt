@@ -19,9 +19,6 @@ ghost use Rattle.escapes.specs.Answers.{namesBy};
 ghost use Rattle.listing.specs.Put.{rowsIn, refusal};
 ghost use Rattle.listing.specs.Answers.{Filled, CallIs};
 
-// What is searched as an empty file is, and is not empty.
-const NO_NAMES: [u8; 1] = *b";";
-
 // A list: its rows, how many of them are refusals, the literals of the script, and how far it was cut.
 pub struct List {
     pub rows: u32,
@@ -128,7 +125,7 @@ fn list_searched(script: &[u8], rows: &mut [u32], file: &[u8], index: &[u32]) ->
     ensures { λ r. ⌜ CallIs (fieldsInto (searched (now (file .entry)) (now (index .entry))) (now (script .entry)) (now (rows .entry))) (now (rows .exit)) r ⌝ }
 {
     if file.len() == 0 {
-        let none = NO_NAMES;
+        let none = names::NO_NAMES;
         return list_by(script, rows, &none, index);
     }
     list_by(script, rows, file, index)

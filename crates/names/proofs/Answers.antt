@@ -12,7 +12,7 @@ use borrow.Author.Tests.{le-leb, lt-leb, lt-ltb, le-ltb, not-true, not-false}
 use Rattle.definition.specs.Numbers.{lineMalformed, nameTwice, tooLittleIndexRoom, wrongIndex}
 use Rattle.definition.specs.Chars.{same, noCode}
 use Rattle.definition.specs.Entry.{refusal}
-use Rattle.definition.specs.Reading.{Outcome, accepts, zeros}
+use Rattle.definition.specs.Reading.{Outcome, accepts, refuses, zeros}
 use Rattle.definition_names.specs.Names.{Entry, named, twice, indexOf, refuse, indexed, inRoom, against, build, check, indexAfter, buildInto, firstField, nameOf, bound, entryOf, scalarAt, searched}
 use Rattle.definition_names.specs.IsIndex.{count}
 use Rattle.definition.proofs.moves.CharLaws.{cases}
@@ -20,6 +20,7 @@ use Rattle.definition_names.proofs.NameLists.{same?, count-later, count-none}
 use Rattle.definition_names.proofs.NameFields.{stop-at, go-on, upTo-none}
 use Rattle.definition_names.proofs.NameIndex.{same-true, same-eq}
 use Rattle.definition_names.proofs.NameChecked.{index-size}
+use Rattle.definition_names.proofs.NamedShown.{check-plain}
 use Rattle.names.specs.Answers.{countOf, Sized, OrderedIs, CheckedIs, DistinctIs, answerOf, CallIs}
 use Rattle.names.specs.declared.Counted.the-variants.{Wrong, Names}
 use Rattle.names.specs.declared.Answer.{Answer}
@@ -176,3 +177,26 @@ module _ (file index name : List ℕ) where
 
   pub search-marked : 1 ≤ count 59 name → noCode ≡ searched file index name
   search-marked h = search-missed (let e = marked-missed h in omega arith)
+
+-- THE CHECK'S ANSWER TAKEN APART: a refusal has its number alone; else there is an index
+module _ (file index : List ℕ) where
+  pub answer-refused : (n : ℕ) → Refused n ≡ answerOf (check file index) → check file index ≡ refuses (refusal n 0 0 0 0)
+  answer-refused n h = by (check file index) refl
+    where
+      by : (o : Outcome (List ℕ)) → check file index ≡ o → check file index ≡ refuses (refusal n 0 0 0 0)
+      by (accepts l) e = let z : Refused n ≡ Entries (length l) = h ∙ ap answerOf e in let y : _≡_ {A = ℕ} 0 1 = cc in absurd (omega arith)
+      by (refuses r) e =
+          let z : Refused n ≡ Refused (r .number) = h ∙ ap answerOf e in
+          let y : n ≡ r .number = cc in
+          e ∙ ap refuses (check-plain file index r e .alone ∙ ap (λ k. refusal k 0 0 0 0) (sym y))
+
+  pub record Indexed : Type 0 where
+    pub list : List ℕ
+    pub is : check file index ≡ accepts list
+
+  pub answer-indexed : (n : ℕ) → Entries n ≡ answerOf (check file index) → Indexed
+  answer-indexed n h = by (check file index) refl
+    where
+      by : (o : Outcome (List ℕ)) → check file index ≡ o → Indexed
+      by (accepts l) e = record { list = l; is = e }
+      by (refuses r) e = let z : Entries n ≡ Refused (r .number) = h ∙ ap answerOf e in let y : _≡_ {A = ℕ} 0 1 = cc in absurd (omega arith)

@@ -13,6 +13,9 @@ ghost use Rattle.definition_names.proofs.NameScan.{EndsOf, DigitsOf};
 ghost use Rattle.names.specs.declared.Answer.the-variants.{Refused};
 ghost use Rattle.names.specs.Answers.{Steps, countOf, StartsIs, FilledOf, Sized, OrderedIs, CheckedIs, MeetsIs, PartIs, RunIs, DistinctIs, answerOf, CallIs, MarkedIs};
 
+// What is searched as an empty file is, and is not empty.
+pub const NO_NAMES: [u8; 1] = *b";";
+
 // What a call for an index gives: how many entries it has, or a refusal's number.
 pub enum Answer {
     Entries(u32),

@@ -12,7 +12,7 @@ use Rattle.definition.specs.Entry.{Literal, sixes, anyOf, firstStart}
 use Rattle.definition.specs.Entry as entry
 use Rattle.definition.specs.Numbers.{isBytes, isFString}
 use Rattle.definition.specs.Escapes.{Naming}
-use Rattle.definition.specs.Reading.{accepts, refuses, sortOf, sortNumber, uMark, lastEnd, answered, outcomeOf, roomFor, roomed, Call, called, readInto, readNumbers, wordsAfter, textAfter, allWords, numbers, zeros}
+use Rattle.definition.specs.Reading.{accepts, refuses, sortOf, sortNumber, uMark, lastEnd, answered, outcomeOf, roomFor, roomed, Call, called, readInto, readNumbers, wordsAfter, textAfter, allWords, numbers, zeros, numbersBy}
 use Rattle.definition.specs.Reading as o
 use Rattle.buffers.proofs.Over.{length-over, over-front}
 use Rattle.entry.specs.Literals.{literals}
@@ -102,12 +102,12 @@ module _ (x : Answer) (words text words′ text′ : List ℕ) (n m : ℕ) (h : 
 
 -- A LIST THAT IS REFUSED
 pub refused-flat : (look : Naming) (script ns words text : List ℕ) (x : Refusal) → readFlat look script ns ≡ refuses (refusalOf x) → readNumbers look script ns words text ≡ called (why x) words text
-unfolding readFlat readNumbers readInto roomed
+unfolding readFlat readNumbers numbersBy readInto roomed
 refused-flat look script ns words text x e = go (sixes ns) refl
   where
     go : (q : Option (List Literal)) → sixes ns ≡ q → readNumbers look script ns words text ≡ called (why x) words text
-    go none q = rw (q, readNumbers) (ap (λ r. called r words text) (rw (q, readFlat) at e))
-    go (some ls) q = rw (q, readNumbers, rw (q, readFlat) at e, roomed)
+    go none q = rw (q, readNumbers, numbersBy) (ap (λ r. called r words text) (rw (q, readFlat) at e))
+    go (some ls) q = rw (q, readNumbers, numbersBy, rw (q, readFlat) at e, roomed)
 
 -- A LIST THAT IS ACCEPTED, if there is room
 module _ {look : Naming} {within skip : ℕ} {script ns words text rows words₁ text₁ rows′ : List ℕ} {w : Written} (D : DoneIs look within skip script ns words text rows words₁ text₁ rows′ w) where

@@ -1,21 +1,21 @@
 -- What a call with a file of names gives: an entry check's refusal, that of the file or its index, or what is read by a search. Assumes nothing.
-use mathlib.Core.Path.{_≡_, refl, sym, _∙_, ap, subst}
+use mathlib.Core.Path.{_≡_, refl, subst}
 use mathlib.Core.List.{List}
 use mathlib.Core.Option.{Option, none, some}
 use Prim.Native.Nat.{ℕ}
-use native.Mathlib.Omega.{arith}
 use Rattle.definition.specs.Numbers.{notSixes}
 use Rattle.definition.specs.Entry.{Literal, sixes, Refusal, refusal}
 use Rattle.definition.specs.Escapes.{Naming}
-use Rattle.definition.specs.Reading.{Outcome as Found, accepts, refuses, roomed, called, readNumbers}
+use Rattle.definition.specs.Reading.{accepts, refuses, roomed, called, readNumbers, numbersBy}
 use Rattle.definition_names.specs.Names.{check, searched}
-use Rattle.definition_names.specs.NamedReading.{namedNumbers}
-use Rattle.definition_names.proofs.NamedShown.{check-plain, named-entered, named-wrong, named-numbers}
+use Rattle.definition_names.specs.NamedReading.{namedInto, namedNumbers}
+use Rattle.definition_names.proofs.NamedShown.{named-entered, named-wrong, named-numbers}
 use Rattle.entry.specs.Answers.{checkNumbers}
 use Rattle.entry.proofs.Checks.{refused}
 use Rattle.entry.proofs.Passed.{passed}
 use Rattle.names.specs.declared.Answer.the-variants.{Entries, Refused}
 use Rattle.names.specs.Answers.{answerOf}
+use Rattle.names.proofs.Answers.{answer-refused, answer-indexed}
 use Rattle.strings.specs.declared.Outcome.{Outcome}
 use Rattle.strings.specs.Strings.{CallIs}
 
@@ -26,28 +26,18 @@ by-names look look′ script ns words text words′ text′ r e h = subst (λ f.
 
 module _ (file index script ns words text : List ℕ) where
   pub refused-entry : (r : Refusal) → refuses r ≡ checkNumbers script ns → namedNumbers file index script ns words text ≡ called (refuses r) words text
-  unfolding checkNumbers namedNumbers roomed
+  unfolding checkNumbers namedNumbers numbersBy namedInto roomed
   refused-entry r e = go (sixes ns) refl
     where
       go : (o : Option (List Literal)) → sixes ns ≡ o → namedNumbers file index script ns words text ≡ called (refuses r) words text
-      go none q = let h : r ≡ refusal notSixes 0 0 0 0 = (let y = rw (q, checkNumbers) at e in cc) in rw (q, namedNumbers, h)
-      go (some ls) q = rw (q, namedNumbers, named-entered file index script ls r (refused _ r _ (rw (q, checkNumbers) at e)), roomed)
+      go none q = let h : r ≡ refusal notSixes 0 0 0 0 = (let y = rw (q, checkNumbers) at e in cc) in rw (q, namedNumbers, numbersBy, namedInto, h)
+      go (some ls) q = rw (q, namedNumbers, numbersBy, namedInto, named-entered file index script ls r (refused _ r _ (rw (q, checkNumbers) at e)), roomed)
 
   pub wrong-names : (k n : ℕ) → accepts k ≡ checkNumbers script ns → Refused n ≡ answerOf (check file index) → namedNumbers file index script ns words text ≡ called (refuses (refusal n 0 0 0 0)) words text
-  unfolding namedNumbers roomed
-  wrong-names k n p h = go (check file index) refl h
-    where
-      go : (o : Found (List ℕ)) → check file index ≡ o → Refused n ≡ answerOf o → namedNumbers file index script ns words text ≡ called (refuses (refusal n 0 0 0 0)) words text
-      go (accepts l) e z = let y : _≡_ {A = ℕ} 0 1 = cc in absurd (omega arith)
-      go (refuses r) e z =
-          let y : n ≡ r .number = cc in
-          let P = passed script ns k p .0 in
-          let w : r ≡ refusal n 0 0 0 0 = check-plain file index r e .alone ∙ ap (λ x. refusal x 0 0 0 0) (sym y) in
-          rw (P .listed, namedNumbers, named-wrong file index script _ r (P .enters) e, roomed, w)
+  unfolding namedNumbers numbersBy namedInto roomed
+  wrong-names k n p h =
+      let P = passed script ns k p .0 in
+      rw (P .listed, namedNumbers, numbersBy, namedInto, named-wrong file index script _ (refusal n 0 0 0 0) (P .enters) (answer-refused file index n h), roomed)
 
   pub right-names : (n : ℕ) → Entries n ≡ answerOf (check file index) → namedNumbers file index script ns words text ≡ readNumbers (searched file index) script ns words text
-  right-names n h = go (check file index) refl h
-    where
-      go : (o : Found (List ℕ)) → check file index ≡ o → Entries n ≡ answerOf o → namedNumbers file index script ns words text ≡ readNumbers (searched file index) script ns words text
-      go (accepts m) e z = named-numbers file index script ns words text m e
-      go (refuses r) e z = let y : _≡_ {A = ℕ} 0 1 = cc in absurd (omega arith)
+  right-names n h = let m = answer-indexed file index n h in named-numbers file index script ns words text (m .list) (m .is)

@@ -39,9 +39,6 @@ pub enum Outcome {
     Refused(entry::Refusal),
 }
 
-// What is searched as an empty file is, and is not empty.
-const NO_NAMES: [u8; 1] = *b";";
-
 // A refusal: both buffers are filled with zeros.
 fn refuse(words: &mut [u32], text: &mut [u8], r: entry::Refusal) -> Outcome
     ensures { λ x. ⌜ (x ≡ Refused r) × (now (words .exit) ≡ zeros (now (words .entry))) × (now (text .exit) ≡ zeros (now (text .entry))) ⌝ }
@@ -135,7 +132,7 @@ pub fn parse_searched(
     ensures { λ r. ⌜ CallIs (readNumbers (searched (now (file .entry)) (now (index .entry))) (now (script .entry)) (now (numbers .entry)) (now (words .entry)) (now (text .entry))) (now (words .exit)) (now (text .exit)) r ⌝ }
 {
     if file.len() == 0 {
-        let none = NO_NAMES;
+        let none = names::NO_NAMES;
         return parse_by(script, numbers, &none, index, words, text);
     }
     parse_by(script, numbers, file, index, words, text)

@@ -11,7 +11,7 @@ use Rattle.definition.specs.Numbers.{notSixes}
 use Rattle.definition.specs.Escapes.{Naming}
 use Rattle.definition.specs.Records.{Answer}
 use Rattle.definition.specs.Entry.{Literal, sixes, Refusal, refusal}
-use Rattle.definition.specs.Reading.{Outcome, accepts, refuses, read, allWords, wordsAfter, textAfter, numbers, Call, called, readInto, readNumbers}
+use Rattle.definition.specs.Reading.{Outcome, accepts, refuses, read, allWords, wordsAfter, textAfter, numbers, Call, called, readInto, readNumbers, numbersBy}
 use Rattle.definition.specs.Words.{word, answerFrom, lie, heldFrom, recordsWellFormed, assured}
 use Rattle.definition.proofs.outcomes.Outcomes.{Listed, Sane, all-words, into-sane, numbers-sane}
 use Rattle.definition.proofs.outcomes.Room.{roomed-accepts}
@@ -50,15 +50,15 @@ into-held look script ls words text x e =
 
 -- of flat numbers
 pub numbers-held : (look : Naming) → (script ns words text : List ℕ) → Held (readNumbers look script ns words text)
-unfolding readNumbers called
+unfolding readNumbers numbersBy called
 numbers-held look script ns words text = go (sixes ns) refl
   where
     no : {P : Type 0} (x : Answer) (r : Refusal) → _≡_ {A = Outcome Answer} (refuses r) (accepts x) → P
     no x r e = let z : _≡_ {A = ℕ} 0 1 = cc in absurd (omega arith)
 
     go : (o : Option (List Literal)) → sixes ns ≡ o → Held (readNumbers look script ns words text)
-    go none i = rw (i, readNumbers) (λ x e. no x (refusal notSixes 0 0 0 0) e)
-    go (some ls) i = rw (i, readNumbers) (into-held look script ls words text)
+    go none i = rw (i, readNumbers, numbersBy) (λ x e. no x (refusal notSixes 0 0 0 0) e)
+    go (some ls) i = rw (i, readNumbers, numbersBy) (into-held look script ls words text)
 
 -- WHAT YOU MAY ASSUME OF EVERY EXPRESSION, of what a caller holds
 abbrev pub Assured : Call → Type 0

@@ -14,7 +14,7 @@ use Rattle.definition.specs.Escapes.{Naming, got}
 use Rattle.definition.specs.Body.{literal, TextCase, textCase, textMove, filled, textN, enough, readBody}
 use Rattle.definition.specs.Records.{top, item, itemOf, wordsOf, merge, merged, glue, texts, laid, recordAt, cover, covers, joined, Answer, answerOf}
 use Rattle.definition.specs.Entry.{Literal, sixes, oneMore, body, anyOf, firstStart, entry}
-use Rattle.definition.specs.Reading.{accepts, readLiteral, andThen, readFrom, sortOf, uMark, lastEnd, allChars, answered, read, roomed, allWords, inFront, wordsAfter, textAfter, sortNumber, numbers, Call, called, readInto, readNumbers}
+use Rattle.definition.specs.Reading.{accepts, readLiteral, andThen, readFrom, sortOf, uMark, lastEnd, allChars, answered, read, roomed, allWords, inFront, wordsAfter, textAfter, sortNumber, numbers, Call, called, readInto, readNumbers, numbersBy}
 use Rattle.definition.specs.Matched.{braceless}
 use Rattle.definition.proofs.moves.CharLaws.{cases, code-is, next-past, next-in, next-from}
 use Rattle.definition.proofs.moves.Steps.{text-goes, text-ends}
@@ -117,5 +117,5 @@ module _ (look : Naming) (script : List ℕ) (triple offset size start end : ℕ
 
       -- of flat numbers
       pub numbers-raw : RawIs words text (readNumbers look script (4 ∷ triple ∷ offset ∷ size ∷ start ∷ end ∷ []) words text)
-      unfolding readNumbers sixes oneMore
+      unfolding readNumbers numbersBy sixes oneMore
       numbers-raw = into-raw

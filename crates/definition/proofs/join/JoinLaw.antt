@@ -11,7 +11,7 @@ use Rattle.definition.specs.Escapes.{Naming, Read, got, refused}
 use Rattle.definition.specs.Body.{Piece, readBody}
 use Rattle.definition.specs.Records.{Item, Answer, answerOf}
 use Rattle.definition.specs.Entry.{Literal, oneMore, sixes, body, moved, firstStart, entry}
-use Rattle.definition.specs.Reading.{Outcome, accepts, refuses, allChars, refusalIn, readLiteral, andThen, readFrom, sortOf, uMark, lastEnd, answered, read, outcomeOf, shortOf, roomFor, roomed, called, readInto, readNumbers}
+use Rattle.definition.specs.Reading.{Outcome, accepts, refuses, allChars, refusalIn, readLiteral, andThen, readFrom, sortOf, uMark, lastEnd, answered, read, outcomeOf, shortOf, roomFor, roomed, called, readInto, readNumbers, numbersBy}
 use Rattle.definition.specs.Join.{shifted, joinOutcomes, Enough}
 use Rattle.definition.proofs.join.Laid.{answer-append}
 use Rattle.definition.proofs.outcomes.Placed.{Standing, from-stands, number-in}
@@ -163,8 +163,8 @@ sixes-append (a ∷ b ∷ c ∷ d ∷ e ∷ f ∷ ns) ms xs ys p q = go (λ ls r
         rw (ih ls r, y)
 
 read-numbers : (look : Naming) → (script ns : List ℕ) (w t : List ℕ) (ls : List Literal) → sixes ns ≡ some ls → readNumbers look script ns w t ≡ readInto look script ls w t
-unfolding readNumbers
-read-numbers look script ns w t ls e = rw (e, readNumbers)
+unfolding readNumbers numbersBy
+read-numbers look script ns w t ls e = rw (e, readNumbers, numbersBy)
 
 -- DEMAND 3, over flat numbers
 pub numbers-join : (look : Naming) → (script ns ms : List ℕ) (x : Literal) (xs : List Literal) (y : Literal) (ys : List Literal) (w t w₁ t₁ w₂ t₂ : List ℕ)

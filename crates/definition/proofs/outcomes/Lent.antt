@@ -12,7 +12,7 @@ use Rattle.definition.specs.Escapes.{Naming, Read, got, refused}
 use Rattle.definition.specs.Body.{Piece, literal, field, spec, readBody}
 use Rattle.definition.specs.Records.{touching, Item, raw, top, item, itemOf, glue, merge, bothItems, merged, texts, cover, Answer, answerOf}
 use Rattle.definition.specs.Entry.{Literal, sixes, placeOf, body, Refusal, refusal, total, firstStart, entry}
-use Rattle.definition.specs.Reading.{Outcome, accepts, refuses, readLiteral, andThen, readFrom, uMark, lastEnd, answered, read, roomed, called, readInto, readNumbers}
+use Rattle.definition.specs.Reading.{Outcome, accepts, refuses, readLiteral, andThen, readFrom, uMark, lastEnd, answered, read, roomed, called, readInto, readNumbers, numbersBy}
 use Rattle.definition.proofs.moves.Moves.{part-short}
 use Rattle.definition.proofs.join.Seam.{glue-true, glue-false}
 use Rattle.definition.proofs.join.Laid.{itemRole, laid-length, texts-merged}
@@ -132,17 +132,17 @@ module _ (look : Naming) (script words text : List ℕ) where
   into-lent ls h = ap (λ o. called o words text) (roomed-lent ls words text (read look script ls) h (read-need look script ls))
 
   pub numbers-lent : (ns : List ℕ) (ls : List Literal) → sixes ns ≡ some ls → Lent ls words text → readNumbers look script ns words text ≡ called (read look script ls) words text
-  unfolding readNumbers
-  numbers-lent ns ls e h = rw (e, readNumbers) (into-lent ls h)
+  unfolding readNumbers numbersBy
+  numbers-lent ns ls e h = rw (e, readNumbers, numbersBy) (into-lent ls h)
 
   pub into-below : (ls : List Literal) → Lent ls words text → Below (readInto look script ls words text .outcome)
   unfolding called
   into-below ls h = rw (into-lent ls h) (read-below look script ls)
 
   pub numbers-below : (ns : List ℕ) → ((ls : List Literal) → sixes ns ≡ some ls → Lent ls words text) → Below (readNumbers look script ns words text .outcome)
-  unfolding readNumbers called refusal
+  unfolding readNumbers numbersBy called refusal
   numbers-below ns h = go (sixes ns) refl
     where
       go : (o : Option (List Literal)) → sixes ns ≡ o → Below (readNumbers look script ns words text .outcome)
-      go none e = rw (e, readNumbers) (omega arith)
-      go (some ls) e = rw (e, readNumbers) (into-below ls (h ls e))
+      go none e = rw (e, readNumbers, numbersBy) (omega arith)
+      go (some ls) e = rw (e, readNumbers, numbersBy) (into-below ls (h ls e))

@@ -14,7 +14,7 @@ use Rattle.definition.specs.Escapes.{Naming, Read, got, refused}
 use Rattle.definition.specs.Body.{Piece, readBody}
 use Rattle.definition.specs.Records.{Item, Record, wordsOf, merged, texts, recordAt, laid, cover, Answer, answerOf}
 use Rattle.definition.specs.Entry.{Literal, sixes, placeOf, body, Refusal, refusal, moved, notEmpty, notMany, firstBad, bad, allGood, total, notLong, formed, illFormed, allUtf8, anyOf, firstStart, notMixed, firstOf, entry}
-use Rattle.definition.specs.Reading.{Outcome, accepts, refuses, refusalIn, readLiteral, andThen, readFrom, uMark, lastEnd, answered, read, outcomeOf, shortOf, roomFor, roomed, allWords, inFront, wordsAfter, textAfter, Call, called, readInto, readNumbers}
+use Rattle.definition.specs.Reading.{Outcome, accepts, refuses, refusalIn, readLiteral, andThen, readFrom, uMark, lastEnd, answered, read, outcomeOf, shortOf, roomFor, roomed, allWords, inFront, wordsAfter, textAfter, Call, called, readInto, readNumbers, numbersBy}
 use Rattle.definition.proofs.moves.Moves.{OfBody, Sound}
 use Rattle.definition.proofs.moves.Fuel.{body-reading}
 
@@ -208,12 +208,12 @@ into-sane look script ls words text = roomed-sane (length words) (length text) (
 
 -- of flat numbers
 pub numbers-sane : (look : Naming) → (script ns words text : List ℕ) → Sane (readNumbers look script ns words text .outcome)
-unfolding readNumbers called refusal
+unfolding readNumbers numbersBy called refusal
 numbers-sane look script ns words text = go (sixes ns) refl
   where
     go : (o : Option (List Literal)) → sixes ns ≡ o → Sane (readNumbers look script ns words text .outcome)
-    go none e = rw (e, readNumbers) tt
-    go (some ls) e = rw (e, readNumbers) (into-sane look script ls words text)
+    go none e = rw (e, readNumbers, numbersBy) tt
+    go (some ls) e = rw (e, readNumbers, numbersBy) (into-sane look script ls words text)
 
 -- BOTH BUFFERS KEEP THEIR LENGTHS
 abbrev pub Kept : List ℕ → List ℕ → Call → Type 0
@@ -249,9 +249,9 @@ unfolding readInto
 into-kept look script ls words text = called-kept (read look script ls) words text
 
 pub numbers-kept : (look : Naming) → (script ns words text : List ℕ) → Kept words text (readNumbers look script ns words text)
-unfolding readNumbers called wordsAfter textAfter
+unfolding readNumbers numbersBy called wordsAfter textAfter
 numbers-kept look script ns words text = go (sixes ns) refl
   where
     go : (o : Option (List Literal)) → sixes ns ≡ o → Kept words text (readNumbers look script ns words text)
-    go none e = rw (e, readNumbers) (length-replicate (length words) 0, length-replicate (length text) 0)
-    go (some ls) e = rw (e, readNumbers) (into-kept look script ls words text)
+    go none e = rw (e, readNumbers, numbersBy) (length-replicate (length words) 0, length-replicate (length text) 0)
+    go (some ls) e = rw (e, readNumbers, numbersBy) (into-kept look script ls words text)

@@ -18,7 +18,7 @@ use Rattle.definition.specs.Escapes.{Naming, Fault, Read, got, refused}
 use Rattle.definition.specs.Body.{Piece, readBody}
 use Rattle.definition.specs.Records.{Item, Answer, answerOf}
 use Rattle.definition.specs.Entry.{Literal, sixes, placeOf, body, Refusal, refusal, moved, entry}
-use Rattle.definition.specs.Reading.{Outcome, accepts, refuses, allChars, openedAt, refusalIn, readLiteral, andThen, readFrom, answered, read, outcomeOf, shortOf, roomFor, roomed, called, readInto, readNumbers}
+use Rattle.definition.specs.Reading.{Outcome, accepts, refuses, allChars, openedAt, refusalIn, readLiteral, andThen, readFrom, answered, read, outcomeOf, shortOf, roomFor, roomed, called, readInto, readNumbers, numbersBy}
 use Rattle.definition.proofs.moves.OpenBrackets.{Wrong}
 use Rattle.definition.proofs.moves.Moves.{Names, Sound}
 use Rattle.definition.proofs.moves.Fuel.{body-reading}
@@ -173,9 +173,9 @@ listed none = []
 listed (some ls) = ls
 
 pub numbers-placed : (look : Naming) → (script ns words text : List ℕ) → Placed script (listed (sixes ns)) (readNumbers look script ns words text .outcome)
-unfolding readNumbers called refusal
+unfolding readNumbers numbersBy called refusal
 numbers-placed look script ns words text = go (sixes ns) refl
   where
     go : (o : Option (List Literal)) → sixes ns ≡ o → Placed script (listed o) (readNumbers look script ns words text .outcome)
-    go none e = rw (e, readNumbers) (inr (record { number = λ k. k; opened = refl; line = refl; column = refl; chars = refl }))
-    go (some ls) e = rw (e, readNumbers) (into-placed look script ls words text)
+    go none e = rw (e, readNumbers, numbersBy) (inr (record { number = λ k. k; opened = refl; line = refl; column = refl; chars = refl }))
+    go (some ls) e = rw (e, readNumbers, numbersBy) (into-placed look script ls words text)

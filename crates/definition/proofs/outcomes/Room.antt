@@ -12,7 +12,7 @@ use Rattle.definition.specs.Numbers.{refusals, _among_, notSixes, tooFew
 use Rattle.definition.specs.Escapes.{Naming}
 use Rattle.definition.specs.Records.{Answer}
 use Rattle.definition.specs.Entry.{Literal, Refusal, refusal, moved, sixes, entry}
-use Rattle.definition.specs.Reading.{Outcome, accepts, refuses, read, outcomeOf, shortOf, roomFor, roomed, Call, called, readInto, readNumbers}
+use Rattle.definition.specs.Reading.{Outcome, accepts, refuses, read, outcomeOf, shortOf, roomFor, roomed, Call, called, readInto, readNumbers, numbersBy}
 use Rattle.definition.proofs.moves.Moves.{OfBody}
 use Rattle.definition.proofs.outcomes.Outcomes.{Numbered, read-numbered}
 
@@ -60,12 +60,12 @@ module _ (look : Naming) (script words text words′ text′ : List ℕ) (x : An
   module _ (ns : List ℕ) (e : readNumbers look script ns words text .outcome ≡ accepts x) where
     -- numbers that are accepted are a list of descriptors
     listed : (P : Call → Type 0) → ((ls : List Literal) → readInto look script ls words text .outcome ≡ accepts x → P (readInto look script ls words′ text′)) → P (readNumbers look script ns words′ text′)
-    unfolding readNumbers called
+    unfolding readNumbers numbersBy called
     listed P given = go (sixes ns) refl
       where
         go : (o : Option (List Literal)) → sixes ns ≡ o → P (readNumbers look script ns words′ text′)
-        go none i = let h = rw (i, readNumbers) at e in let z : _≡_ {A = ℕ} 0 1 = cc in absurd (omega arith)
-        go (some ls) i = rw (i, readNumbers) (given ls (rw (i, readNumbers) at e))
+        go none i = let h = rw (i, readNumbers, numbersBy) at e in let z : _≡_ {A = ℕ} 0 1 = cc in absurd (omega arith)
+        go (some ls) i = rw (i, readNumbers, numbersBy) (given ls (rw (i, readNumbers, numbersBy) at e))
 
     pub numbers-needed : Needed x (readNumbers look script ns words′ text′ .outcome)
     numbers-needed = listed (λ c. Needed x (c .outcome)) into-needed
@@ -135,9 +135,9 @@ module _ (look : Naming) (script words text words′ text′ : List ℕ) (r : Re
 
   -- of flat numbers
   pub numbers-told : (ns : List ℕ) → readNumbers look script ns words text .outcome ≡ refuses r → Told r (readNumbers look script ns words′ text′ .outcome)
-  unfolding readNumbers called refusal
+  unfolding readNumbers numbersBy called refusal
   numbers-told ns e = go (sixes ns) refl
     where
       go : (o : Option (List Literal)) → sixes ns ≡ o → Told r (readNumbers look script ns words′ text′ .outcome)
-      go none i = let s = same-refusal (refusal notSixes 0 0 0 0) r (rw (i, readNumbers) at e) in let h′ = rw (← s) at h in absurd (omega arith)
-      go (some ls) i = rw (i, readNumbers) (into-told ls (rw (i, readNumbers) at e))
+      go none i = let s = same-refusal (refusal notSixes 0 0 0 0) r (rw (i, readNumbers, numbersBy) at e) in let h′ = rw (← s) at h in absurd (omega arith)
+      go (some ls) i = rw (i, readNumbers, numbersBy) (into-told ls (rw (i, readNumbers, numbersBy) at e))

@@ -15,7 +15,7 @@ use Rattle.definition.specs.Chars.{part}
 use Rattle.definition.specs.Escapes.{Naming}
 use Rattle.definition.specs.Records.{Record, wordsOf, Answer}
 use Rattle.definition.specs.Entry.{Literal, sixes, refusal}
-use Rattle.definition.specs.Reading.{Outcome, accepts, refuses, read, roomed, allWords, inFront, wordsAfter, textAfter, Call, called, readInto, readNumbers}
+use Rattle.definition.specs.Reading.{Outcome, accepts, refuses, read, roomed, allWords, inFront, wordsAfter, textAfter, Call, called, readInto, readNumbers, numbersBy}
 use Rattle.definition.specs.View.{viewed}
 use Rattle.definition.specs.Words.{textOf}
 use Rattle.definition.proofs.outcomes.Outcomes.{all-words, Gapless, Sane, into-sane}
@@ -112,12 +112,12 @@ module _ (look : Naming) (script : List ℕ) (ls : List Literal) (words text : L
 module _ (look : Naming) (script ns words text : List ℕ) (x : Answer) where
   numbers-by : (P : Call → Answer → Type 0) → P (called (refuses (refusal notSixes 0 0 0 0)) words text) x
       → ((ls : List Literal) → P (readInto look script ls words text) x) → P (readNumbers look script ns words text) x
-  unfolding readNumbers
+  unfolding readNumbers numbersBy
   numbers-by P none-is some-is = go (sixes ns) refl
     where
       go : (o : Option (List Literal)) → sixes ns ≡ o → P (readNumbers look script ns words text) x
-      go none e = rw (e, readNumbers) none-is
-      go (some ls) e = rw (e, readNumbers) (some-is ls)
+      go none e = rw (e, readNumbers, numbersBy) none-is
+      go (some ls) e = rw (e, readNumbers, numbersBy) (some-is ls)
 
   pub numbers-viewed : Viewed (readNumbers look script ns words text) x
   numbers-viewed = numbers-by Viewed (called-viewed (refuses (refusal notSixes 0 0 0 0)) words text x) (λ ls. into-viewed look script ls words text x)
