@@ -3,4 +3,4 @@ pub mod outcomes
 pub mod join
 pub mod rows
 pub mod formed
-pub mod shown
+pub mod computed

@@ -14,7 +14,7 @@ use Rattle.definition.specs.Entry.{Literal, opening, placeOf, body, refusal, mo
 use Rattle.definition.specs.Reading.{Outcome, accepts, refuses, openedAt, refusalIn, readLiteral, andThen, readFrom, sortOf, uMark, lastEnd, allChars, answered, read}
 use Rattle.definition_names.specs.Names.{parted, hexValue, lineOf, entries, lookupIn, lookupOf, has, twice, atMost, insert, byName, indexed, check}
 use Rattle.definition_names.specs.NamedReading.{ofNames, readNamed}
-use Rattle.definition.proofs.shown.Starred.{literal, rec, accepted, refusedAs, Row, _gives_, Given}
+use Rattle.definition.proofs.computed.Starred.{literal, rec, accepted, refusedAs, Row, _gives_, Given}
 use Rattle.definition_names.proofs.NameTable.{lines, few}
 
 -- the body of a string, start 0, flag 0, whose end is after the closing quote

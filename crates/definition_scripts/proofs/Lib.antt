@@ -1,4 +1,4 @@
 pub mod literals
 pub mod cut
 pub mod listing
-pub mod shown
+pub mod computed

@@ -9,7 +9,7 @@ use Rattle.definition.specs.Chars.{ascii, insideAny, table37, following,
 use Rattle.definition.specs.Records.{inner, Record, Answer}
 use Rattle.definition.specs.Matched.{closed, see, seeAll, settled, matched, blankAfter, blank, braceless}
 use Rattle.definition.specs.Words.{roleAt, recordsFrom, sortFrom, answerFrom, alike, apart, expressed, within, twoDeep, assured}
-use Rattle.definition.proofs.shown.FormedShown.{rec}
+use Rattle.definition.proofs.computed.FormedShown.{rec}
 
 -- a test passes all of the first and none of the others
 abbrev pub Splits : {A : Type 0} → (A → Bool) → List A → List A → Type 0
