@@ -1,5 +1,6 @@
 pub mod Starred
 pub mod Blanks
+pub mod CallsShown
 pub mod RowsShown
 pub mod FormedShown
 pub mod AssuredShown
