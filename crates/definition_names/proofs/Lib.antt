@@ -10,5 +10,5 @@ pub mod NameSearch
 pub mod NameChecked
 pub mod NamesShown
 pub mod NameTable
-pub mod NamedTable
+pub mod CallTable
 pub mod NamedShown
