@@ -23,8 +23,8 @@ use Rattle.bodies.specs.declared.field.State.{State}
 use Rattle.records.specs.declared.Head.{Head}
 use Rattle.bodies.specs.declared.field.Opened.the-variants as opened
 use Rattle.bodies.proofs.FieldLaws.{part-none, and-false, and-true, keeps, plain-goes}
-use Rattle.marks.specs.Marks.{refusal, faultOf}
-use Rattle.bodies.specs.FieldTurns.{isMarked, passing, Passed, pending, Room, Fits, keptTo, skippedTo, headAt, brackets, stateOf, headState, Went, Stopped, closedAs, HeadIs, EndedIs, OpenedIs}
+use Rattle.marks.specs.Marks.{passing, refusal, faultOf}
+use Rattle.bodies.specs.FieldTurns.{isMarked, Passed, pending, Room, Fits, keptTo, skippedTo, headAt, brackets, stateOf, headState, Went, Stopped, closedAs, HeadIs, EndedIs, OpenedIs}
 
 -- a blank expression is refused at its `}`
 abbrev blankOf : Field → Bool

@@ -1,46 +1,25 @@
 -- A field's head as the code reads it, in the definition's terms.
 use Prim.Native.Nat.{ℕ, zero, suc, _+_, _*_, _/_, _%_, _^_, _≤_, _<_}
 use mathlib.Core.Path.{_≡_}
-use mathlib.Core.Bool.{Bool, true, false, _&&_, _||_}
+use mathlib.Core.Bool.{Bool, true, false, _&&_}
 use mathlib.Core.List.{List, [], _∷_, _++_}
 use lib.Dec.{ltb, eqb}
 use lib.ListN.{length, getD}
 use Rattle.definition.specs.Numbers.{emptyExpression}
-use Rattle.definition.specs.Chars.{if_then_else_, byte, _to_, inside, part, next}
+use Rattle.definition.specs.Chars.{if_then_else_, byte, part, next}
 use Rattle.definition.specs.Escapes.{Naming, fault, refused}
-use Rattle.definition.specs.Body.{Bracket, signs, Move, goes, stops, calls, ends, Field, state, fresh, FieldCase, pair, converts, documents, formats, opener, closes, closer, quote, space, backslash, stray, plain, fieldMove, fieldN, enough}
+use Rattle.definition.specs.Body.{Bracket, signs, Move, goes, stops, calls, ends, Field, state, fresh, fieldMove, fieldN, enough}
 use Rattle.definition.proofs.moves.Moves.{fieldSize}
 use Rattle.buffers.specs.Over.{over}
 use Rattle.utf8.specs.declared.Cursor.{Cursor}
 use Rattle.utf8.proofs.Steps.{Stepped}
-use Rattle.marks.specs.Marks.{refusal, faultOf}
+use Rattle.marks.specs.Marks.{passing, refusal, faultOf}
 use Rattle.records.specs.declared.Head.{Head}
 use Rattle.bodies.specs.declared.field.State.{State}
-use Rattle.bodies.specs.declared.field.Class.{Class}
-use Rattle.bodies.specs.declared.field.Class.the-variants as class
 use Rattle.bodies.specs.declared.field.Turn.{Turn}
 use Rattle.bodies.specs.declared.field.Turn.the-variants as turn
 use Rattle.bodies.specs.declared.field.Opened.{Opened}
 use Rattle.bodies.specs.declared.field.Opened.the-variants as opened
-
--- the definition's case of a class
-abbrev pub caseIs : Class → FieldCase
-caseIs class.Pair = pair
-caseIs class.Converts = converts
-caseIs class.Documents = documents
-caseIs class.Formats = formats
-caseIs class.Opener = opener
-caseIs class.Closes = closes
-caseIs class.Closer = closer
-caseIs class.Quote = quote
-caseIs class.Space = space
-caseIs class.Backslash = backslash
-caseIs class.Stray = stray
-caseIs class.Plain = plain
-
--- a character with no rule of its own
-abbrev pub plainCase : Bool → FieldCase
-plainCase documented = if documented then stray else plain
 
 -- of the expression, what is not written yet
 abbrev pub pending : List ℕ → State → List ℕ
@@ -80,11 +59,7 @@ abbrev pub skippedTo : List ℕ → State → ℕ → State
 skippedTo s f place =
     record { at = place; run = place; used = f .used + length (pending s f); depth = f .depth; spaces = f .spaces; equals = f .equals; bang = f .bang; conversion = f .conversion; blank = f .blank }
 
--- a byte that has no rule of its own in a field: of * to 9, ? to Z and ^ to z
-abbrev pub passing : ℕ → Bool
-passing b = inside (42 to 57) b || inside (63 to 90) b || inside (94 to 122) b
-
--- the state after a run of such bytes, which are in the expression; after a self-documenting `=` there is none
+-- the state after a run of bytes that have no rule of their own, which are in the expression; after a self-documenting `=` there is none
 pub record Passed (s : List ℕ) (f r : State) : Type 0 where
   pub end : ℕ
   pub on : f .at ≤ end

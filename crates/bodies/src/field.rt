@@ -2,29 +2,31 @@
 use crate::EMPTY_EXPRESSION;
 use crate::MISMATCHED_DELIMITER;
 use buffers::add_run;
+use marks::Class;
 use marks::Refusal;
 use marks::Unclosed;
+use marks::class_of;
 use marks::ends_head;
-use marks::is_blank;
 use marks::is_conversion;
 use marks::matches;
+use marks::passing_end;
+use marks::run_end;
+use marks::still_blank;
 use marks::unclosed_brace;
 use records::Head;
 use utf8::Cursor;
 use utf8::Step;
 ghost use mathlib.Core.Path.{_≡_};
-ghost use mathlib.Core.Bool.{_&&_, true};
+ghost use mathlib.Core.Bool.{true};
 ghost use mathlib.Core.List.{List};
 ghost use Prim.Native.Nat.{ℕ, _+_, _-_, _^_, _≤_, _<_};
-ghost use lib.Dec.{eqb};
-ghost use lib.ListN.{length, getD, drop};
-ghost use Rattle.definition.specs.Chars.{if_then_else_, _is_, byte, code, before};
+ghost use lib.ListN.{length, getD};
+ghost use Rattle.definition.specs.Chars.{_is_, code};
 ghost use Rattle.definition.specs.Escapes.{fault};
-ghost use Rattle.definition.specs.Body.{pair, isBlank, fieldCase, conversionMove, openMove, closeMove, quoteMove, fieldMove};
-ghost use Rattle.utf8.proofs.Steps.{Stepped};
+ghost use Rattle.definition.specs.Body.{conversionMove, openMove, closeMove, quoteMove, fieldMove};
 ghost use Rattle.buffers.specs.Over.{over};
 ghost use Rattle.marks.specs.Marks.{refusal};
-ghost use Rattle.bodies.specs.FieldTurns.{unpacked, caseIs, plainCase, passing, Passed, pending, keptTo, skippedTo, firstOf, headAt, Room, Fits, TurnIs, closedAs, OpenedIs};
+ghost use Rattle.bodies.specs.FieldTurns.{unpacked, Passed, pending, keptTo, skippedTo, firstOf, headAt, Room, Fits, TurnIs, closedAs, OpenedIs};
 
 const INVALID_CONVERSION_FLAG: u32 = 21;
 
@@ -61,22 +63,6 @@ enum Turn {
     Refused(Refusal),
 }
 
-// What a character is in a field.
-enum Class {
-    Pair,
-    Converts,
-    Documents,
-    Formats,
-    Opener,
-    Closes,
-    Closer,
-    Quote,
-    Space,
-    Backslash,
-    Stray,
-    Plain,
-}
-
 fn refuse(number: u32, taken: usize) -> Turn
     ensures { λ r. ⌜ r ≡ Turn.Refused (refusal (fault number taken)) ⌝ }
 {
@@ -87,66 +73,6 @@ fn refuse(number: u32, taken: usize) -> Turn
         a: 0,
         b: 0,
     })
-}
-
-// A character with no rule of its own, after a self-documenting `=` or before one.
-fn plain_class(documented: bool) -> Class
-    ensures { λ r. ⌜ caseIs r ≡ plainCase documented ⌝ }
-{
-    if documented {
-        Class::Stray
-    } else {
-        Class::Plain
-    }
-}
-
-// A class that stands outside brackets only.
-fn outside_class(out: bool, class: Class, documented: bool) -> Class
-    ensures { λ r. ⌜ caseIs r ≡ (if out then caseIs class else plainCase documented) ⌝ }
-{
-    if out { class } else { plain_class(documented) }
-}
-
-// A class, or that of a pair where a `=` follows.
-fn pair_class(s: &[u8], after: Cursor, class: Class) -> Class
-    ensures { λ r. ⌜ caseIs r ≡ (if code (now (s .entry)) (after .at) is "=" then pair else caseIs class) ⌝ }
-{
-    if after.peek(s) == 61 {
-        Class::Pair
-    } else {
-        class
-    }
-}
-
-// The class of the character at an index, in the order ! = < > : ( [ { } ) ] " ' space \ and the others.
-fn class_of(s: &[u8], at: usize, c: u32, after: Cursor, out: bool, documented: bool) -> Class
-    requires { ⌜ Stepped (now s) at c after ⌝ }
-    ensures { λ r. ⌜ caseIs r ≡ fieldCase (now (s .entry)) at out documented ⌝ }
-{
-    match c {
-        33 => pair_class(s, after, outside_class(out, Class::Converts, documented)),
-        61 => pair_class(s, after, outside_class(out, Class::Documents, documented)),
-        60 | 62 => pair_class(s, after, plain_class(documented)),
-        58 => outside_class(out, Class::Formats, documented),
-        40 | 91 | 123 => Class::Opener,
-        125 => if out { Class::Closes } else { Class::Closer },
-        41 | 93 => Class::Closer,
-        34 | 39 => Class::Quote,
-        32 => if documented {
-            Class::Space
-        } else {
-            Class::Plain
-        },
-        92 => Class::Backslash,
-        _ => plain_class(documented),
-    }
-}
-
-// Whether an expression stays blank with one more character.
-fn still_blank(blank: bool, c: u32) -> bool
-    ensures { λ r. ⌜ r ≡ (blank && isBlank c) ⌝ }
-{
-    if blank { is_blank(c) } else { false }
 }
 
 // The state at another place, with the bytes up to there in the expression.
@@ -208,13 +134,6 @@ fn head_of(f: State, at: Cursor) -> Head
         conversion: f.conversion,
         blank: f.blank,
     }
-}
-
-// A byte as a code.
-fn wide(b: u8) -> u32
-    ensures { λ r. ⌜ r ≡ b ⌝ }
-{
-    b as u32
 }
 
 // A bracket and the bytes taken just after it, as one number.
@@ -291,23 +210,6 @@ fn close_bracket(f: State, c: u32, after: Cursor, places: &[u32; 64]) -> Turn
     })
 }
 
-// Where a run that a quote opened has the same quote, or the body's end.
-fn run_end(s: &[u8], from: usize, quote: u32) -> usize
-    requires { ⌜ from ≤ length (now s) ⌝ }
-    ensures { λ r. ⌜ r ≡ from + before (λ b. eqb b quote) (drop from (now (s .entry))) ⌝ }
-{
-    let mut i = from;
-    'run: loop {
-        if s.len() <= i {
-            break 'run i;
-        }
-        if wide(s[i]) == quote {
-            break 'run i;
-        }
-        i += 1;
-    }
-}
-
 // The quote at the state's place, with its run.
 fn quoted(s: &[u8], f: State, c: u32, after: Cursor) -> Turn
     requires { ⌜ Fits (now s) f c after ⌝ }
@@ -357,7 +259,7 @@ fn read_turn(s: &[u8], f: State, text: &mut [u8], places: &mut [u32; 64]) -> Tur
         return Turn::Refused(unclosed_brace(Unclosed::InField, at));
     };
     let to = after.at;
-    let class = class_of(s, at, c, after, f.depth == 0, 0 < f.equals);
+    let class = class_of(s, c, after, f.depth == 0, 0 < f.equals);
     match class {
         Class::Pair => Turn::On(kept(f, to + 1, f.depth, false)),
         Class::Converts => convert(s, f, after, text),
@@ -380,41 +282,6 @@ fn read_turn(s: &[u8], f: State, text: &mut [u8], places: &mut [u32; 64]) -> Tur
         Class::Stray => Turn::Refused(unclosed_brace(Unclosed::AfterEquals, to)),
         Class::Plain => Turn::On(kept(f, to, f.depth, still_blank(f.blank, c))),
     }
-}
-
-// Whether a byte has no rule of its own in a field: ^ to z, * to 9 and ? to Z have none.
-fn is_passing(b: u8) -> bool
-    ensures { λ r. ⌜ (r ≡ true → passing b ≡ true) ⌝ }
-{
-    if 94 <= b {
-        return b <= 122;
-    }
-    if b < 42 {
-        return false;
-    }
-    if b <= 57 {
-        return true;
-    }
-    if b < 63 {
-        return false;
-    }
-    b <= 90
-}
-
-// How far from an index on bytes have no rule of their own.
-fn passing_end(s: &[u8], at: usize) -> usize
-    requires { ⌜ at ≤ length (now s) ⌝ }
-    ensures { λ r. ⌜ (at ≤ r) × (r ≤ length (now (s .entry))) × ((k : ℕ) → at ≤ k → k < r → passing (byte (now (s .entry)) k) ≡ true) ⌝ }
-{
-    let mut i = at;
-    while i < s.len() {
-        if is_passing(s[i]) {
-            i += 1;
-        } else {
-            return i;
-        }
-    }
-    i
 }
 
 // The state after a run of bytes that have no rule of their own; after a self-documenting `=` there is none.

@@ -160,12 +160,10 @@ unfoldable pub outside : List Bracket → Bool
 outside [] = true
 outside (b ∷ brackets) = false
 
--- `out`: outside brackets; `doc`: after a self-documenting `=`
-unfoldable pub fieldCase : List ℕ → ℕ → Bool → Bool → FieldCase
-fieldCase s i out doc =
-    let c = code s i in
-    if atEnd s i then over else
-    if c is "!=><" && code s (next s i) is "=" then pair else
+-- what a character is in a field, by the one after it. `out`: outside brackets; `doc`: after a self-documenting `=`
+abbrev pub signCase : (c after : ℕ) → Bool → Bool → FieldCase
+signCase c after out doc =
+    if c is "!=><" && after is "=" then pair else
     if c is "!" && out then converts else
     if c is "=" && out then documents else
     if c is ":" && out then formats else
@@ -176,6 +174,9 @@ fieldCase s i out doc =
     if c is " " && doc then space else
     if c is "\\" then backslash else
     if doc then stray else plain
+
+unfoldable pub fieldCase : List ℕ → ℕ → Bool → Bool → FieldCase
+fieldCase s i out doc = if atEnd s i then over else signCase (code s i) (code s (next s i)) out doc
 
 unfoldable pub caseOf : List ℕ → ℕ → Field → FieldCase
 caseOf s i (state e b o c d w g) = fieldCase s i (outside o) d

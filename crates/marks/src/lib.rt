@@ -1,13 +1,16 @@
 // What characters and bytes are in a text, a field or a spec, and why a brace counts as unclosed. Nothing is written here.
 use escapes::is_any_bytes;
+use utf8::Cursor;
 ghost use mathlib.Core.Path.{_≡_};
 ghost use mathlib.Core.Bool.{_&&_, not};
-ghost use lib.Dec.{leb};
+ghost use Prim.Native.Nat.{_+_};
+ghost use lib.Dec.{eqb, leb};
+ghost use lib.ListN.{drop};
 ghost use Rattle.definition.specs.Numbers.{isBytes, isRaw, unclosedLbrace};
-ghost use Rattle.definition.specs.Chars.{_is_};
+ghost use Rattle.definition.specs.Chars.{if_then_else_, _is_, code, before};
 ghost use Rattle.definition.specs.Escapes.{detail};
-ghost use Rattle.definition.specs.Body.{isBlank, matching, firstEnd};
-ghost use Rattle.marks.specs.Marks.{special, converted, reasonOf, refusal};
+ghost use Rattle.definition.specs.Body.{pair, isBlank, signCase, matching, firstEnd};
+ghost use Rattle.marks.specs.Marks.{special, caseIs, plainCase, passing, converted, reasonOf, refusal};
 
 // Why a body is refused: the number, the bytes taken just after the bracket that it names and at its place, two details.
 pub struct Refusal {
@@ -25,6 +28,22 @@ pub enum Unclosed {
     AfterEquals,
     InField,
     LastBrace,
+}
+
+// What a character is in a field.
+pub enum Class {
+    Pair,
+    Converts,
+    Documents,
+    Formats,
+    Opener,
+    Closes,
+    Closer,
+    Quote,
+    Space,
+    Backslash,
+    Stray,
+    Plain,
 }
 
 const UNCLOSED_LBRACE: u32 = 20;
@@ -150,6 +169,122 @@ pub fn ends_head(c: u32) -> bool
         58 => true,
         _ => false,
     }
+}
+
+// A character with no rule of its own, after a self-documenting `=` or before one.
+fn plain_class(documented: bool) -> Class
+    ensures { λ r. ⌜ caseIs r ≡ plainCase documented ⌝ }
+{
+    if documented {
+        Class::Stray
+    } else {
+        Class::Plain
+    }
+}
+
+// A class that stands outside brackets only.
+fn outside_class(out: bool, class: Class, documented: bool) -> Class
+    ensures { λ r. ⌜ caseIs r ≡ (if out then caseIs class else plainCase documented) ⌝ }
+{
+    if out { class } else { plain_class(documented) }
+}
+
+// A class, or that of a pair where a `=` follows.
+fn pair_class(s: &[u8], after: Cursor, class: Class) -> Class
+    ensures { λ r. ⌜ caseIs r ≡ (if code (now (s .entry)) (after .at) is "=" then pair else caseIs class) ⌝ }
+{
+    if after.peek(s) == 61 {
+        Class::Pair
+    } else {
+        class
+    }
+}
+
+// The class of a character before a cursor, in the order ! = < > : ( [ { } ) ] " ' space \ and the others.
+pub fn class_of(s: &[u8], c: u32, after: Cursor, out: bool, documented: bool) -> Class
+    ensures { λ r. ⌜ caseIs r ≡ signCase c (code (now (s .entry)) (after .at)) out documented ⌝ }
+{
+    match c {
+        33 => pair_class(s, after, outside_class(out, Class::Converts, documented)),
+        61 => pair_class(s, after, outside_class(out, Class::Documents, documented)),
+        60 | 62 => pair_class(s, after, plain_class(documented)),
+        58 => outside_class(out, Class::Formats, documented),
+        40 | 91 | 123 => Class::Opener,
+        125 => if out { Class::Closes } else { Class::Closer },
+        41 | 93 => Class::Closer,
+        34 | 39 => Class::Quote,
+        32 => if documented {
+            Class::Space
+        } else {
+            Class::Plain
+        },
+        92 => Class::Backslash,
+        _ => plain_class(documented),
+    }
+}
+
+// Whether an expression stays blank with one more character.
+pub fn still_blank(blank: bool, c: u32) -> bool
+    ensures { λ r. ⌜ r ≡ (blank && isBlank c) ⌝ }
+{
+    if blank { is_blank(c) } else { false }
+}
+
+// A byte as a code.
+pub fn wide(b: u8) -> u32
+    ensures { λ r. ⌜ r ≡ b ⌝ }
+{
+    b as u32
+}
+
+// Where a run that a quote opened has the same quote, or the body's end; from past the end, there.
+pub fn run_end(s: &[u8], from: usize, quote: u32) -> usize
+    ensures { λ r. ⌜ r ≡ from + before (λ b. eqb b quote) (drop from (now (s .entry))) ⌝ }
+{
+    let mut i = from;
+    'run: loop {
+        if s.len() <= i {
+            break 'run i;
+        }
+        if wide(s[i]) == quote {
+            break 'run i;
+        }
+        i += 1;
+    }
+}
+
+// Whether a byte has no rule of its own in a field: ^ to z, * to 9 and ? to Z have none.
+fn is_passing(b: u8) -> bool
+    ensures { λ r. ⌜ r ≡ passing b ⌝ }
+{
+    if 94 <= b {
+        return b <= 122;
+    }
+    if b < 42 {
+        return false;
+    }
+    if b <= 57 {
+        return true;
+    }
+    if b < 63 {
+        return false;
+    }
+    b <= 90
+}
+
+// How far from an index on bytes have no rule of their own.
+pub fn passing_end(s: &[u8], at: usize) -> usize
+    ensures { λ r. ⌜ r ≡ at + before (λ b. not (passing b)) (drop at (now (s .entry))) ⌝ }
+{
+    let mut i = at;
+    while i < s.len() {
+        if is_passing(s[i]) {
+            i += 1;
+        } else {
+            return i;
+        }
+    }
+    i
 }
 
 // A field's conversion; a self-documenting field with neither conversion nor spec has r.

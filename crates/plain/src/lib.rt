@@ -1,6 +1,7 @@
 // Where a run of plain bytes ends: by blocks where the first eight are plain, else byte by byte. Nothing is written here.
 use marks::is_foreign;
 use marks::is_special;
+use marks::wide;
 use utf8::greater;
 ghost use mathlib.Core.Path.{_≡_};
 ghost use mathlib.Core.Bool.{_&&_, not, true};
@@ -31,13 +32,6 @@ fn is_byte(b: u8, other: u8) -> u8
     ensures { λ r. ⌜ (b ≡ other → r ≡ 1) ⌝ }
 {
     if b == other { 1 } else { 0 }
-}
-
-// A byte as a code.
-fn wide(b: u8) -> u32
-    ensures { λ r. ⌜ r ≡ b ⌝ }
-{
-    b as u32
 }
 
 // Whether the bytes from an index up to another are plain.

@@ -1,11 +1,14 @@
 -- `bodies::field::pass` meets its contract. Assumes nothing.
 use borrow.Author.Needs.{needs}
-use borrow.Author.Tests.{eq-eqb, ne-eqb, le-ltb}
+use borrow.Author.Tests.{not-false, eq-eqb, ne-eqb, le-ltb}
 use native.Mathlib.Omega.{arith}
 use mathlib.Core.Path.{refl, _∙_}
+use mathlib.Core.Bool.{not}
 use mathlib.Core.List.{List}
 use Prim.Native.Nat.{ℕ, _≤_}
 use lib.ListN.{length}
+use Rattle.definition.proofs.moves.CharLaws.{before-in, first-fails}
+use Rattle.marks.specs.Marks.{passing}
 use Rattle.bodies.specs.declared.field.State.{State}
 use Rattle.bodies.specs.FieldTurns.{Passed}
 use Rattle.bodies.proofs.FieldLaws.{and-false, and-true}
@@ -34,12 +37,14 @@ pass-spec =
     (λ c κs. search needs)  -- kept-requires
     (λ c.
     let f = (c .before .before .before .before .before .before .before .args .f) in
+    let s = (c .before .before .before .before .before .before .before .args .s .now) in
     let e = (c .before .before .before .passing-end .ensures) in
+    let l = (c .before .before .before .before .before .before .before .pre) in
     record {
       end = (c .before .before .before .passing-end .result);
-      on = e .0;
-      within = e .1;
-      all = e .2;
+      on = omega (arith, e);
+      within = omega (arith, e, before-in (λ b. not (passing b)) s (f .at) l);
+      all = λ k a b. not-false _ (first-fails (λ b. not (passing b)) s (f .at) k a (omega (arith, e)));
       undocumented = λ _. le-ltb _ _ (c .before .before .before .before .if1 .left);
       is = (c .kept .ensures) ∙ rw (ne-eqb _ (f .at) (c .before .if2 .left), and-false (f .blank));
     }))  -- returns-3

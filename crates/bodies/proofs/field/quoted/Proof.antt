@@ -12,7 +12,7 @@ pub quoted-spec : {M : Type 1} → statement M
 quoted-spec =
     tie.close
     (tie.spec
-    (λ c κs. ahead (c .before .pre .here) .1)  -- run-end-requires
+    (λ c κs. search needs)  -- run-end-requires
     (λ c κs. search needs)  -- refuse-requires
     (λ c. λ places text. rw (c .refuse .ensures) (λ e. quote-open (c .before .before .before .before .pre) places e _ (c .before .before .run-end .ensures) (c .before .if1 .taken)))  -- returns
     (λ c. search needs)  -- add-kept

@@ -1,7 +1,7 @@
--- `bodies::field::still_blank` meets its contract. Assumes nothing.
+-- `marks::still_blank` meets its contract. Assumes nothing.
 use borrow.Author.Needs.{needs}
-use Rattle.bodies.proofs.field.still_blank.Statement.{statement}
-use Rattle.bodies.proofs.field.still_blank.Tie as tie
+use Rattle.marks.proofs.still_blank.Statement.{statement}
+use Rattle.marks.proofs.still_blank.Tie as tie
 
 pub still-blank-spec : {M : Type 1} → statement M
 still-blank-spec =

@@ -1,8 +1,8 @@
--- `bodies::field::pair_class` meets its contract. Assumes nothing.
+-- `marks::pair_class` meets its contract. Assumes nothing.
 use borrow.Author.Needs.{needs}
 use borrow.Author.Tests.{eq-eqb, ne-eqb}
-use Rattle.bodies.proofs.field.pair_class.Statement.{statement}
-use Rattle.bodies.proofs.field.pair_class.Tie as tie
+use Rattle.marks.proofs.pair_class.Statement.{statement}
+use Rattle.marks.proofs.pair_class.Tie as tie
 
 pub pair-class-spec : {M : Type 1} → statement M
 pair-class-spec =
