@@ -39,12 +39,12 @@ class Progress(unittest.TestCase):
 
 
 # What ./test calls beside rt and .ci/times, in its order.
-PYTHON = ["crates/definition/blanks.py", "crates/try_leaves/expected.py", "crates/try_readings/expected.py"]
+PYTHON = [f"crates/{one}.py" for one in ("definition/blanks", "definition/rows", "try_leaves/expected", "try_readings/expected")]
 TESTED = ["oracle/test", "bindings/c/test", "bindings/rust/test", "bindings/python/test"]
 BESIDE = [*PYTHON, *(f"{one} target/staticlib/libstumpgarret.a" for one in TESTED), "bench/run --short"]
 TIMES = "What it took, in seconds:"
 EXPECTED = ["expected of try_leaves", "expected of try_readings"]
-PARTS = ["blanks", *EXPECTED, "library", "oracle", "bindings/c", "bindings/rust", "bindings/python", "bench"]
+PARTS = ["blanks", "rows", *EXPECTED, "library", "oracle", "bindings/c", "bindings/rust", "bindings/python", "bench"]
 
 
 class Test(unittest.TestCase):

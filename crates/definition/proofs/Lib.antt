@@ -1,4 +1,5 @@
 pub mod moves
+pub mod characters
 pub mod outcomes
 pub mod join
 pub mod rows

@@ -4,3 +4,8 @@ pub mod CallsShown
 pub mod RowsShown
 pub mod FormedShown
 pub mod AssuredShown
+pub mod EscapeRows
+pub mod CharRows
+pub mod CallRows
+pub mod PlaceRows
+pub mod ByPython

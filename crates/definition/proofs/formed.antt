@@ -5,4 +5,5 @@ pub mod Accepted
 pub mod One
 pub mod WellFormed
 pub mod Held
+pub mod Marked
 pub mod Raw

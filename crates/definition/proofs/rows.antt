@@ -1,2 +1,4 @@
 pub mod SignLaws
+pub mod SpecLaws
 pub mod FieldRows
+pub mod SpecRows

@@ -11,3 +11,4 @@ pub mod Join
 pub mod View
 pub mod Matched
 pub mod Words
+pub mod Left

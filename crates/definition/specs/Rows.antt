@@ -1,12 +1,12 @@
 -- A field's row: its signs, and the reason of its conversion. The rows of a list of literals, and what a call for them leaves.
-use Prim.Native.Nat.{ℕ, zero, suc, _+_, _/_}
-use mathlib.Core.Bool.{true, false, not}
+use Prim.Native.Nat.{ℕ, zero, suc, _+_, _-_, _/_}
+use mathlib.Core.Bool.{Bool, false, not, _||_}
 use mathlib.Core.List.{List, [], _∷_, _++_}
 use mathlib.Core.Option.{none, some}
 use lib.Dec.{eqb}
 use lib.ListN.{length}
 use Rattle.definition.specs.Numbers.{notSixes}
-use Rattle.definition.specs.Chars.{if_then_else_}
+use Rattle.definition.specs.Chars.{if_then_else_, _is_, part}
 use Rattle.definition.specs.Escapes.{Naming, Read, got, refused}
 use Rattle.definition.specs.Body.{Signs, signs, Piece, literal, field, spec, readBody}
 use Rattle.definition.specs.Records.{Record, Answer}
@@ -113,12 +113,51 @@ rowedNumbers (accepts x) =
     let a = x .answer in
     0 ∷ sortNumber (a .sort) ∷ a .uMark ∷ a .start ∷ a .end ∷ length (x .rows) ∷ 0 ∷ 0 ∷ a .chars ∷ []
 
--- WHAT A ROW SHARES WITH ITS FIELD'S RECORD: start, place, length of the expression, conversion
+-- WHAT A ROW SHARES WITH ITS FIELD'S RECORD: start, place, length of the expression, conversion, and a spec exactly if it has a `:`
 unfoldable pub rowField : Row → List ℕ
-rowField r = r .start ∷ r .place ∷ r .expression ∷ r .conversion ∷ []
+rowField r = r .start ∷ r .place ∷ r .expression ∷ r .conversion ∷ (if eqb (r .signs .colon) 0 then 0 else 1) ∷ []
 
 -- the same of the fields among records, in order
 unfoldable pub recordFields : List Record → List (List ℕ)
 recordFields [] = []
 recordFields (r ∷ rs) =
-    if eqb (r .kind) 2 then (r .start ∷ r .place ∷ r .size ∷ r .mode ∷ []) ∷ recordFields rs else recordFields rs
+    if eqb (r .kind) 2 then (r .start ∷ r .place ∷ r .size ∷ r .mode ∷ r .parts ∷ []) ∷ recordFields rs else recordFields rs
+
+-- A FIELD'S SPEC: there is none; its text; or fields stand in it
+pub data FieldSpec : Type 0 where
+  absent : FieldSpec
+  verbatim : (text : List ℕ) → FieldSpec
+  nested : FieldSpec
+
+-- a text has a `{`
+unfoldable pub braced : List ℕ → Bool
+braced [] = false
+braced (b ∷ t) = b is "{" || braced t
+
+-- AS IT IS WRITTEN in the script: what stands between the field's `:` and its `}`
+unfoldable pub writtenSpec : (script : List ℕ) → Signs → FieldSpec
+writtenSpec s g =
+    let t = part s (g .colon) (g .close - 1) in
+    if eqb (g .colon) 0 then absent else
+    if braced t then nested else verbatim t
+
+abbrev pub rowSpec : (script : List ℕ) → Row → FieldSpec
+rowSpec s r = writtenSpec s (r .signs)
+
+-- AS RECORDS HAVE IT: that of a spec with so many parts, which the records begin with; that of a field with so many
+unfoldable pub partsSpec : (text : List ℕ) (parts : ℕ) → List Record → FieldSpec
+partsSpec text zero rs = verbatim []
+partsSpec text (suc zero) [] = nested
+partsSpec text (suc zero) (r ∷ rs) = if eqb (r .kind) 1 then verbatim (part text (r .offset) (r .offset + r .size)) else nested
+partsSpec text (suc (suc n)) rs = nested
+
+unfoldable pub recordSpec : (text : List ℕ) (parts : ℕ) → List Record → FieldSpec
+recordSpec text zero rs = absent
+recordSpec text (suc n) [] = nested
+recordSpec text (suc n) (r ∷ rs) = partsSpec text (r .parts) rs
+
+-- of the fields among records, in order
+unfoldable pub recordSpecs : (text : List ℕ) → List Record → List FieldSpec
+recordSpecs text [] = []
+recordSpecs text (r ∷ rs) =
+    if eqb (r .kind) 2 then recordSpec text (r .parts) rs ∷ recordSpecs text rs else recordSpecs text rs

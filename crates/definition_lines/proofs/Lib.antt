@@ -1,2 +1,5 @@
 pub mod Shown
 pub mod WhyShown
+pub mod Limits
+pub mod LineRows
+pub mod LinesByPython

@@ -5,10 +5,11 @@ use mathlib.Core.Path.{_≡_, refl}
 use mathlib.Core.List.{List, [], _∷_, _++_, map}
 use Rattle.definition.specs.Numbers.{prefix}
 use Rattle.definition.specs.Chars.{ascii, insideAny, table37, following, follow, width, decoded, code, next, char, formedFrom, wellFormed, whiteSpace, before}
-use Rattle.definition.specs.Body.{textCase, textMove, filled, withEquals, withBang, withColon, withClose, fresh, add, documented, spaced, formatted, outside, fieldCase, caseOf, conversionMove, fieldMove, direct, conversionOf, fieldPieces, selfDocumenting, finished, specified, plainRun, textN, readBody}
+use Rattle.definition.specs.Counts.{more, countFrom, counted}
+use Rattle.definition.specs.Body.{textCase, textMove, filled, withEquals, withBang, withColon, withClose, fresh, add, documented, spaced, formatted, outside, fieldCase, caseOf, conversionMove, openMove, closeMove, fieldMove, direct, conversionOf, fieldPieces, selfDocumenting, finished, specified, plainRun, textN, readBody}
 use Rattle.definition.specs.Records.{touching, covers, item, itemOf, glue, merge, bothItems, merged, texts, recordAt, laid, cover, answerOf}
 use Rattle.definition.specs.Entry.{opening, placeOf, body, refusal, moved, notEmpty, notMany, firstBad, bad, allGood, total, notLong, formed, illFormed, allUtf8, anyOf, firstStart, notMixed, firstOf, entry}
-use Rattle.definition.specs.Reading.{refusalIn, readLiteral, andThen, readFrom, sortOf, uMark, lastEnd, allChars, answered, read}
+use Rattle.definition.specs.Reading.{openedAt, refusalIn, readLiteral, andThen, readFrom, sortOf, uMark, lastEnd, allChars, answered, read}
 use Rattle.definition.specs.Rows.{reason, signAt, signsAt, fieldRows, piecesOf, literalRows, allRows, rowed}
 use Rattle.definition_lines.specs.Lines.{decimalN, decimal, escaped, escapedText, refusalLine}
 use Rattle.definition_lines.specs.Why.{writtenEnd, reasonEnd, whyLine, whyHere, rowsLeft, whyLines, outcomeWhy, bodyWhy}
@@ -27,9 +28,10 @@ whys =
     ∷ "{\"field\":\"y\",\"at\":8,\"reason\":\"repr\"}"
     ∷ [])
     ∷ ("}" writes "{\"refusal\":25,\"at\":3,\"a\":0,\"b\":0}" ∷ [])
+    ∷ ("{(]}" writes "{\"refusal\":23,\"at\":5,\"a\":40,\"b\":93}" ∷ [])
     ∷ ("a" writes [])
     ∷ []
 
 pub whys-written : map (λ r. bodyWhy (ascii (r .body))) whys ≡ map (λ r. written (r .lines)) whys
-unfolding whys prefix ascii insideAny table37 following follow width decoded code next char formedFrom wellFormed whiteSpace before textCase textMove filled withEquals withBang withColon withClose fresh add documented spaced formatted outside fieldCase caseOf conversionMove fieldMove direct conversionOf fieldPieces selfDocumenting finished specified plainRun textN readBody touching covers item itemOf glue merge bothItems merged texts recordAt laid cover answerOf opening placeOf body refusal moved notEmpty notMany firstBad bad allGood total notLong formed illFormed allUtf8 anyOf firstStart notMixed firstOf entry refusalIn readLiteral andThen readFrom sortOf uMark lastEnd allChars answered read decimalN decimal escaped escapedText refusalLine reason signAt signsAt fieldRows piecesOf literalRows allRows rowed writtenEnd reasonEnd whyLine whyHere rowsLeft whyLines outcomeWhy bodyWhy
+unfolding whys prefix ascii insideAny table37 following follow width decoded code next char formedFrom wellFormed whiteSpace before more countFrom counted textCase textMove filled withEquals withBang withColon withClose fresh add documented spaced formatted outside fieldCase caseOf conversionMove openMove closeMove fieldMove direct conversionOf fieldPieces selfDocumenting finished specified plainRun textN readBody touching covers item itemOf glue merge bothItems merged texts recordAt laid cover answerOf opening placeOf body refusal moved notEmpty notMany firstBad bad allGood total notLong formed illFormed allUtf8 anyOf firstStart notMixed firstOf entry openedAt refusalIn readLiteral andThen readFrom sortOf uMark lastEnd allChars answered read decimalN decimal escaped escapedText refusalLine reason signAt signsAt fieldRows piecesOf literalRows allRows rowed writtenEnd reasonEnd whyLine whyHere rowsLeft whyLines outcomeWhy bodyWhy
 whys-written = refl

@@ -12,3 +12,7 @@ pub mod NamesShown
 pub mod NameTable
 pub mod CallTable
 pub mod NamedShown
+pub mod NameCalls
+pub mod NameRows
+pub mod NamesByPython
+pub mod NameLimits

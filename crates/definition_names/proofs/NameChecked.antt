@@ -10,12 +10,12 @@ use lib.ListN.{length, getD, length-map}
 use borrow.Author.Tests.{ltb-true, ltb-false}
 use Rattle.definition.specs.Chars.{same, noCode}
 use Rattle.definition_names.specs.Names.{isScalar, Entry, named, has, lookupIn, lookupOf, lookupFile, twice, byName, at, indexOf, nameOf, codeAt, entryOf, scalarAt, searched}
-use Rattle.definition_names.specs.IsIndex.{bit, count, Perm, isStart, IsIndex}
+use Rattle.definition_names.specs.IsIndex.{bit, count, Perm, isStart, IsIndex, StandsFor, ofLine, ofNone}
 use Rattle.definition.proofs.moves.CharLaws.{cases}
 use Rattle.definition_names.proofs.NameOrder.{never}
-use Rattle.definition_names.proofs.NameLists.{same?, count-later, count-none, count-at, stands}
-use Rattle.definition_names.proofs.NameIndex.{All, all-first, all-rest, all-map, Faithful, twice-false, distinct-twice, perm-byName, index-rises, index-unique, rising-distinct}
-use Rattle.definition_names.proofs.NameLookup.{byName-length, lookup-has, lookup-none}
+use Rattle.definition_names.proofs.NameLists.{same?, count-here, count-later, count-none, count-at, stands}
+use Rattle.definition_names.proofs.NameIndex.{All, all-first, all-rest, all-map, same-true, Faithful, twice-false, distinct-twice, perm-byName, index-rises, index-unique, rising-distinct}
+use Rattle.definition_names.proofs.NameLookup.{byName-length, distinct-inj, lookup-has, lookup-none}
 use Rattle.definition_names.proofs.NameSearch.{EntryIs, entry-is}
 use Rattle.definition_names.proofs.NameWalk.{Says, all-sound}
 
@@ -103,3 +103,45 @@ unfolding has lookupIn
 has-none [] n h = refl
 has-none (e ∷ es) n h =
     cases (same (e .name) n) (λ t. never (rw t at h) refl) (λ t. rw t (has-none es n (rw t at h)))
+
+-- a name among entries is that of a line
+line-of : (file : List ℕ) (es : List Entry) (n : List ℕ) → Faithful file es → has es n ≡ true → (p : ℕ) × (1 ≤ count p (map at es)) × (nameOf file p ≡ n)
+unfolding has
+line-of file [] n f h = never refl h
+line-of file (e ∷ es) n f h =
+    cases (same (e .name) n)
+    (λ t. (at e, (let c = count-here (at e) (at e) (map at es) refl in omega arith), all-first _ e es f ∙ same-true (e .name) n t))
+    (λ t. later (line-of file es n (all-rest _ e es f) (rw t at h)))
+  where
+    later : (p : ℕ) × (1 ≤ count p (map at es)) × (nameOf file p ≡ n) → (p : ℕ) × (1 ≤ count p (at e ∷ map at es)) × (nameOf file p ≡ n)
+    later (p, c, w) = (p, same? p (at e) (λ q. let d = count-here p (at e) (map at es) q in omega arith) (λ q. let d = count-later p (at e) (map at es) q in omega arith), w)
+
+-- WHAT A NAME STANDS FOR in a file whose names stand once
+module _ (file : List ℕ) (es : List Entry) (h : named file ≡ some es) (t : twice es ≡ false) (name : List ℕ) where
+  counted : (p : ℕ) → isStart file p ≡ true → 1 ≤ count p (map at es)
+  unfolding bit
+  counted p s = let c : count p (map at es) ≡ 1 = starts file es h p ∙ rw s refl in omega arith
+
+  started : (p : ℕ) → 1 ≤ count p (map at es) → isStart file p ≡ true
+  unfolding bit
+  started p c = cases (isStart file p) (λ s. s) (λ s. let d : count p (map at es) ≡ 0 = starts file es h p ∙ rw s refl in absurd (omega arith))
+
+  code-of : (p : ℕ) → 1 ≤ count p (map at es) → nameOf file p ≡ name → lookupIn es name ≡ codeAt file p
+  code-of = lookup-has file es name (faithful file es h) (codes file es h) (twice-false es t)
+
+  pub name-stands : StandsFor file name (lookupFile file name)
+  unfolding lookupOf
+  name-stands = rw h (cases (has es name) (λ y. there (line-of file es name (faithful file es h) y)) nowhere)
+    where
+      there : (p : ℕ) × (1 ≤ count p (map at es)) × (nameOf file p ≡ name) → StandsFor file name (lookupIn es name)
+      there (p, c, w) =
+          let k = code-of p c w in
+          ofLine p (started p c) w (λ q s v. distinct-inj file es (faithful file es h) (twice-false es t) q p (counted q s) c (v ∙ sym w)) k (rw k (scalar-there file es (says file es h) p c))
+
+      nowhere : has es name ≡ false → StandsFor file name (lookupIn es name)
+      nowhere n =
+          let z = has-none es name n in
+          ofNone (λ p s w.
+          let k : noCode ≡ codeAt file p = sym z ∙ code-of p (counted p s) w in
+          let y : isScalar noCode ≡ true = rw (sym k) at (scalar-there file es (says file es h) p (counted p s)) in
+          never refl y) z

@@ -57,7 +57,8 @@ files =
     -- 60 before 61, 61 before 62
     ∷ (built (lines ("0041;B" ∷ "0042;B" ∷ "43;C" ∷ [])) 0 gives (60 ∷ []) left [])
     ∷ (built (lines ("0041;B" ∷ "0042;B" ∷ [])) 1 gives (61 ∷ []) left (0 ∷ []))
-    -- 62
+    -- 62, and just enough room
+    ∷ (built (lines ("0041;B" ∷ "0042;C" ∷ [])) 2 gives (0 ∷ 2 ∷ []) left (0 ∷ 20 ∷ []))
     ∷ (built (lines ("0041;B" ∷ "0042;C" ∷ [])) 1 gives (62 ∷ []) left (0 ∷ []))
     -- the index
     ∷ (checked few (20 ∷ 63 ∷ 0 ∷ []) gives (0 ∷ 3 ∷ []) left [])

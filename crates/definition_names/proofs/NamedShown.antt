@@ -4,11 +4,12 @@ use mathlib.Core.Path.{_≡_, refl, sym, ap, ap₂, _∙_}
 use mathlib.Core.Bool.{Bool, true, false}
 use mathlib.Core.List.{List, [], _∷_, _++_}
 use mathlib.Core.Option.{Option, none, some}
-use Prim.Native.Nat.{ℕ, _≤_}
+use Prim.Native.Nat.{ℕ, _≤_, _<_}
 use native.Mathlib.Omega.{arith}
-use lib.Dec.{ltb, lit≤}
+use lib.Dec.{T, ltb, lit≤}
 use lib.ListN.{length}
-use Rattle.definition.specs.Numbers.{lineMalformed, nameTwice, wrongIndex}
+use borrow.Author.Tests.{lt-ltb}
+use Rattle.definition.specs.Numbers.{lineMalformed, nameTwice, wrongIndex, _among_}
 use Rattle.definition.specs.Chars.{if_then_else_, same}
 use Rattle.definition.specs.Records.{Answer}
 use Rattle.definition.specs.Entry.{Literal, sixes, Refusal, refusal, firstOf, entry}
@@ -25,28 +26,32 @@ use Rattle.definition_scripts.proofs.listing.CompleteLaw.{CompleteCall, fields-
 use Rattle.definition_scripts.proofs.listing.ListingOne.{Told, one-list, fields-told}
 use Rattle.definition_names.proofs.NamesShown.{searched-checked}
 
--- WHAT THE CHECK REFUSES has a number of 60 on, and nothing else
+-- WHAT THE CHECK REFUSES is 60, 61 or 63, and nothing else
+abbrev pub ofCheck : List ℕ
+ofCheck = 60 ∷ 61 ∷ 63 ∷ []
+
 pub record Plain (r : Refusal) : Type 0 where
   pub alone : r ≡ refusal (r .number) 0 0 0 0
   pub late : 60 ≤ r .number
+  pub which : T (r .number among ofCheck)
 
 pub check-plain : (file l : List ℕ) (r : Refusal) → check file l ≡ refuses r → Plain r
 unfolding check indexed refusal
 check-plain file l r h =
-    cases (tooLong file) (λ t. one wrongIndex (lit≤ tt) (rw t at h))
+    cases (tooLong file) (λ t. one wrongIndex (lit≤ tt) tt (rw t at h))
     (λ t. by (named file) (rw t at h))
   where
-    one : (n : ℕ) → 60 ≤ n → refuse n ≡ refuses r → Plain r
-    one n m e = let z : refusal n 0 0 0 0 ≡ r = cc in rw (← z) (record { alone = refl; late = m })
+    one : (n : ℕ) → 60 ≤ n → T (n among ofCheck) → refuse n ≡ refuses r → Plain r
+    one n m w e = let z : refusal n 0 0 0 0 ≡ r = cc in rw (← z) (record { alone = refl; late = m; which = w })
 
     by : (o : Option (List Entry)) → against l (indexed o) ≡ refuses r → Plain r
-    by none k = one lineMalformed (lit≤ tt) k
+    by none k = one lineMalformed (lit≤ tt) tt k
     by (some es) k =
-        cases (twice es) (λ t. one nameTwice (lit≤ tt) (rw t at k))
+        cases (twice es) (λ t. one nameTwice (lit≤ tt) tt (rw t at k))
         (λ t.
         let g = rw t at k in
         cases (same l (indexOf es)) (λ u. let f : _≡_ {A = Outcome (List ℕ)} (accepts (indexOf es)) (refuses r) = rw u at g in let z : _≡_ {A = ℕ} 0 1 = cc in absurd (omega arith))
-        (λ u. one wrongIndex (lit≤ tt) (rw u at g)))
+        (λ u. one wrongIndex (lit≤ tt) tt (rw u at g)))
 
 -- WHERE THE CHECK PASSES, the search is the file's lookup
 pub names-same : (file l m : List ℕ) → check file l ≡ accepts m → searched file l ≡ lookupFile file
@@ -78,13 +83,18 @@ unfolding namedNumbers readNumbers numbersBy namedInto readInto
 named-numbers file index script ns words text m h = go (sixes ns) refl
   where
     go : (o : Option (List Literal)) → sixes ns ≡ o → namedNumbers file index script ns words text ≡ readNumbers (searched file index) script ns words text
-    go none e = rw (e, namedNumbers, readNumbers, numbersBy, namedInto)
-    go (some ls) e = rw (e, namedNumbers, readNumbers, numbersBy, namedInto) (ap (λ o. called (roomed (length words) (length text) o) words text) (named-read file index script ls m h))
+    go none e = rw (e, namedNumbers, numbersBy, namedInto, readNumbers, numbersBy, namedInto)
+    go (some ls) e = rw (e, namedNumbers, numbersBy, namedInto, readNumbers, numbersBy, namedInto) (ap (λ o. called (roomed (length words) (length text) o) words text) (named-read file index script ls m h))
 
 -- and of every field of a script
 pub named-fields : (file index script buffer m : List ℕ) → check file index ≡ accepts m → fieldsNamedInto file index script buffer ≡ fieldsInto (searched file index) script buffer
 unfolding fieldsNamedInto fieldsNamedOf fieldsInto fieldsOf ofNames
 named-fields file index script buffer m h = cases (ltb 1048576 (length script)) (λ t. rw (t, fieldsNamedOf, fieldsOf)) (λ t. rw (t, h, fieldsNamedOf, ofNames) (ap (λ f. fieldsInto f script buffer) (sym (names-same file index m h))))
+
+-- 49 before the check, whatever file and index are lent
+pub named-long : (file index script : List ℕ) (room : ℕ) → 1048576 < length script → fieldsNumbers (fieldsNamedOf file index script room) ≡ 49 ∷ []
+unfolding fieldsNamedOf fieldsNumbers
+named-long file index script room h = rw (lt-ltb 1048576 (length script) h, fieldsNamedOf)
 
 -- DEMAND 3 with a file, with room for anything: two runs, each not empty, that together pass the entry checks
 pub named-join : (file index script : List ℕ) (x : Literal) (xs : List Literal) (y : Literal) (ys : List Literal) → entry script ((x ∷ xs) ++ (y ∷ ys)) ≡ none
@@ -125,7 +135,7 @@ named-numbers-join file index script ns ms x xs y ys w t w₁ t₁ w₂ t₂ p q
     (sym (named-of file index script ms w₂ t₂ (y ∷ ys) q))
 
 -- TWO CALLS for every field, with a file, that return the same numbers and leave the same rows have one list
-of-plain : (file index : List ℕ) (r : Refusal) → ofNames file index ≡ some r → Plain r
+pub of-plain : (file index : List ℕ) (r : Refusal) → ofNames file index ≡ some r → Plain r
 unfolding ofNames
 of-plain file index r h = go (check file index) refl
   where
@@ -133,7 +143,7 @@ of-plain file index r h = go (check file index) refl
     go (accepts l) e = let y : _≡_ {A = Option Refusal} none (some r) = rw (e, ofNames) at h in let z : _≡_ {A = ℕ} 0 1 = cc in absurd (omega arith)
     go (refuses q) e = let y : some q ≡ some r = rw (e, ofNames) at h in let z : q ≡ r = cc in check-plain file index r (e ∙ ap refuses z)
 
-named-told : (file index s : List ℕ) (room : ℕ) → Told (fieldsNamedOf file index s room)
+pub named-told : (file index s : List ℕ) (room : ℕ) → Told (fieldsNamedOf file index s room)
 unfolding fieldsNamedOf
 named-told file index s room = go (ltb 1048576 (length s)) (ofNames file index) refl
   where

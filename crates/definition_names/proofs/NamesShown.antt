@@ -11,10 +11,10 @@ use Rattle.definition.specs.Chars.{if_then_else_, same, noCode}
 use Rattle.definition.specs.Entry.{Refusal}
 use Rattle.definition.specs.Reading.{Outcome, accepts, refuses}
 use Rattle.definition_names.specs.Names.{isScalar, Entry, named, has, lookupOf, lookupFile, twice, indexOf, indexed, tooLong, inRoom, against, build, check, codeAt, entryOf, scalarAt, searched}
-use Rattle.definition_names.specs.IsIndex.{IsIndex}
+use Rattle.definition_names.specs.IsIndex.{IsIndex, StandsFor}
 use Rattle.definition.proofs.moves.CharLaws.{cases}
 use Rattle.definition_names.proofs.NameIndex.{same-true, same-refl}
-use Rattle.definition_names.proofs.NameChecked.{scalars, index-is, index-only, searched-right, has-code, has-none}
+use Rattle.definition_names.proofs.NameChecked.{scalars, index-is, index-only, searched-right, has-code, has-none, name-stands}
 
 never : {P A : Type 0} (r : Refusal) (x : A) → _≡_ {A = Outcome A} (refuses r) (accepts x) → P
 never r x e = let z : _≡_ {A = ℕ} 0 1 = cc in absurd (omega arith)
@@ -72,6 +72,11 @@ built-checked file room l h =
 pub searched-checked : (file l m : List ℕ) → check file l ≡ accepts m → (name : List ℕ) → searched file l name ≡ lookupFile file name
 searched-checked file l m h name =
     let r = passed file l m h in rw (r .right) (searched-right file (r .names) (r .is) (r .once) name)
+
+-- a name is found exactly if a line of the file's bytes has it, and its code is that line's
+pub searched-stands : (file l m : List ℕ) → check file l ≡ accepts m → (name : List ℕ) → StandsFor file name (searched file l name)
+searched-stands file l m h name =
+    let r = passed file l m h in rw (searched-checked file l m h name) (name-stands file (r .names) (r .is) (r .once) name)
 
 module _ (file : List ℕ) (es : List Entry) (h : named file ≡ some es) (name : List ℕ) where
   pub lookup-has : has es name ≡ true → isScalar (lookupFile file name) ≡ true

@@ -1,12 +1,12 @@
--- WHAT THE INDEX OF A FILE OF NAMES IS, without a word of how it is made.
+-- WHAT THE INDEX OF A FILE OF NAMES IS, without a word of how it is made, and what a name stands for.
 use Prim.Native.Nat.{ℕ, zero, suc, _+_, _<_}
 use mathlib.Core.Path.{_≡_}
 use mathlib.Core.Bool.{Bool, true, false, _&&_, not}
 use mathlib.Core.List.{List, [], _∷_}
 use lib.Dec.{ltb, eqb}
 use lib.ListN.{length, getD}
-use Rattle.definition.specs.Chars.{byte}
-use Rattle.definition_names.specs.Names.{atMost, nameAt, nameOf}
+use Rattle.definition.specs.Chars.{byte, noCode}
+use Rattle.definition_names.specs.Names.{isScalar, atMost, nameAt, nameOf, codeAt}
 
 -- how often x stands in a list
 unfoldable pub bit : Bool → ℕ
@@ -41,3 +41,9 @@ inOrder file p q = atMost (nameOf file p) (nameOf file q)
 pub record IsIndex (file l : List ℕ) : Type 0 where
   pub once : (p : ℕ) → count p l ≡ bit (isStart file p)
   pub rises : Rising (inOrder file) l
+
+-- WHAT A NAME STANDS FOR by a file's lines: the code of the one line that has it, a scalar; or no code if none has it
+pub data StandsFor (file name : List ℕ) (code : ℕ) : Type 0 where
+  ofLine : (p : ℕ) → isStart file p ≡ true → nameOf file p ≡ name → ((q : ℕ) → isStart file q ≡ true → nameOf file q ≡ name → q ≡ p) → code ≡ codeAt file p → isScalar code ≡ true
+      → StandsFor file name code
+  ofNone : ((p : ℕ) → isStart file p ≡ true → nameOf file p ≡ name → ⊥) → code ≡ noCode → StandsFor file name code

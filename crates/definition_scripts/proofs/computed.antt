@@ -1,3 +1,6 @@
 pub mod ListShown
 pub mod CutShown
 pub mod ListingShown
+pub mod LiteralRows
+pub mod LiteralsByPython
+pub mod LongScripts

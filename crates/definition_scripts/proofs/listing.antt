@@ -10,3 +10,4 @@ pub mod CompleteLaw
 pub mod ListingSteps
 pub mod RunRows
 pub mod ListingOne
+pub mod CompleteOne

@@ -1,4 +1,5 @@
--- WHAT IT MEANS THAT A LIST OF ROWS IS COMPLETE FOR A SCRIPT, without a word of how it is made.
+-- WHAT IT MEANS THAT A LIST OF ROWS IS COMPLETE FOR A SCRIPT, without a word of how it is made: it uses the reading of one literal and its rows, what a cut is,
+-- and of Listing only what a row is and where a field's source ends.
 use Prim.Native.Nat.{ℕ, suc, _+_, _-_, _≤_, _<_}
 use mathlib.Core.Path.{_≡_}
 use mathlib.Core.Bool.{Bool, true, false, not}
@@ -11,18 +12,19 @@ use Rattle.definition.specs.Escapes.{Naming}
 use Rattle.definition.specs.Records.{Answer}
 use Rattle.definition.specs.Entry.{Literal}
 use Rattle.definition.specs.Reading.{accepts, read}
-use Rattle.definition.specs.Rows.{reason, Row, literalRows, rowField, recordFields}
+use Rattle.definition.specs.Rows.{reason, Row, literalRows, rowField, recordFields, rowSpec, recordSpecs}
 use Rattle.definition_scripts.specs.Opening.{opens, isSign}
 use Rattle.definition_scripts.specs.IsRun.{bodyEnd}
 use Rattle.definition_scripts.specs.IsCut.{reachesEnd, IsCut, EachLiteral}
 use Rattle.definition_scripts.specs.Listing.{ListRow, ofField, sourceEnd}
 
--- THE ROWS OF LITERALS in order: each f-string is accepted alone, and its rows have the fields of its answer, in record order; no other literal is read
+-- THE ROWS OF LITERALS in order: each f-string is accepted alone, and its rows have the fields of its answer, in record order, a `:` exactly if there is a spec,
+-- and between it and the `}` that spec's text where no field stands in it; no other literal is read
 pub data Fielded (look : Naming) (s : List ℕ) (within : ℕ) : List Literal → List ListRow → Type 0 where
   none : Fielded look s within [] []
   other : {l : Literal} {ls : List Literal} {rows : List ListRow} → isFString (l .kind) ≡ false → Fielded look s within ls rows → Fielded look s within (l ∷ ls) rows
   fstring : {l : Literal} {ls : List Literal} {rows : List ListRow} → (answer : Answer) → read look s (l ∷ []) ≡ accepts answer
-      → map rowField (literalRows look s l) ≡ recordFields (answer .records) → Fielded look s within ls rows → Fielded look s within (l ∷ ls) (map (ofField within) (literalRows look s l) ++ rows)
+      → map rowField (literalRows look s l) ≡ recordFields (answer .records) → map (rowSpec s) (literalRows look s l) ≡ recordSpecs (answer .text) (answer .records) → Fielded look s within ls rows → Fielded look s within (l ∷ ls) (map (ofField within) (literalRows look s l) ++ rows)
 
 -- A PART OF A SCRIPT from `from` up to `end` is cut to its end, and these are the rows of its literals
 pub record Covered (look : Naming) (s : List ℕ) (within from end : ℕ) (rows : List ListRow) : Type 0 where

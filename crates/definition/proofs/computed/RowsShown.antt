@@ -10,9 +10,9 @@ use Rattle.definition.specs.Counts.{more, countFrom, counted}
 use Rattle.definition.specs.Escapes.{Naming, octalDigit, octalFrom, hexDigit, scalar, hexFrom, lookup, named, unicodeName, escapeCase, escape, encode, meant}
 use Rattle.definition.specs.Body.{withEscape, stringCase, stringMove, stringN, textCase, textMove, filled, withEquals, withBang, withColon, withClose, fresh, add, documented, spaced, formatted, outside, fieldCase, caseOf, conversionMove, openMove, closeMove, quoteMove, fieldMove, direct, conversionOf, fieldPieces, selfDocumenting, finished, specified, plainRun, textN, alone, readBody}
 use Rattle.definition.specs.Records.{touching, covers, item, itemOf, glue, merge, bothItems, merged, texts, recordAt, laid, cover, answerOf}
-use Rattle.definition.specs.Entry.{sixes, oneMore, opening, placeOf, body, refusal, moved, notEmpty, notMany, firstBad, bad, allGood, total, notLong, formed, illFormed, allUtf8, anyOf, firstStart, notMixed, firstOf, entry}
+use Rattle.definition.specs.Entry.{Literal, sixes, oneMore, opening, placeOf, body, refusal, moved, notEmpty, notMany, firstBad, bad, allGood, total, notLong, formed, illFormed, allUtf8, anyOf, firstStart, notMixed, firstOf, entry}
 use Rattle.definition.specs.Reading.{openedAt, refusalIn, readLiteral, andThen, readFrom, sortOf, uMark, lastEnd, allChars, answered, read, outcomeOf, shortOf, roomFor, sortNumber, numbers}
-use Rattle.definition.specs.Rows.{reason, rowNumbers, signAt, signsAt, fieldRows, piecesOf, literalRows, allRows, allNumbers, rowed, roomedRows, rowsAfter, calledRows, signsInto, signsNumbers, rowedNumbers}
+use Rattle.definition.specs.Rows.{reason, rowNumbers, signAt, signsAt, fieldRows, piecesOf, literalRows, allRows, allNumbers, rowed, roomedRows, rowsAfter, calledRows, signsInto, signsNumbers, rowedNumbers, absent, verbatim, nested, braced, writtenSpec, rowSpec}
 
 -- the answer's numbers and the row buffer, which held so many nines
 abbrev asked : (look : Naming) → String → List ℕ → ℕ → List ℕ × List ℕ
@@ -49,3 +49,15 @@ signings look =
 pub signings-read : (look : Naming) → map (λ r. r .asks) (signings look) ≡ map (λ r. r .is) (signings look)
 unfolding signings prefix ascii insideAny table37 following follow width decoded code next char formedFrom wellFormed utf8 whiteSpace before same more countFrom counted octalDigit octalFrom hexDigit scalar hexFrom lookup named unicodeName escapeCase escape encode meant withEscape stringCase stringMove stringN textCase textMove filled withEquals withBang withColon withClose fresh add documented spaced formatted outside fieldCase caseOf conversionMove openMove closeMove quoteMove fieldMove direct conversionOf fieldPieces selfDocumenting finished specified plainRun textN alone readBody touching covers item itemOf glue merge bothItems merged texts recordAt laid cover answerOf sixes oneMore opening placeOf body refusal moved notEmpty notMany firstBad bad allGood total notLong formed illFormed allUtf8 anyOf firstStart notMixed firstOf entry openedAt refusalIn readLiteral andThen readFrom sortOf uMark lastEnd allChars answered read outcomeOf shortOf roomFor sortNumber numbers reason rowNumbers signAt signsAt fieldRows piecesOf literalRows allRows allNumbers rowed roomedRows rowsAfter calledRows signsInto signsNumbers rowedNumbers
 signings-read look = refl
+
+-- THE SPECS of a literal as they are written: a rounding one, none, an empty one, one with a field, that field's, and an escape as it stands
+abbrev pub script : List ℕ
+unfolding ascii
+script = ascii "f'{743 / 12.5:.0f}{a}{b:}{c:{d}}{e:\\n}'"
+
+abbrev pub whole : Literal
+whole = record { kind = 1; triple = 0; offset = 2; size = 36; start = 0; end = 39 }
+
+pub specs-written : (look : Naming) → map (rowSpec script) (literalRows look script whole) ≡ verbatim (ascii ".0f") ∷ absent ∷ verbatim [] ∷ nested ∷ absent ∷ verbatim (ascii "\\n") ∷ []
+unfolding prefix ascii insideAny table37 following follow width decoded code next char formedFrom wellFormed utf8 whiteSpace before same more countFrom counted octalDigit octalFrom hexDigit scalar hexFrom lookup named unicodeName escapeCase escape encode meant withEscape stringCase stringMove stringN textCase textMove filled withEquals withBang withColon withClose fresh add documented spaced formatted outside fieldCase caseOf conversionMove openMove closeMove quoteMove fieldMove direct conversionOf fieldPieces selfDocumenting finished specified plainRun textN alone readBody touching covers item itemOf glue merge bothItems merged texts recordAt laid cover answerOf opening placeOf body refusal moved notEmpty notMany firstBad bad allGood total notLong formed illFormed allUtf8 anyOf firstStart notMixed firstOf entry openedAt refusalIn readLiteral andThen readFrom sortOf uMark lastEnd allChars answered read outcomeOf shortOf roomFor sortNumber numbers signAt signsAt fieldRows piecesOf literalRows writtenSpec braced
+specs-written look = refl

@@ -3,7 +3,7 @@ use mathlib.Core.Path.{_≡_, refl, sym, _∙_, ap}
 use mathlib.Core.Bool.{true}
 use mathlib.Core.List.{List, _++_}
 use mathlib.Core.Option.{Option, none, some}
-use Prim.Native.Nat.{ℕ, _*_}
+use Prim.Native.Nat.{ℕ, _*_, _≤_}
 use native.Mathlib.Omega.{arith}
 use lib.ListN.{length, drop, length-append}
 use borrow.Author.Tests.{le-leb}
@@ -13,7 +13,8 @@ use Rattle.definition.specs.Records.{Answer}
 use Rattle.definition.specs.Entry.{Literal, sixes, Refusal, refusal}
 use Rattle.definition.specs.Reading.{Outcome, accepts, refuses, read, allWords, wordsAfter, textAfter, numbers, Call, called, readInto, readNumbers, numbersBy}
 use Rattle.definition.specs.Words.{word, answerFrom, lie, heldFrom, recordsWellFormed, assured}
-use Rattle.definition.proofs.outcomes.Outcomes.{Listed, Sane, all-words, into-sane, numbers-sane}
+use Rattle.definition.proofs.outcomes.Outcomes.{all-words}
+use Rattle.definition.proofs.outcomes.Leaving.{Nonzero, into-nonzero, numbers-nonzero}
 use Rattle.definition.proofs.outcomes.Room.{roomed-accepts}
 use Rattle.definition.proofs.formed.WellFormed.{well-formed, answer-back, all-assured}
 
@@ -82,11 +83,11 @@ unfolding numbers
 same-refusal r r′ h = λ i. record { number = h 0 i; literal = h 1 i; place = h 2 i; a = h 3 i; b = h 4 i; opened = h 5 i; line = h 6 i; column = h 7 i; chars = h 8 i }
 
 -- no refusal has an acceptance's 0
-differ : {P : Type 0} (x : Answer) (r : Refusal) → Listed r → word (numbers (accepts x)) 0 ≡ word (numbers (refuses r)) 0 → P
+differ : {P : Type 0} (x : Answer) (r : Refusal) → 1 ≤ r .number → word (numbers (accepts x)) 0 ≡ word (numbers (refuses r)) 0 → P
 unfolding numbers
-differ x r h e = absurd (rw (← e) at h)
+differ x r h e = absurd (omega arith)
 
-one-outcome : (c c′ : Call) → Held c → Held c′ → Sane (c .outcome) → Sane (c′ .outcome) → Alike c c′ → c .outcome ≡ c′ .outcome
+pub one-outcome : (c c′ : Call) → Held c → Held c′ → Nonzero (c .outcome) → Nonzero (c′ .outcome) → Alike c c′ → c .outcome ≡ c′ .outcome
 unfolding heldFrom
 one-outcome c c′ h h′ s s′ (n, w, t) = go (c .outcome) refl (c′ .outcome) refl
   where
@@ -106,10 +107,10 @@ one-outcome c c′ h h′ s s′ (n, w, t) = go (c .outcome) refl (c′ .outcome
 pub numbers-one : (look look′ : Naming) (script ns words text script′ ns′ words′ text′ : List ℕ) → Alike (readNumbers look script ns words text) (readNumbers look′ script′ ns′ words′ text′)
     → readNumbers look script ns words text .outcome ≡ readNumbers look′ script′ ns′ words′ text′ .outcome
 numbers-one look look′ script ns words text script′ ns′ words′ text′ =
-    one-outcome (readNumbers look script ns words text) (readNumbers look′ script′ ns′ words′ text′) (numbers-held look script ns words text) (numbers-held look′ script′ ns′ words′ text′) (numbers-sane look script ns words text) (numbers-sane look′ script′ ns′ words′ text′)
+    one-outcome (readNumbers look script ns words text) (readNumbers look′ script′ ns′ words′ text′) (numbers-held look script ns words text) (numbers-held look′ script′ ns′ words′ text′) (numbers-nonzero look script ns words text) (numbers-nonzero look′ script′ ns′ words′ text′)
 
 -- of descriptors
 pub into-one : (look look′ : Naming) (script : List ℕ) (ls : List Literal) (words text script′ : List ℕ) (ls′ : List Literal) (words′ text′ : List ℕ)
     → Alike (readInto look script ls words text) (readInto look′ script′ ls′ words′ text′) → readInto look script ls words text .outcome ≡ readInto look′ script′ ls′ words′ text′ .outcome
 into-one look look′ script ls words text script′ ls′ words′ text′ =
-    one-outcome (readInto look script ls words text) (readInto look′ script′ ls′ words′ text′) (into-held look script ls words text) (into-held look′ script′ ls′ words′ text′) (into-sane look script ls words text) (into-sane look′ script′ ls′ words′ text′)
+    one-outcome (readInto look script ls words text) (readInto look′ script′ ls′ words′ text′) (into-held look script ls words text) (into-held look′ script′ ls′ words′ text′) (into-nonzero look script ls words text) (into-nonzero look′ script′ ls′ words′ text′)

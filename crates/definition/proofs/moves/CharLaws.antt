@@ -74,7 +74,7 @@ Each Q k (row ∷ rows) = Q k row × Each Q (suc k) rows
 -- the character at i by its row
 module _ (s : List ℕ) (i : ℕ) where
   -- the bytes from i + n on lie in the ranges
-  abbrev Within : List Range → ℕ → Type 0
+  abbrev pub Within : List Range → ℕ → Type 0
   Within [] n = Unit {0}
   Within ((low to high) ∷ rs) n = (low ≤ byte s (i + n)) × (byte s (i + n) ≤ high) × Within rs (n + 1)
 
@@ -90,7 +90,7 @@ module _ (s : List ℕ) (i : ℕ) where
 
   module _ (P : ℕ → Type 0) (none-is : P 0) where
     -- what the characters of a row have
-    abbrev Of : ℕ → Range × List Range → Type 0
+    abbrev pub Of : ℕ → Range × List Range → Type 0
     Of j (low to high, rs) = low ≤ byte s i → byte s i ≤ high → Within rs 1 → P (suc (length rs))
 
     by-rows : (k : ℕ) (rows : List (Range × List Range)) → Each Of k rows → P (elim (following rows (byte s i)) [ none ↦ 0 | some rs ↦ if follow rs s (i + 1) then suc (length rs) else 0 ])
@@ -105,7 +105,7 @@ module _ (s : List ℕ) (i : ℕ) where
         (λ t. rw t (by-rows (suc k) rows (e .1)))
 
     -- what holds of none, and of the characters of each row, holds of the one at i
-    by-row : Each Of 1 table37 → P (width s i)
+    pub by-row : Each Of 1 table37 → P (width s i)
     unfolding width
     by-row e = by-rows 1 table37 e
 

@@ -3,18 +3,17 @@ use mathlib.Core.Path.{_≡_, refl}
 use mathlib.Core.Bool.{Bool, true, false, _&&_, not}
 use mathlib.Core.List.{List, [], _∷_, map}
 use mathlib.Core.Option.{Option, none, some}
-use Prim.Native.Nat.{ℕ, suc, _+_, _*_, _/_, _≤_}
+use Prim.Native.Nat.{ℕ, suc, _+_, _*_, _/_}
 use native.Mathlib.Omega.{arith}
 use lib.Dec.{T, ltb, leb}
-use lib.ListN.{length, drop, length-append, length-drop, length-replicate}
-use borrow.Author.Tests.{ltb-false}
+use lib.ListN.{length, length-append}
 use Rattle.definition.specs.Numbers.{isBytes, emptyList, refusals, _among_, ofEntry, tooManyLiterals, badDescriptor, bodiesTooLong, notUtf8, mixedBytes, detailed}
 use Rattle.definition.specs.Chars.{if_then_else_}
 use Rattle.definition.specs.Escapes.{Naming, Read, got, refused}
 use Rattle.definition.specs.Body.{Piece, readBody}
 use Rattle.definition.specs.Records.{Item, Record, wordsOf, merged, texts, recordAt, laid, cover, Answer, answerOf}
 use Rattle.definition.specs.Entry.{Literal, sixes, placeOf, body, Refusal, refusal, moved, notEmpty, notMany, firstBad, bad, allGood, total, notLong, formed, illFormed, allUtf8, anyOf, firstStart, notMixed, firstOf, entry}
-use Rattle.definition.specs.Reading.{Outcome, accepts, refuses, refusalIn, readLiteral, andThen, readFrom, uMark, lastEnd, answered, read, outcomeOf, shortOf, roomFor, roomed, allWords, inFront, wordsAfter, textAfter, Call, called, readInto, readNumbers, numbersBy}
+use Rattle.definition.specs.Reading.{Outcome, accepts, refuses, refusalIn, readLiteral, andThen, readFrom, uMark, lastEnd, answered, read, outcomeOf, shortOf, roomFor, roomed, allWords, called, readInto, readNumbers, numbersBy}
 use Rattle.definition.proofs.moves.Moves.{OfBody, Sound}
 use Rattle.definition.proofs.moves.Fuel.{body-reading}
 
@@ -215,43 +214,8 @@ numbers-sane look script ns words text = go (sixes ns) refl
     go none e = rw (e, readNumbers, numbersBy) tt
     go (some ls) e = rw (e, readNumbers, numbersBy) (into-sane look script ls words text)
 
--- BOTH BUFFERS KEEP THEIR LENGTHS
-abbrev pub Kept : List ℕ → List ℕ → Call → Type 0
-Kept words text c = (length (c .words) ≡ length words) × (length (c .text) ≡ length text)
-
+-- EIGHT WORDS A RECORD
 pub all-words : (rs : List Record) → length (allWords rs) ≡ length rs * 8
 unfolding allWords wordsOf
 all-words [] = refl
 all-words (r ∷ rs) = omega (arith, all-words rs)
-
-in-front : (xs buffer : List ℕ) → length xs ≤ length buffer → length (inFront xs buffer) ≡ length buffer
-in-front xs buffer h = omega (arith, length-append xs (drop (length xs) buffer), length-drop (length xs) buffer)
-
-called-kept : (o : Outcome Answer) (words text : List ℕ) → Kept words text (called (roomed (length words) (length text) o) words text)
-unfolding called outcomeOf roomFor roomed wordsAfter textAfter
-called-kept (refuses r) words text = (length-replicate (length words) 0, length-replicate (length text) 0)
-called-kept (accepts x) words text = go (ltb (length words / 8) (length (x .records))) refl (ltb (length text) (length (x .text))) refl
-  where
-    o : Outcome Answer
-    o = roomed (length words) (length text) (accepts x)
-
-    go : (a : Bool) → ltb (length words / 8) (length (x .records)) ≡ a → (b : Bool) → ltb (length text) (length (x .text)) ≡ b
-        → (length (wordsAfter o words) ≡ length words) × (length (textAfter o text) ≡ length text)
-    go true p b q = rw p (length-replicate (length words) 0, length-replicate (length text) 0)
-    go false p true q = rw (p, q) (length-replicate (length words) 0, length-replicate (length text) 0)
-    go false p false q =
-        let n = ltb-false (length words / 8) (length (x .records)) p in
-        let m = ltb-false (length text) (length (x .text)) q in
-        rw (p, q) (in-front (allWords (x .records)) words (omega (arith, all-words (x .records))), in-front (x .text) text m)
-
-pub into-kept : (look : Naming) → (script : List ℕ) (ls : List Literal) (words text : List ℕ) → Kept words text (readInto look script ls words text)
-unfolding readInto
-into-kept look script ls words text = called-kept (read look script ls) words text
-
-pub numbers-kept : (look : Naming) → (script ns words text : List ℕ) → Kept words text (readNumbers look script ns words text)
-unfolding readNumbers numbersBy called wordsAfter textAfter
-numbers-kept look script ns words text = go (sixes ns) refl
-  where
-    go : (o : Option (List Literal)) → sixes ns ≡ o → Kept words text (readNumbers look script ns words text)
-    go none e = rw (e, readNumbers, numbersBy) (length-replicate (length words) 0, length-replicate (length text) 0)
-    go (some ls) e = rw (e, readNumbers, numbersBy) (into-kept look script ls words text)

@@ -5,6 +5,7 @@ use mathlib.Core.List.{List, [], _∷_, _++_, map}
 use mathlib.Core.Option.{Option, none, some}
 use Prim.Native.Nat.{ℕ, zero, suc, _+_}
 use native.Mathlib.Omega.{arith}
+use borrow.Author.Tests.{ne-eqb}
 use lib.Dec.{eqb}
 use lib.ListN.{length}
 use Rattle.definition.specs.Numbers.{isFString, isBytes}
@@ -14,14 +15,15 @@ use Rattle.definition.specs.Body.{Piece, literal, field, spec, stringN, 
 use Rattle.definition.specs.Records.{Role, top, raw, inner, touching, covers, Item, item, itemOf, glue, merge, bothItems, merged, recordAt, laid, cover, Answer, answerOf}
 use Rattle.definition.specs.Entry.{Literal, placeOf, body, Refusal, firstStart, entry}
 use Rattle.definition.specs.Reading.{Outcome, accepts, refuses, allChars, refusalIn, readLiteral, andThen, readFrom, sortOf, uMark, lastEnd, answered, read}
-use Rattle.definition.specs.Rows.{Row, fieldRows, piecesOf, literalRows, allRows, rowField, recordFields}
+use Rattle.definition.specs.Rows.{Row, signAt, signsAt, fieldRows, piecesOf, literalRows, allRows, rowField, recordFields}
 use Rattle.definition.proofs.moves.CharLaws.{no}
 use Rattle.definition.proofs.join.Seam.{glue-true, glue-false}
 use Rattle.definition.proofs.join.Laid.{itemRole}
+use Rattle.definition.proofs.rows.SpecLaws.{Spelt, parts-by-colon, body-spelt}
 
 -- the same of items
 abbrev itemField : Item → List (List ℕ) → List (List ℕ)
-itemField x r = if eqb (x .kind) 2 then (x .start ∷ x .place ∷ length (x .text) ∷ x .mode ∷ []) ∷ r else r
+itemField x r = if eqb (x .kind) 2 then (x .start ∷ x .place ∷ length (x .text) ∷ x .mode ∷ x .parts ∷ []) ∷ r else r
 
 abbrev itemFields : List Item → List (List ℕ)
 itemFields [] = []
@@ -99,25 +101,32 @@ module _ (kind start end base : ℕ) where
   piece-apart (field d e c n i g) = λ e. no e
   piece-apart (spec n) = λ e. refl
 
-  pieces-same : (ps : List Piece) → Same (map of ps) (fieldRows start base ps)
-  unfolding fieldRows itemOf item rowField
-  pieces-same [] = (tt, refl)
-  pieces-same (literal zero t ∷ ps) = let h = pieces-same ps in ((piece-apart (literal zero t), h .0), go (h .1) (isBytes kind) refl)
+  same-colon : (j : ℕ) → eqb (signAt base j) 0 ≡ eqb j 0
+  unfolding signAt
+  same-colon zero = refl
+  same-colon (suc j) = ne-eqb (base + suc j) 0 (λ e. omega arith) ∙ sym (ne-eqb (suc j) 0 (λ e. omega arith))
+
+  pieces-same : (b : List ℕ) (ps : List Piece) → Spelt b ps → Same (map of ps) (fieldRows start base ps)
+  unfolding fieldRows itemOf item rowField signsAt
+  pieces-same b [] s = (tt, refl)
+  pieces-same b (literal zero t ∷ ps) s = let h = pieces-same b ps s in ((piece-apart (literal zero t), h .0), go (h .1) (isBytes kind) refl)
     where
       go : itemFields (map of ps) ≡ map rowField (fieldRows start base ps) → (b : Bool) → isBytes kind ≡ b → itemFields (map of (literal zero t ∷ ps)) ≡ map rowField (fieldRows start base ps)
       go ih true e = rw e ih
       go ih false e = rw e ih
-  pieces-same (literal (suc d) t ∷ ps) = let h = pieces-same ps in ((piece-apart (literal (suc d) t), h .0), h .1)
-  pieces-same (field d e c n i g ∷ ps) =
-      let h = pieces-same ps in ((piece-apart (field d e c n i g), h .0), ap (λ r. (start ∷ (base + i) ∷ length e ∷ c ∷ []) ∷ r) (h .1))
-  pieces-same (spec n ∷ ps) = let h = pieces-same ps in ((piece-apart (spec n), h .0), h .1)
+  pieces-same b (literal (suc d) t ∷ ps) s = let h = pieces-same b ps s in ((piece-apart (literal (suc d) t), h .0), h .1)
+  pieces-same b (field d e c n i g ∷ ps) s =
+      let h = pieces-same b ps (s .1) in
+      let k : n ≡ (if eqb (signAt base (g .colon)) 0 then 0 else 1) = rw (same-colon (g .colon)) (parts-by-colon b g (s .0)) in
+      ((piece-apart (field d e c n i g), h .0), ap₂ (λ m r. (start ∷ (base + i) ∷ length e ∷ c ∷ m ∷ []) ∷ r) k (h .1))
+  pieces-same b (spec n ∷ ps) s = let h = pieces-same b ps s in ((piece-apart (spec n), h .0), h .1)
 
 items-append : (xs ys : List Item) → itemFields (xs ++ ys) ≡ itemFields xs ++ itemFields ys
 items-append [] ys = refl
 items-append (x ∷ xs) ys = go (items-append xs ys) (eqb (x .kind) 2) refl
   where
     go : itemFields (xs ++ ys) ≡ itemFields xs ++ itemFields ys → (t : Bool) → eqb (x .kind) 2 ≡ t → itemFields (x ∷ xs ++ ys) ≡ itemFields (x ∷ xs) ++ itemFields ys
-    go ih true t = rw t (ap (λ r. (x .start ∷ x .place ∷ length (x .text) ∷ x .mode ∷ []) ∷ r) ih)
+    go ih true t = rw t (ap (λ r. (x .start ∷ x .place ∷ length (x .text) ∷ x .mode ∷ x .parts ∷ []) ∷ r) ih)
     go ih false t = rw t ih
 
 apart-append : (xs ys : List Item) → AllApart xs → AllApart ys → AllApart (xs ++ ys)
@@ -133,7 +142,7 @@ both-same xs ys ps qs h k =
     (apart-append xs ys (h .0) (k .0), items-append xs ys ∙ ap₂ (λ a b. a ++ b) (h .1) (k .1) ∙ sym (rows-append ps qs))
 
 -- an outcome is one or the other
-never : {P A : Type 0} (r : Refusal) (x : A) → _≡_ {A = Outcome A} (refuses r) (accepts x) → P
+pub never : {P A : Type 0} (r : Refusal) (x : A) → _≡_ {A = Outcome A} (refuses r) (accepts x) → P
 never r x e = let z : _≡_ {A = ℕ} 0 1 = cc in absurd (omega arith)
 
 module _ (look : Naming) (s : List ℕ) where
@@ -145,10 +154,10 @@ module _ (look : Naming) (s : List ℕ) where
       go (got ps j) f =
           let g : _≡_ {A = Outcome (List Item)} (accepts (map (itemOf (l .kind) (l .start) (l .end) (placeOf l 0)) ps)) (accepts xs) = rw (f, readLiteral) at e in
           let h : xs ≡ map (itemOf (l .kind) (l .start) (l .end) (placeOf l 0)) ps = cc in
-          rw (h, f) (pieces-same (l .kind) (l .start) (l .end) (placeOf l 0) ps)
+          rw (h, f) (pieces-same (l .kind) (l .start) (l .end) (placeOf l 0) (body s l) ps (body-spelt look (l .kind) (body s l) ps j f))
       go (refused x) f = never (refusalIn s i l x) xs (rw (f, readLiteral) at e)
 
-  then-accepts : {P : Type 0} (o p : Outcome (List Item)) (xs : List Item) → andThen o p ≡ accepts xs
+  pub then-accepts : {P : Type 0} (o p : Outcome (List Item)) (xs : List Item) → andThen o p ≡ accepts xs
       → ((ys zs : List Item) → o ≡ accepts ys → p ≡ accepts zs → xs ≡ ys ++ zs → P) → P
   unfolding andThen
   then-accepts (refuses r) p xs e f = never r xs e

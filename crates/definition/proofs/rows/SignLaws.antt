@@ -13,11 +13,11 @@ use lib.Seq.{getD-drop}
 use Rattle.definition.specs.Numbers.{isFString, emptyExpression}
 use Rattle.definition.specs.Chars.{if_then_else_, _is_, byte, part, atEnd, code, next, char, before}
 use Rattle.definition.specs.Escapes.{Naming, Fault, fault, Read, got, refused, Meaning, escape}
-use Rattle.definition.specs.Body.{Signs, Piece, literal, field, spec, Bracket, Move, goes, stops, calls, ends, withEscape, TextCase, deep, opens, last, doubled, lone, textCase, textMove, filled, Field, state, withEquals, withBang, withColon, withClose, fresh, add, documented, spaced, formatted, FieldCase, pair, converts, documents, formats, opener, closes, closer, quote, space, backslash, stray, outside, fieldCase, caseOf, conversionMove, openMove, matching, closeMove, quoteMove, fieldMove, conversionOf, fieldPieces, selfDocumenting, finished, specified, plainRun, firstEnd, textN, fieldN, specN, stringN, enough, alone, readBody}
+use Rattle.definition.specs.Body.{Signs, Piece, literal, field, spec, Move, goes, stops, calls, ends, withEscape, TextCase, deep, opens, last, doubled, lone, textCase, textMove, filled, Field, state, withEquals, withBang, withColon, withClose, fresh, add, documented, spaced, formatted, FieldCase, pair, converts, documents, formats, opener, closes, closer, quote, space, backslash, stray, outside, fieldCase, caseOf, conversionMove, openMove, matching, closeMove, quoteMove, fieldMove, conversionOf, fieldPieces, selfDocumenting, finished, specified, plainRun, firstEnd, textN, fieldN, specN, stringN, enough, alone, readBody}
 use Rattle.definition.specs.Rows.{reason, signAt, signsAt}
 use Rattle.definition.proofs.moves.CharLaws.{cases, no, either, byte-in, next-in, next-from, next-ascii, code-ascii, code-is, before-in}
 use Rattle.definition.proofs.moves.Adds.{ascii-in}
-use Rattle.definition.proofs.moves.Cases.{Tells, told, TextTells, text-told}
+use Rattle.definition.proofs.moves.Cases.{Tells, told, text-told}
 use Rattle.definition.proofs.moves.Moves.{Ahead, textSize, text-ahead, FieldAhead, field-ahead}
 use Rattle.definition.proofs.moves.Steps.{text-goes, text-stops, text-ends, text-got, text-refused, field-goes, field-stops, field-ends, field-got, field-refused, firstPiece, spec-calls, spec-ends}
 
@@ -82,21 +82,21 @@ Signed s (field d e c n i g ∷ ps) = (Met s i g × After s i 125 (g .close) × 
 Signed s (spec n ∷ ps) = Signed s ps
 
 -- how the conversion and the mark of an `=` so far go with the signs
-record Tied (s : List ℕ) (c : ℕ) (d : Bool) (g : Signs) : Type 0 where
+pub record Tied (s : List ℕ) (c : ℕ) (d : Bool) (g : Signs) : Type 0 where
   converted : 1 ≤ g .bang → (c ≡ code s (g .bang)) × ((c is "sar") ≡ true)
   unconverted : g .bang ≡ 0 → c ≡ 0
   marked : d ≡ true → 1 ≤ g .equals
   unmarked : d ≡ false → g .equals ≡ 0
 
 -- a field has a `:` exactly if it has a spec
-abbrev ColonOf : Option (List Piece) → Signs → Type 0
+abbrev pub ColonOf : Option (List Piece) → Signs → Type 0
 ColonOf none g = g .colon ≡ 0
 ColonOf (some ps) g = 1 ≤ g .colon
 
-abbrev EndField : List ℕ → ℕ → Option (List Piece) → Field → Type 0
+abbrev pub EndField : List ℕ → ℕ → Option (List Piece) → Field → Type 0
 EndField s from q (state e b o c d w g) = Met s from g × Tied s c d g × ColonOf q g
 
-abbrev MetField : List ℕ → ℕ → Field → Type 0
+abbrev pub MetField : List ℕ → ℕ → Field → Type 0
 MetField s from f = EndField s from none f
 
 not-none : (c : ℕ) → (c is "sar") ≡ true → eqb c 0 ≡ false
@@ -132,7 +132,7 @@ says s c d g q y k = go (eqb (g .bang) 0) refl d q refl k
         (record { as-written = λ h. absurd (omega arith); as-neither = λ h. absurd (omega arith); as-repr = λ h. absurd (omega arith); as-spec = λ h. u })
 
 -- an ASCII character stands at i
-after : (s : List ℕ) (from i c : ℕ) → c < 0x80 → from ≤ i → code s i ≡ c → After s from c (next s i)
+pub after : (s : List ℕ) (from i c : ℕ) → c < 0x80 → from ≤ i → code s i ≡ c → After s from c (next s i)
 after s from i c h l e =
     let a = ascii-in s i (omega arith) in
     let n = next-ascii s i a in
@@ -142,7 +142,7 @@ after s from i c h l e =
     (omega arith, omega arith, rw (n, z) b)
 
 -- THE MOVES OF A FIELD keep its signs
-data MetMove (s : List ℕ) (from i : ℕ) : Move Field → Type 0 where
+pub data MetMove (s : List ℕ) (from i : ℕ) : Move Field → Type 0 where
   on : {j : ℕ} {f : Field} → MetField s from f → MetMove s from i (goes j f)
   stopped : {x : Fault} → MetMove s from i (stops x)
   at-colon : code s i ≡ 58 → MetMove s from i calls
@@ -232,7 +232,7 @@ module _ (s : List ℕ) (from i : ℕ) (l : from ≤ i) where
       let close = next s i + before (λ b. eqb b (code s i)) (drop (next s i) s) in
       by-test (atEnd s close) (λ t. stopped) (λ t. on (add-met (part s i (close + 1)) false f m))
 
-  field-met : (f : Field) → MetField s from f → MetMove s from i (fieldMove s i f)
+  pub field-met : (f : Field) → MetField s from f → MetMove s from i (fieldMove s i f)
   unfolding fieldMove caseOf
   field-met (state e b o c d w g) m = go (fieldCase s i (outside o) d) refl
     where
@@ -258,7 +258,7 @@ module _ (s : List ℕ) (from i : ℕ) (l : from ≤ i) where
       go FieldCase.plain e = rw (e, fieldMove) (on (add-met (char s i) _ f m))
 
 -- WHERE TEXT OPENS A FIELD stands a `{`, and where it ends a `}` or the body's end
-abbrev TextMet : List ℕ → ℕ → Move (List ℕ) → Type 0
+abbrev pub TextMet : List ℕ → ℕ → Move (List ℕ) → Type 0
 TextMet s i (goes j t) = Unit {0}
 TextMet s i (stops x) = Unit {0}
 TextMet s i calls = code s i ≡ 123
@@ -269,7 +269,7 @@ unfolding withEscape
 escape-met kind s i text (got m j) = tt
 escape-met kind s i text (refused x) = tt
 
-text-met : (look : Naming) → (kind : ℕ) (s : List ℕ) (depth i : ℕ) (text : List ℕ) → TextMet s i (textMove look kind s depth i text)
+pub text-met : (look : Naming) → (kind : ℕ) (s : List ℕ) (depth i : ℕ) (text : List ℕ) → TextMet s i (textMove look kind s depth i text)
 unfolding textMove
 text-met look kind s depth i text = go (textCase kind s depth i) refl
   where
@@ -284,11 +284,11 @@ text-met look kind s depth i text = go (textCase kind s depth i) refl
     go TextCase.plain e = rw (e, textMove) tt
 
 -- READINGS: what a field gives, and what a text gives
-abbrev FieldReads : List ℕ → ℕ → Read (List Piece) → Type 0
+abbrev pub FieldReads : List ℕ → ℕ → Read (List Piece) → Type 0
 FieldReads s i (got ps j) = Signed s ps × (i ≤ j) × (j ≤ length s)
 FieldReads s i (refused x) = Unit {0}
 
-abbrev TextReads : List ℕ → ℕ → Read (List Piece) → Type 0
+abbrev pub TextReads : List ℕ → ℕ → Read (List Piece) → Type 0
 TextReads s i (got ps j) = Signed s ps × (i ≤ j) × (j ≤ length s) × (j < length s → code s j ≡ 125)
 TextReads s i (refused x) = Unit {0}
 
@@ -302,7 +302,7 @@ signed-append s (literal d t ∷ ps) qs h k = signed-append s ps qs h k
 signed-append s (field d e c n i g ∷ ps) qs h k = (h .0, signed-append s ps qs (h .1) k)
 signed-append s (spec n ∷ ps) qs h k = signed-append s ps qs h k
 
-filled-signed : (s : List ℕ) (depth : ℕ) (text : List ℕ) → Signed s (filled depth text)
+pub filled-signed : (s : List ℕ) (depth : ℕ) (text : List ℕ) → Signed s (filled depth text)
 unfolding filled
 filled-signed s depth [] = tt
 filled-signed s depth (b ∷ text) = tt
@@ -344,12 +344,12 @@ specified-signed s depth from j f ps l p m q = go (atEnd s j) refl
     go false e = rw e (ended-signed s depth from j l (p (leb-false (length s) j e)) f (some ps) m q)
 
 -- the byte at which a run before a test ends passes it
-before-passes : (test : ℕ → Bool) (s : List ℕ) → before test s < length s → test (byte s (before test s)) ≡ true
+pub before-passes : (test : ℕ → Bool) (s : List ℕ) → before test s < length s → test (byte s (before test s)) ≡ true
 unfolding before
 before-passes test [] h = absurd (omega arith)
 before-passes test (b ∷ s) h = cases (test b) (λ e. rw (e, before) e) (λ e. rw (e, before) (before-passes test s (let k = rw (e, before) at h in omega arith)))
 
-first-ends : (s : List ℕ) (i : ℕ) → i ≤ length s → (code s (firstEnd s i) is "{") ≡ false → firstEnd s i < length s → code s (firstEnd s i) ≡ 125
+pub first-ends : (s : List ℕ) (i : ℕ) → i ≤ length s → (code s (firstEnd s i) is "{") ≡ false → firstEnd s i < length s → code s (firstEnd s i) ≡ 125
 unfolding plainRun
 first-ends s i l e h =
     either (byte s j is "{") (byte s j is "}") passes
@@ -364,7 +364,7 @@ first-ends s i l e h =
         let p = before-passes (λ b. b is "{}") (drop i s) (omega (arith, length-drop i s)) in
         subst (λ (b : ℕ). (b is "{}") ≡ true) (getD-drop i s (before (λ b. b is "{}") (drop i s)) 256) p
 
-none-yet : (s : List ℕ) (i : ℕ) → After s 0 123 i → MetField s i fresh
+pub none-yet : (s : List ℕ) (i : ℕ) → After s 0 123 i → MetField s i fresh
 unfolding fresh
 none-yet s i o = (
   record { opened = o; equals-after = λ h. absurd (omega arith); bang-after = λ h. absurd (omega arith); colon-after = λ h. absurd (omega arith) },
@@ -372,9 +372,9 @@ none-yet s i o = (
   refl,
 )
 
-record Signings (look : Naming) (n : ℕ) : Type 0 where
-  text : (kind : ℕ) (s : List ℕ) (depth i : ℕ) (text : List ℕ) (ps : List Piece) → i ≤ length s → Signed s ps → TextReads s i (textN look n kind s depth i text ps)
-  field : (kind : ℕ) (s : List ℕ) (depth from i : ℕ) (f : Field) → from ≤ i → i ≤ length s → MetField s from f → FieldReads s from (fieldN look n kind s depth from i f)
+pub record Signings (look : Naming) (n : ℕ) : Type 0 where
+  pub text : (kind : ℕ) (s : List ℕ) (depth i : ℕ) (text : List ℕ) (ps : List Piece) → i ≤ length s → Signed s ps → TextReads s i (textN look n kind s depth i text ps)
+  pub field : (kind : ℕ) (s : List ℕ) (depth from i : ℕ) (f : Field) → from ≤ i → i ≤ length s → MetField s from f → FieldReads s from (fieldN look n kind s depth from i f)
   spec : (kind : ℕ) (s : List ℕ) (depth i : ℕ) → i ≤ length s → TextReads s i (specN look n kind s depth i)
 
 module _ (look : Naming) (n : ℕ) (D : Signings look n) (kind : ℕ) (s : List ℕ) (depth : ℕ) where
@@ -437,7 +437,7 @@ module _ (look : Naming) (n : ℕ) (D : Signings look n) (kind : ℕ) (s : List 
       go true e = rw (spec-calls look n kind s depth i e) (text-later s i (firstEnd s i) (textN look n kind s (suc depth) (firstEnd s i) [] (firstPiece s depth i)) (omega arith) (D .text kind s (suc depth) (firstEnd s i) [] (firstPiece s depth i) within first))
       go false e = rw (spec-ends look n kind s depth i e) (first, omega arith, within, first-ends s i l e)
 
-signings : (look : Naming) → (n : ℕ) → Signings look n
+pub signings : (look : Naming) → (n : ℕ) → Signings look n
 unfolding textN
 signings look zero = record { text = λ kind s depth i text ps l h. tt; field = λ kind s depth from i f b l m. tt; spec = λ kind s depth i l. tt }
 signings look (suc n) = record {

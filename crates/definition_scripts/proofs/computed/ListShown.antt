@@ -52,6 +52,9 @@ listings =
     ∷ (asked "'a' U'b\n'" 0 gives refused 51 4)
     ∷ (asked "ur'a'" 0 gives refused 52 0)
     ∷ (asked "'a'" 4 gives refused 52 4)
+    -- 50 and 51 before 53
+    ∷ (asked "'' '' '' 'b" 0 gives refused 50 9)
+    ∷ (asked "'' '' '' 'b\n'" 0 gives refused 51 9)
     ∷ (asked "'''''' '' ''" 0 gives (53 ∷ 0 ∷ 0 ∷ 0 ∷ 0 ∷ 0 ∷ 0 ∷ 0 ∷ 0 ∷ 18 ∷ [], zeroed))
     ∷ []
 

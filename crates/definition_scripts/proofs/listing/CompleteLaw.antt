@@ -17,6 +17,7 @@ use Rattle.definition_scripts.specs.Cut.{Cut, cut, cutPart}
 use Rattle.definition_scripts.specs.Listing.{ListRow, ofField, ofRefusal, tenOf, tens, allRead, brokenRow, cutRows, sourceEnd, reached, otherwise, otherwiseRow, sourceRows, below, rowsOf, refusalsIn, Fields, fields, tooLong, short, fieldsOf, fieldsAfter, fieldsCall, fieldsInto, fieldsNumbers}
 use Rattle.definition_scripts.specs.Complete.{Fielded, Covered, Likewise, Sources, none, source, Complete, Placed}
 use Rattle.definition.proofs.moves.CharLaws.{cases}
+use Rattle.definition.proofs.rows.SpecRows.{Begun}
 use Rattle.definition_scripts.proofs.cut.PartLaws.{part-cut-is, InPart, in-part, cut-is-part}
 use Rattle.definition_scripts.proofs.listing.SourceLaws.{Sourced, AllFit}
 use Rattle.definition_scripts.proofs.listing.ListingLaws.{rows-again, rows-fit}
@@ -26,6 +27,10 @@ use Rattle.definition_scripts.proofs.listing.FieldsLaw.{refusals-append
 -- no refusal in the whole of two parts, none in either
 none-in-both : (xs ys : List ListRow) → refusalsIn (xs ++ ys) ≡ 0 → (refusalsIn xs ≡ 0) × (refusalsIn ys ≡ 0)
 none-in-both xs ys n = let h = refusals-append xs ys in (omega arith, omega arith)
+
+all-begun : (s : List ℕ) (from end : ℕ) (ls : List Literal) → EachLiteral (InPart s from end) ls → EachLiteral Begun ls
+all-begun s from end [] p = tt
+all-begun s from end (l ∷ ls) p = (p .0 .lies .begins, all-begun s from end ls (p .1))
 
 -- A PART WHOSE CUT HAS NO REFUSAL is covered by its rows
 module _ (look : Naming) (s : List ℕ) (w from end : ℕ) (a : from ≤ end) (h : end ≤ length s) (n : refusalsIn (cutRows look s w (cutPart s from end)) ≡ 0) where
@@ -40,11 +45,14 @@ module _ (look : Naming) (s : List ℕ) (w from end : ℕ) (a : from ≤ end) (h
   unfolding cutRows brokenRow
   part-rows = rw part-ends (append-nil (allRead look s w (part .literals)))
 
+  begun : EachLiteral Begun (part .literals)
+  begun = all-begun s from end (part .literals) (in-part s from end h from (omega arith) (part .literals) (part .ending) (part-cut-is s from end a h))
+
   pub covered : Covered look s w from end (cutRows look s w part)
   covered = record {
     literals = part .literals;
     isCut = subst (λ (e : Ending). IsCut (take end s) from (part .literals) e) part-ends (part-cut-is s from end a h);
-    fielded = rw part-rows (all-fielded look s w (part .literals) (rw part-rows at n));
+    fielded = rw part-rows (all-fielded look s w (part .literals) begun (rw part-rows at n));
   }
 
 -- NO 75 of a field is told

@@ -9,11 +9,12 @@ use Rattle.definition.specs.Escapes.{Naming}
 use Rattle.definition.specs.Records.{Answer}
 use Rattle.definition.specs.Entry.{Literal, Refusal}
 use Rattle.definition.specs.Reading.{Outcome, accepts, refuses, read}
-use Rattle.definition.specs.Rows.{Row, literalRows, allRows, rowField, recordFields}
-use Rattle.definition_scripts.specs.IsCut.{Ending, reachesEnd, breaksOff}
+use Rattle.definition.specs.Rows.{Row, literalRows, allRows, rowField, recordFields, rowSpec, recordSpecs}
+use Rattle.definition_scripts.specs.IsCut.{Ending, reachesEnd, breaksOff, EachLiteral}
 use Rattle.definition_scripts.specs.Listing.{ListRow, ofField, ofRefusal, readRows, allRead, brokenRow, refusalsIn}
 use Rattle.definition_scripts.specs.Complete.{Fielded, none, other, fstring}
 use Rattle.definition.proofs.rows.FieldRows.{list-fields, others-none}
+use Rattle.definition.proofs.rows.SpecRows.{Begun, list-specs}
 
 -- AN F-STRING THAT IS ACCEPTED has the fields of its answer for rows, in record order
 pub accepted-rows : (look : Naming) → (s : List ℕ) (w : ℕ) (l : Literal) (x : Answer) → isFString (l .kind) ≡ true → read look s (l ∷ []) ≡ accepts x → readRows look s w l ≡ map (ofField w) (literalRows look s l)
@@ -23,6 +24,11 @@ accepted-rows look s w l x t e = rw (t, e, readRows)
 pub accepted-fields : (look : Naming) → (s : List ℕ) (l : Literal) (x : Answer) → read look s (l ∷ []) ≡ accepts x → map rowField (literalRows look s l) ≡ recordFields (x .records)
 unfolding allRows
 accepted-fields look s l x e = sym (list-fields look s (l ∷ []) x e ∙ ap (map rowField) (append-nil (literalRows look s l)))
+
+-- and their specs, as its records have them
+pub accepted-specs : (look : Naming) → (s : List ℕ) (l : Literal) (x : Answer) → Begun l → read look s (l ∷ []) ≡ accepts x → map (rowSpec s) (literalRows look s l) ≡ recordSpecs (x .text) (x .records)
+unfolding allRows
+accepted-specs look s l x b e = ap (map (rowSpec s)) (sym (append-nil (literalRows look s l))) ∙ list-specs look s (l ∷ []) x (b, tt) e
 
 -- ONE THAT IS REFUSED has its refusal for its row
 pub refused-row : (look : Naming) → (s : List ℕ) (w : ℕ) (l : Literal) (r : Refusal) → isFString (l .kind) ≡ true → read look s (l ∷ []) ≡ refuses r
@@ -51,16 +57,16 @@ unfolding refusalsIn
 refused-told w start place number a b o rs e = omega arith
 
 -- WITHOUT A REFUSAL each f-string of a cut is accepted, and the rows are their fields
-pub all-fielded : (look : Naming) → (s : List ℕ) (w : ℕ) (ls : List Literal) → refusalsIn (allRead look s w ls) ≡ 0 → Fielded look s w ls (allRead look s w ls)
+pub all-fielded : (look : Naming) → (s : List ℕ) (w : ℕ) (ls : List Literal) → EachLiteral Begun ls → refusalsIn (allRead look s w ls) ≡ 0 → Fielded look s w ls (allRead look s w ls)
 unfolding allRead
-all-fielded look s w [] n = none
-all-fielded look s w (l ∷ ls) n =
+all-fielded look s w [] b n = none
+all-fielded look s w (l ∷ ls) b n =
     let h = refusals-append (readRows look s w l) (allRead look s w ls) in
-    go (isFString (l .kind)) refl (read look s (l ∷ [])) refl (omega arith) (all-fielded look s w ls (omega arith))
+    go (isFString (l .kind)) refl (read look s (l ∷ [])) refl (omega arith) (all-fielded look s w ls (b .1) (omega arith))
   where
     go : (t : Bool) → isFString (l .kind) ≡ t → (o : Outcome Answer) → read look s (l ∷ []) ≡ o → refusalsIn (readRows look s w l) ≡ 0 → Fielded look s w ls (allRead look s w ls) → Fielded look s w (l ∷ ls) (readRows look s w l ++ allRead look s w ls)
     go false t o e n f = rw (other-rows look s w l t) (other t f)
-    go true t (accepts x) e n f = rw (accepted-rows look s w l x t e) (fstring x e (accepted-fields look s l x e) f)
+    go true t (accepts x) e n f = rw (accepted-rows look s w l x t e) (fstring x e (accepted-fields look s l x e) (accepted-specs look s l x (b .0) e) f)
     go true t (refuses r) e n f = absurd (refused-told w (l .start) (r .place) (r .number) (r .a) (r .b) (r .opened) [] (rw (refused-row look s w l r t e) at n))
 
 -- and the cut reached its end

@@ -1,18 +1,23 @@
--- Two calls for every field that return the same numbers and leave the same rows have one list. Assumes nothing.
+-- What a call for every field leaves in its row buffer; and two that return the same numbers and leave the same rows have one list. Assumes nothing.
 use mathlib.Core.Path.{_≡_, refl, sym, _∙_, ap}
 use mathlib.Core.Bool.{Bool, true, false}
 use mathlib.Core.List.{List, [], _∷_, _++_, append-assoc}
-use Prim.Native.Nat.{ℕ, suc, _/_, _≤_}
+use Prim.Native.Nat.{ℕ, _*_, _/_, _≤_}
 use native.Mathlib.Omega.{arith}
-use lib.Dec.{ltb}
+use borrow.Author.Tests.{ltb-false}
+use lib.Dec.{T, ltb, lit≤}
 use lib.ListN.{length, drop}
+use Rattle.definition.specs.Numbers.{_among_}
 use Rattle.definition.specs.Escapes.{Naming}
 use Rattle.definition.specs.Body.{Signs}
 use Rattle.definition.specs.Words.{word}
-use Rattle.definition.specs.Rows.{reason, Row, rowNumbers}
+use Rattle.definition.specs.Left.{Left}
+use Rattle.definition.specs.Rows.{reason, rowNumbers}
 use Rattle.definition_scripts.specs.Cut.{cut}
-use Rattle.definition_scripts.specs.Listing.{ListRow, ofField, ofRefusal, tenOf, tens, reached, refusalsIn, rowsOf, Fields, fields, tooLong, wrongNames, short, fieldsOf, fieldsAfter, fieldsCall, fieldsInto, fieldsNumbers}
+use Rattle.definition_scripts.specs.Listing.{ListRow, ofField, ofRefusal, tenOf, tens, reached, rowsOf, Fields, fields, tooLong, wrongNames, short, fieldsOf, fieldsAfter, fieldsCall, fieldsInto, fieldsNumbers}
+use Rattle.definition.proofs.outcomes.Leaving.{left-zeros, left-front}
 use Rattle.definition.proofs.rows.SignLaws.{Fits, written, neither, by-repr, by-spec, reason-fits}
+use Rattle.definition_scripts.proofs.listing.ListingSteps.{tens-length}
 
 -- a field's first number is not a refusal's
 not-five : (g : Signs) (n : ℕ) → Fits g n → n ≡ 5 → ⊥
@@ -87,3 +92,43 @@ pub fields-one : (look look′ : Naming) (script buffer script′ buffer′ : Li
 unfolding fieldsInto fieldsCall
 fields-one look look′ script buffer script′ buffer′ n e =
     one-list (fieldsOf look script (length buffer)) (fieldsOf look′ script′ (length buffer′)) (fields-told look script (length buffer)) (fields-told look′ script′ (length buffer′)) buffer buffer′ n e
+
+-- THE ROW BUFFER: ten numbers for a row
+abbrev pub FieldsLeft : (buffer : List ℕ) → Fields → Type 0
+FieldsLeft buffer x = Left (word (fieldsNumbers x) 0) (word (fieldsNumbers x) 1 * 10) buffer (fieldsAfter x buffer)
+
+module _ (buffer : List ℕ) where
+  pub long-left : FieldsLeft buffer tooLong
+  unfolding fieldsAfter fieldsNumbers
+  long-left = left-zeros 49 0 buffer (lit≤ tt)
+
+  pub wrong-left : (n : ℕ) → Told (wrongNames n) → FieldsLeft buffer (wrongNames n)
+  unfolding fieldsAfter fieldsNumbers
+  wrong-left n h = left-zeros n 0 buffer (omega arith)
+
+  pub listing-left : (look : Naming) (s : List ℕ) → FieldsLeft buffer (fieldsOf look s (length buffer))
+  unfolding fieldsAfter fieldsNumbers fieldsOf
+  listing-left look s = go (ltb 1048576 (length s)) refl (ltb (length buffer / 10) (length (rowsOf look s))) refl
+    where
+      go : (t : Bool) → ltb 1048576 (length s) ≡ t → (u : Bool) → ltb (length buffer / 10) (length (rowsOf look s)) ≡ u → FieldsLeft buffer (fieldsOf look s (length buffer))
+      go true e u f = rw (e, fieldsOf) long-left
+      go false e true f = rw (e, f, fieldsOf) (left-zeros 53 0 buffer (lit≤ tt))
+      go false e false f =
+          let n = ltb-false (length buffer / 10) (length (rowsOf look s)) f in
+          rw (e, f, fieldsOf) (left-front (length (rowsOf look s) * 10) (tens (rowsOf look s)) buffer (tens-length (rowsOf look s)) (omega arith))
+
+pub fields-left : (look : Naming) (script buffer : List ℕ)
+    → let c = fieldsInto look script buffer in let ns = fieldsNumbers (c .listed) in Left (word ns 0) (word ns 1 * 10) buffer (c .rows)
+unfolding fieldsInto fieldsCall
+fields-left look script buffer = listing-left buffer look script
+
+-- THE FIRST NUMBER is 0, 49 or 53
+pub fields-sane : (look : Naming) (s : List ℕ) (room : ℕ) → T (word (fieldsNumbers (fieldsOf look s room)) 0 among (0 ∷ 49 ∷ 53 ∷ []))
+unfolding fieldsOf fieldsNumbers
+fields-sane look s room = go (ltb 1048576 (length s)) (ltb (room / 10) (length (rowsOf look s)))
+  where
+    go : (t u : Bool)
+        → T (word (fieldsNumbers (elim t [ true ↦ tooLong | false ↦ elim u [ true ↦ short (length (rowsOf look s)) | false ↦ fields (rowsOf look s) (length (cut s .literals)) (reached (length s) (cut s .ending)) ] ])) 0 among (0 ∷ 49 ∷ 53 ∷ []))
+    go true u = tt
+    go false true = tt
+    go false false = tt

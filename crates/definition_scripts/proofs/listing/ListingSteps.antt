@@ -1,17 +1,15 @@
 -- What the list of a script does row by row, and what a call for it gives: the equations that code is proved by. Assumes nothing.
 use mathlib.Core.Path.{_≡_, refl, sym, subst, _∙_, ap}
-use mathlib.Core.Bool.{Bool, true, false}
 use mathlib.Core.List.{List, [], _∷_, _++_, append-assoc, append-nil}
 use Prim.Native.Nat.{ℕ, zero, suc, _+_, _*_, _/_, _≤_, _<_}
 use native.Mathlib.Numerals.{add-one}
 use native.Mathlib.Omega.{arith}
-use borrow.Author.Tests.{lt-ltb, le-ltb, ltb-false}
-use lib.Dec.{ltb}
-use lib.ListN.{length, drop, length-append, length-drop, length-replicate}
+use borrow.Author.Tests.{lt-ltb, le-ltb}
+use lib.ListN.{length, length-append}
 use Rattle.definition.specs.Escapes.{Naming}
 use Rattle.definition.specs.Rows.{rowNumbers}
 use Rattle.definition_scripts.specs.Cut.{cut}
-use Rattle.definition_scripts.specs.Listing.{ListRow, ofField, ofRefusal, tenOf, tens, cutRows, reached, sourceRows, below, rowsOf, Fields, fields, tooLong, short, fieldsOf, fieldsAfter, fieldsCall, fieldsInto}
+use Rattle.definition_scripts.specs.Listing.{ListRow, ofField, ofRefusal, tenOf, tens, cutRows, reached, sourceRows, below, rowsOf, fields, tooLong, short, fieldsOf}
 use Rattle.definition_scripts.proofs.listing.SourceLaws.{AllFit, none-fits, below-fit}
 use Rattle.definition_scripts.proofs.listing.ListingLaws.{rows-again, rows-fit}
 
@@ -83,16 +81,3 @@ pub tens-append : (xs ys : List ListRow) → tens (xs ++ ys) ≡ tens xs ++ tens
 unfolding tens
 tens-append [] ys = refl
 tens-append (x ∷ xs) ys = ap (λ r. tenOf x ++ r) (tens-append xs ys) ∙ sym (append-assoc (tenOf x) (tens xs) (tens ys))
-
--- THE ROW BUFFER keeps its length
-pub rows-kept : (look : Naming) → (s buffer : List ℕ) → length (fieldsInto look s buffer .rows) ≡ length buffer
-unfolding fieldsInto fieldsCall fieldsOf fieldsAfter
-rows-kept look s buffer = go (ltb 1048576 (length s)) refl (ltb (length buffer / 10) (length (rowsOf look s))) refl
-  where
-    go : (x : Bool) → ltb 1048576 (length s) ≡ x → (y : Bool) → ltb (length buffer / 10) (length (rowsOf look s)) ≡ y → length (fieldsAfter (fieldsOf look s (length buffer)) buffer) ≡ length buffer
-    go true e y f = rw (e, fieldsOf) (length-replicate (length buffer) 0)
-    go false e true f = rw (e, f, fieldsOf) (length-replicate (length buffer) 0)
-    go false e false f =
-        let n = ltb-false (length buffer / 10) (length (rowsOf look s)) f in
-        let ns = tens (rowsOf look s) in
-        rw (e, f, fieldsOf) (omega (arith, tens-length (rowsOf look s), length-append ns (drop (length ns) buffer), length-drop (length ns) buffer))

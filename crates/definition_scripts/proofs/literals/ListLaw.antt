@@ -8,14 +8,14 @@ use native.Mathlib.Nat.{sub-self}
 use native.Mathlib.Omega.{arith}
 use borrow.Author.Tests.{leb-true, ltb-true, ltb-false, le-ltb}
 use lib.Dec.{ltb, leb}
-use lib.ListN.{length, drop, length-append, length-drop, length-replicate}
+use lib.ListN.{length}
 use Rattle.definition.specs.Numbers.{badDescriptor, scriptTooLong, noLiteral}
-use Rattle.definition.specs.Chars.{if_then_else_, part}
+use Rattle.definition.specs.Chars.{part}
 use Rattle.definition.specs.Entry.{Literal, sixes, oneMore, Refusal, refusal, notEmpty, notMany, firstBad, bad, allGood, total, notLong, allUtf8, notMixed, firstOf, entry}
 use Rattle.definition.specs.Reading.{Outcome, accepts, refuses}
 use Rattle.definition_scripts.specs.Opening.{noKind, opens}
 use Rattle.definition_scripts.specs.IsRun.{nextPlace, Adjacent, IsRun, NoRun, bytesTo}
-use Rattle.definition_scripts.specs.Literals.{Run, run, literalsFrom, flat, lists, short, listed, listAfter, listInto, literalsInto}
+use Rattle.definition_scripts.specs.Literals.{Run, run, literalsFrom, flat}
 use Rattle.definition.proofs.moves.Adds.{part-split}
 use Rattle.definition_scripts.proofs.literals.OpeningLaws.{opens-in}
 use Rattle.definition_scripts.proofs.literals.LiteralFound.{literal-lies, literal-good}
@@ -157,23 +157,3 @@ list-again script offset stop l m ls h =
     let p = g .is-run in
     let q = p .adjacent .2 .0 in
     list-found script (m .start) (m ∷ ls) stop (g .not-long) (rw (q .opened) (q .known)) (record { first = refl; adjacent = p .adjacent .2; ended = p .ended })
-
--- THE LIST BUFFER keeps its length
-after-length : (buffer : List ℕ) (o : Outcome Run) → length (listAfter (listed (length buffer) o) buffer) ≡ length buffer
-unfolding listed listAfter
-after-length buffer (refuses r) = length-replicate (length buffer) 0
-after-length buffer (accepts x) = go (ltb (length buffer) needed) refl
-  where
-    needed : ℕ
-    needed = 6 * length (x .literals)
-
-    go : (t : Bool) → ltb (length buffer) needed ≡ t → length (listAfter (if t then short needed else lists x) buffer) ≡ length buffer
-    go true e = length-replicate (length buffer) 0
-    go false e =
-        let h = ltb-false (length buffer) needed e in
-        let f = flat-length (x .literals) in
-        omega (arith, length-append (flat (x .literals)) (drop (length (flat (x .literals))) buffer), length-drop (length (flat (x .literals))) buffer)
-
-pub list-kept : (script : List ℕ) (offset : ℕ) (buffer : List ℕ) → length (literalsInto script offset buffer .list) ≡ length buffer
-unfolding literalsInto listInto
-list-kept script offset buffer = after-length buffer (literalsFrom script offset)

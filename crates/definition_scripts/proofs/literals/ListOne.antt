@@ -1,10 +1,11 @@
--- Two calls for literals that return the same numbers and leave the same list have one listing. Assumes nothing.
+-- What a call for literals leaves in its list buffer; and two that return the same numbers and leave the same list have one listing. Assumes nothing.
 use mathlib.Core.Path.{_≡_, refl, sym, _∙_, ap}
 use mathlib.Core.Bool.{Bool, true, false}
 use mathlib.Core.List.{List, _++_}
 use mathlib.Core.Option.{some}
-use Prim.Native.Nat.{ℕ, _*_, _≤_}
+use Prim.Native.Nat.{ℕ, _*_, _≤_, _<_}
 use native.Mathlib.Omega.{arith}
+use borrow.Author.Tests.{ltb-true, ltb-false, lt-ltb}
 use lib.Dec.{ltb, lit≤}
 use lib.ListN.{length, take}
 use lib.Seq.{take-append-seam}
@@ -12,8 +13,11 @@ use Rattle.definition.specs.Chars.{if_then_else_}
 use Rattle.definition.specs.Entry.{Literal, Refusal, refusal, sixes}
 use Rattle.definition.specs.Reading.{Outcome, accepts, refuses}
 use Rattle.definition.specs.Words.{word}
+use Rattle.definition.specs.Left.{Left}
 use Rattle.definition_scripts.specs.IsRun.{Unclosed, toEnd, toNewline}
 use Rattle.definition_scripts.specs.Literals.{Run, literalsFrom, flat, Listing, lists, refused, short, listed, listAfter, listInto, literalsInto, listNumbers}
+use Rattle.definition.proofs.moves.CharLaws.{cases}
+use Rattle.definition.proofs.outcomes.Leaving.{left-zeros, left-front}
 use Rattle.definition_scripts.proofs.literals.ListLaw.{Refused, tooLong, noneOpens, neverCloses, Told, list-told, sixes-flat, flat-length}
 
 -- what the numbers do not show of a listing
@@ -71,3 +75,45 @@ list-one script offset buffer script′ offset′ buffer′ n l =
     one-listing (listed (length buffer) (literalsFrom script offset)) (listed (length buffer′) (literalsFrom script′ offset′)) buffer buffer′
     (listed-settled script offset (length buffer) (literalsFrom script offset) (list-told script offset))
     (listed-settled script′ offset′ (length buffer′) (literalsFrom script′ offset′) (list-told script′ offset′)) n l
+
+-- THE LIST BUFFER: six numbers for a literal
+listed-left : (buffer : List ℕ) (o : Outcome Run) → Settled (listed (length buffer) o)
+    → let x = listed (length buffer) o in Left (word (listNumbers x) 0) (word (listNumbers x) 1 * 6) buffer (listAfter x buffer)
+unfolding listed listAfter listNumbers
+listed-left buffer (refuses r) p = left-zeros (r .number) (r .literal * 6) buffer (let h = p .1 in omega arith)
+listed-left buffer (accepts x) p = go (ltb (length buffer) needed) refl
+  where
+    needed : ℕ
+    needed = 6 * length (x .literals)
+
+    go : (t : Bool) → ltb (length buffer) needed ≡ t
+        → let y = if t then short needed else lists x in Left (word (listNumbers y) 0) (word (listNumbers y) 1 * 6) buffer (listAfter y buffer)
+    go true e = left-zeros 53 0 buffer (lit≤ tt)
+    go false e =
+        let h = ltb-false (length buffer) needed e in
+        let f = flat-length (x .literals) in
+        left-front (length (x .literals) * 6) (flat (x .literals)) buffer (omega arith) (omega arith)
+
+pub list-left : (script : List ℕ) (offset : ℕ) (buffer : List ℕ)
+    → let c = literalsInto script offset buffer in let ns = listNumbers (c .listing) in Left (word ns 0) (word ns 1 * 6) buffer (c .list)
+unfolding literalsInto listInto
+list-left script offset buffer =
+    listed-left buffer (literalsFrom script offset) (listed-settled script offset (length buffer) (literalsFrom script offset) (list-told script offset))
+
+-- 49 BEFORE ALL ELSE, whatever offset and buffer
+pub list-long : (script : List ℕ) (offset : ℕ) (buffer : List ℕ) → 1048576 < length script → word (listNumbers (literalsInto script offset buffer .listing)) 0 ≡ 49
+unfolding literalsInto listInto literalsFrom listed listNumbers refusal
+list-long script offset buffer h = rw (lt-ltb 1048576 (length script) h, literalsFrom)
+
+-- 53 ONLY IF NOTHING ELSE IS GIVEN: there is a run, and its literals need more than there is
+pub list-short : (script : List ℕ) (offset : ℕ) (buffer : List ℕ) → word (listNumbers (literalsInto script offset buffer .listing)) 0 ≡ 53
+    → (x : Run) × (literalsFrom script offset ≡ accepts x) × (length buffer < 6 * length (x .literals))
+unfolding literalsInto listInto listed listNumbers
+list-short script offset buffer e = go (literalsFrom script offset) refl (listed-settled script offset (length buffer) (literalsFrom script offset) (list-told script offset)) e
+  where
+    go : (o : Outcome Run) → literalsFrom script offset ≡ o → Settled (listed (length buffer) o) → word (listNumbers (listed (length buffer) o)) 0 ≡ 53
+        → (x : Run) × (literalsFrom script offset ≡ accepts x) × (length buffer < 6 * length (x .literals))
+    go (refuses r) f p n = let k = p .2 in absurd (omega arith)
+    go (accepts x) f p n =
+        cases (ltb (length buffer) (6 * length (x .literals))) (λ t. (x, f, ltb-true (length buffer) (6 * length (x .literals)) t))
+        (λ t. let z = rw t at n in absurd (omega arith))

@@ -3,17 +3,18 @@ use mathlib.Core.Path.{_≡_, refl, sym, subst, _∙_, ap}
 use mathlib.Core.Bool.{Bool, true, false}
 use mathlib.Core.List.{List, [], _∷_}
 use Prim.Native.Nat.{ℕ, zero, suc, _+_, _-_, _≤_, _<_}
-use native.Mathlib.Omega.{arith}
+use native.Mathlib.Nat.{le-of-suc-le-suc}
+use native.Mathlib.Omega.{arith, by-contra}
 use borrow.Author.Tests.{leb-true, leb-false, le-leb, lt-leb, eqb-true}
 use lib.Dec.{leb}
-use lib.ListN.{length}
+use lib.ListN.{length, List·getD-eq-default}
 use Rattle.definition.specs.Chars.{if_then_else_, _is_, byte}
 use Rattle.definition.specs.Entry.{Literal, Refusal, refusal}
 use Rattle.definition.specs.Reading.{Outcome, accepts, refuses}
 use Rattle.definition_scripts.specs.Opening.{noKind, opens, isSpace, isSign, lineEnd}
 use Rattle.definition_scripts.specs.IsRun.{Blanks, none, space, comment, Passed, nextPlace, IsRun, NoRun}
 use Rattle.definition_scripts.specs.Literals.{literalAt, BlankCase, space as spaceCase, comment as commentCase, other, blankCase, passedN, passed, Run, firstRun, runN}
-use Rattle.definition.proofs.moves.CharLaws.{no, either, before-in, before-next, byte-in}
+use Rattle.definition.proofs.moves.CharLaws.{no, before-in, before-next, byte-in}
 use Rattle.definition_scripts.proofs.literals.LiteralFound.{LiteralAt, literal-at, literal-is, literal-lies}
 
 -- WHAT IS PASSED OVER, case by case
@@ -33,8 +34,7 @@ blank-facts s i = go (isSpace (byte s i)) (isSign (byte s i)) refl refl
 
 -- a byte that is one of few is there
 pub space-in : (s : List ℕ) (i : ℕ) → isSpace (byte s i) ≡ true → i < length s
-space-in s i e =
-    byte-in s i (either (byte s i is " ") (byte s i is "\t\n") e (λ t. let h = eqb-true (byte s i) 32 t in omega arith) (λ f. either (byte s i is "\t") (byte s i is "\n") f (λ t. let h = eqb-true (byte s i) 9 t in omega arith) (λ t. let h = eqb-true (byte s i) 10 t in omega arith)))
+space-in s i e = by-contra (suc i) (length s) (λ (k : length s < suc i). no (rw (List·getD-eq-default s 256 (le-of-suc-le-suc k)) at e))
 
 pub sign-in : (s : List ℕ) (i : ℕ) → isSign (byte s i) ≡ true → i < length s
 sign-in s i e = let h = eqb-true (byte s i) 35 e in byte-in s i (omega arith)
