@@ -882,7 +882,7 @@ def differences(source: bytes, found: ScriptList) -> list[str]:
         python, ours = collections.defaultdict(list), collections.defaultdict(list)
         for node in ast.walk(tree):
             if isinstance(node, ast.FormattedValue):
-                spec = node.format_spec and ast.dump(node.format_spec)
+                spec = node.format_spec and _dump_without_kind(node.format_spec)
                 python[ast.dump(node.value), max(node.conversion, 0), spec].append(node)
         for field in found.fields:
             key = _dump(f"({field.expression})"), ord(field.conversion or "\0"), _spec_dump(script, field)
@@ -910,9 +910,15 @@ def _spec_dump(script: bytes, field: ScriptField) -> str | None:
     opening = OPENING.match(script, field.row.start)
     literal = f"({opening[0].decode()}{{x:{field.spec}}}{opening[1].decode()})"
     try:
-        return ast.dump(ast.parse(literal, mode="eval").body.values[0].format_spec)
+        return _dump_without_kind(ast.parse(literal, mode="eval").body.values[0].format_spec)
     except (*NOT_TAKEN, AttributeError):
         return field.spec
+
+
+def _dump_without_kind(spec: ast.JoinedStr) -> str:
+    """What Python read of a spec, without the kind of its texts, which is that of the first literal of the run."""
+    values = [ast.Constant(part.value) if isinstance(part, ast.Constant) else part for part in spec.values]
+    return ast.dump(ast.JoinedStr(values))
 
 
 def _unparsed(node: ast.FormattedValue) -> str:

@@ -212,6 +212,16 @@ class Check(Command):
         self.assertEqual((status, len(out.splitlines()), err), (0, 7, ""))
         self.assertEqual(self.run_on("--check", a=b"# coding: latin-1\rf'\xe9{\xe9:\xe9>5}'\r")[0], 0)
 
+    def test_run_that_begins_with_u(self):
+        """Python gives the kind of the run's first literal to a text of a spec too, which is no difference."""
+        for spec in ("y{z}", "y{z}w", "{z}w", "y{z}{u'b'}", "y{u'b' f'{c:d}'}", "y"):
+            source = f'x = u"a" f"{{x:{spec}}}" "b" f"{{x!r:{spec}}}"\n'
+            self.assertEqual(self.run_on("--check", a=source)[::2], (0, ""), spec)
+        found = stumpgarret.list_script('f"{x:y{z}}"')
+        other = b"u'a' f'{x:v{z}}'"
+        said = ["1: Python alone has f'{x:v{z}}'", "1:4: Python does not have {x:y{z}}"]
+        self.assertEqual(stumpgarret.differences(other, found), said)
+
     def test_told_difference(self):
         status, _, err = self.run_on("--check", a="\nf'{\"\"\"\"{{\"}\"\"\"}{\"\"\"\"}}\":\"\"\"}'")
         self.assertEqual((status, len(err.splitlines())), (1, 4))
