@@ -42,6 +42,8 @@ calls look =
     -- what is refused is refused whatever the room: an unmatched bracket, a backslash outside quotes
     ∷ (asked look "f'{a)}'" (1 ∷ 0 ∷ 2 ∷ 4 ∷ 0 ∷ 7 ∷ []) 0 0 leaves (26 ∷ 0 ∷ 5 ∷ 41 ∷ 0 ∷ 0 ∷ 0 ∷ 3 ∷ 3 ∷ [], [], []))
     ∷ (asked look "f'{a\\}'" (1 ∷ 0 ∷ 2 ∷ 4 ∷ 0 ∷ 7 ∷ []) 8 1 leaves (27 ∷ 0 ∷ 5 ∷ 0 ∷ 0 ∷ 0 ∷ 0 ∷ 3 ∷ 3 ∷ [], 0 ∷ 0 ∷ 0 ∷ 0 ∷ 0 ∷ 0 ∷ 0 ∷ 0 ∷ [], 0 ∷ []))
+    -- a body that is not UTF-8, before a mix of bytes and others
+    ∷ (asked look "b'a''é'" (2 ∷ 0 ∷ 2 ∷ 1 ∷ 0 ∷ 4 ∷ 0 ∷ 0 ∷ 5 ∷ 1 ∷ 4 ∷ 7 ∷ []) 0 1 leaves (6 ∷ 1 ∷ 5 ∷ 0 ∷ 0 ∷ 0 ∷ 0 ∷ 0 ∷ 0 ∷ [], [], 0 ∷ []))
     -- bytes become one record, and so do strings, with the u mark of the first
     ∷ (asked look "b'a'b'b'" (2 ∷ 0 ∷ 2 ∷ 1 ∷ 0 ∷ 4 ∷ 2 ∷ 0 ∷ 6 ∷ 1 ∷ 4 ∷ 8 ∷ []) 8 2 leaves (0 ∷ 2 ∷ 0 ∷ 0 ∷ 8 ∷ 1 ∷ 2 ∷ 0 ∷ 2 ∷ [], 4 ∷ 0 ∷ 2 ∷ 0 ∷ 8 ∷ 0 ∷ 0 ∷ 0 ∷ [], 97 ∷ 98 ∷ []))
     ∷ (asked look "u'a''b'" (6 ∷ 0 ∷ 2 ∷ 1 ∷ 0 ∷ 4 ∷ 0 ∷ 0 ∷ 5 ∷ 1 ∷ 4 ∷ 7 ∷ []) 8 2 leaves (0 ∷ 0 ∷ 1 ∷ 0 ∷ 7 ∷ 1 ∷ 2 ∷ 0 ∷ 2 ∷ [], 1 ∷ 0 ∷ 2 ∷ 0 ∷ 7 ∷ 1 ∷ 0 ∷ 0 ∷ [], 97 ∷ 98 ∷ []))

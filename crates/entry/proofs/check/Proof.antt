@@ -11,7 +11,7 @@ check-spec =
     tie.close
     (tie.spec
     (λ c κs. search needs)  -- refuse-requires
-    (λ c. c .refuse .ensures ∙ sym (checked-none _ _ 0 (c .before .if1 .taken) refl))  -- returns
+    (λ c. c .refuse .ensures ∙ sym (checked-none _ _ 0 (omega (arith, c .before .if1 .taken)) refl))  -- returns
     (λ c κs. search needs)  -- refuse-requires-2
     (λ c. c .refuse2 .ensures ∙ sym (checked-not-sixes _ _ (c .before .if2 .taken)))  -- returns-2
     (λ c κs. search needs)  -- refuse-requires-3

@@ -1,5 +1,6 @@
 -- `entry::not_long` meets its contract. Assumes nothing.
 use borrow.Author.Needs.{needs}
+use native.Mathlib.Omega.{arith}
 use borrow.Author.Tests.{lt-ltb, le-ltb}
 use Rattle.definition.specs.Entry.{notLong}
 use Rattle.definition.specs.Reading.{outcomeOf}
@@ -13,5 +14,5 @@ not-long-spec =
     (tie.spec
     (λ c κs. search needs)  -- total-requires
     (λ c κs. search needs)  -- refuse-requires
-    (λ c. rw (c .refuse .ensures, ← c .before .before .total .ensures, lt-ltb 1048576 _ (c .before .if1 .taken)))  -- returns
-    (λ c. rw (← c .before .total .ensures, le-ltb 1048576 _ (c .if1 .left))))  -- returns-2
+    (λ c. rw (c .refuse .ensures, ← c .before .before .total .ensures, lt-ltb 1048576 (c .before .before .total .result) (omega (arith, c .before .if1 .taken))))  -- returns
+    (λ c. rw (← c .before .total .ensures, le-ltb 1048576 (c .before .total .result) (omega (arith, c .if1 .left)))))  -- returns-2

@@ -13,7 +13,7 @@ list-literals-spec =
     (tie.spec
     (λ c κs. search needs)  -- refuse-requires
     (λ c. search needs)  -- same-length
-    (λ c. let r = c .before .before .refuse .ensures in ends-refused _ _ _ _ _ _ _ (from-long _ _ (c .before .before .before .before .if1 .taken)) (r .0) refl (r .1))  -- returns
+    (λ c. let r = c .before .before .refuse .ensures in ends-refused _ _ _ _ _ _ _ (from-long _ _ (omega (arith, c .before .before .before .before .if1 .taken))) (r .0) refl (r .1))  -- returns
     (λ c κs. search needs)  -- opens-requires
     (λ c κs. search needs)  -- refuse-requires-2
     (λ c. search needs)  -- same-length-2
