@@ -24,7 +24,7 @@ plain-far-spec =
     sym
     (end-all (a .kind) (a .s .now) _ _ (p .0) (p .1) (p .2)
     ∙ end-all (a .kind) (a .s .now) _ _ (q .0) (q .1) (q .2)
-    ∙ end-all (a .kind) (a .s .now) _ n (q .1) (omega arith) (λ k h l. c .before .is-plain .ensures (c .if2 .taken) k (omega (arith, c .before .before .if1 .taken)) l)
+    ∙ end-all (a .kind) (a .s .now) _ n (q .1) (omega arith) (λ k h l. c .before .is-plain .ensures (c .if2 .taken) k (omega (arith, c .before .before .if1 .taken)) (omega arith))
     ∙ end-past (a .kind) (a .s .now) n (omega arith)))  -- returns
     (λ c κs. search needs)  -- plain-to-requires
     (λ c.
