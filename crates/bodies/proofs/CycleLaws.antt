@@ -38,10 +38,10 @@ use Rattle.bodies.proofs.FstringLaws.{before-spec, signsOf, one-part, g
 use Rattle.bodies.proofs.RowLaws.{Rowing, closed-signed, field-signed, filled-signed, both-signed, read-signed, to-sign, few-field, text-few, goes-on, placed, head-in}
 
 -- A FIELD, whose head was read and emitted
-module _ (look : Naming) (s : List ℕ) (depth from : ℕ) (fr : Frame) (k : Sink) (h : Head) (parts : ℕ) (text text₁ words words₁ text₂ : List ℕ) (a : Sink) (c : EndedIs s from (k .used) h parts text text₁)
+module _ (s : List ℕ) (depth from : ℕ) (fr : Frame) (k : Sink) (h : Head) (parts : ℕ) (text text₁ words words₁ text₂ : List ℕ) (a : Sink) (c : EndedIs s from (k .used) h parts text text₁)
     (R : Room s from fr k) (wrote : (written words₁ a ≡ w.field fr h parts from depth (written words k)) × (text₂ ≡ documentedText h (k .used) text₁)) where
-  abbrev read : d.Read (List Piece)
-  read = fieldN look (enough s) (fr .kind) s depth from from fresh
+  abbrev read : Naming → d.Read (List Piece)
+  read look = fieldN look (enough s) (fr .kind) s depth from from fresh
 
   m : (e T : List ℕ) (g : Signs) → h .used ≡ k .used + length e → text₁ ≡ over T (k .used) e → Emits fr depth (before-spec depth e h parts from g) words T words₁ text₂ k a
   m =
@@ -57,17 +57,18 @@ module _ (look : Naming) (s : List ℕ) (depth from : ℕ) (fr : Frame) (k : Sin
     emitted g =
         subst (λ x. Emits fr depth (before-spec depth (closed .head .expression) h x from g) words text words₁ text₂ k a) z (m (closed .head .expression) text g (closed .head .grown) (closed .head .wrote))
 
-    pub closed-returns : (rows rows₁ : List ℕ) (fields : ℕ) → rows₁ ≡ windowed (fr .window) fields (rowNumbers (fr .window .within) (r.rowOf fr h (h .used - k .used) parts from 0 (h .at .at))) rows
-        → ReadIs read fr depth words text words₁ text₂ k (Done (h .at) a (fields + 1)) × SignedBy read fr rows rows₁ fields (fields + 1)
-    closed-returns rows rows₁ fields p = (
-      closed-field look s depth from (k .used) fr text text₁ h closed words words₁ text₂ k a (fields + 1) (emitted (signsOf h 0 (h .at .at))),
-      to-sign read _ (h .at .at) (fields + 1) fr rows rows₁ fields (closed-reads look s depth from (k .used) fr text text₁ h closed)
-          (closed-signed fr depth (closed .head .expression) h 0 from 0 (h .at .at) (h .used - k .used) rows rows rows₁ fields (omega (arith, closed .head .grown))
-          (rw z at (row-written fr h fields (h .used - k .used) parts from 0 (h .at .at) rows rows₁ there p)) refl),
-    )
-      where
-        there : Placed fr h (h .used - k .used) from 0 (h .at .at)
-        there = placed (endOf parts) s from (k .used) fr k h text text₁ 0 (h .at .at) (c .head) R (omega arith) (head-in (endOf parts) s from (k .used) h text text₁ (c .head))
+    module _ (look : Naming) where
+      pub closed-returns : (rows rows₁ : List ℕ) (fields : ℕ) → rows₁ ≡ windowed (fr .window) fields (rowNumbers (fr .window .within) (r.rowOf fr h (h .used - k .used) parts from 0 (h .at .at))) rows
+          → ReadIs (read look) fr depth words text words₁ text₂ k (Done (h .at) a (fields + 1)) × SignedBy (read look) fr rows rows₁ fields (fields + 1)
+      closed-returns rows rows₁ fields p = (
+        closed-field look s depth from (k .used) fr text text₁ h closed words words₁ text₂ k a (fields + 1) (emitted (signsOf h 0 (h .at .at))),
+        to-sign (read look) _ (h .at .at) (fields + 1) fr rows rows₁ fields (closed-reads look s depth from (k .used) fr text text₁ h closed)
+            (closed-signed fr depth (closed .head .expression) h 0 from 0 (h .at .at) (h .used - k .used) rows rows rows₁ fields (omega (arith, closed .head .grown))
+            (rw z at (row-written fr h fields (h .used - k .used) parts from 0 (h .at .at) rows rows₁ there p)) refl),
+      )
+        where
+          there : Placed fr h (h .used - k .used) from 0 (h .at .at)
+          there = placed (endOf parts) s from (k .used) fr k h text text₁ 0 (h .at .at) (c .head) R (omega arith) (head-in (endOf parts) s from (k .used) h text text₁ (c .head))
 
   -- a `:` ended it
   module _ (n : parts ≡ 0 → ⊥) where
@@ -87,36 +88,37 @@ module _ (look : Naming) (s : List ℕ) (depth from : ℕ) (fr : Frame) (k : Sin
       few-field fr depth (opened .expression) h 1 from words text words₁ text₂ k a fields begun l,
     )
 
-    -- its spec was refused
-    pub spec-refuses : (words′ text′ words₂ text₃ : List ℕ) (x : Refusal) → SpecIs (specN look (enough s) (fr .kind) s depth (h .at .at)) fr depth words₁ text₂ words₂ text₃ a (Refused x) → ReadIs read fr depth words text words′ text′ k (Refused x)
-    spec-refuses words′ text′ words₂ text₃ x q =
-        to-refuse (λ l. l) fr depth words text words′ text′ k read x
-        (unformatted-field look s depth from (k .used) (fr .kind) text text₁ h opened (faultOf x) (refuses _ fr depth words₁ text₂ words₂ text₃ a _ x q))
+    module _ (look : Naming) where
+      -- its spec was refused
+      pub spec-refuses : (words′ text′ words₂ text₃ : List ℕ) (x : Refusal) → SpecIs (specN look (enough s) (fr .kind) s depth (h .at .at)) fr depth words₁ text₂ words₂ text₃ a (Refused x) → ReadIs (read look) fr depth words text words′ text′ k (Refused x)
+      spec-refuses words′ text′ words₂ text₃ x q =
+          to-refuse (λ l. l) fr depth words text words′ text′ k (read look) x
+          (unformatted-field look s depth from (k .used) (fr .kind) text text₁ h opened (faultOf x) (refuses _ fr depth words₁ text₂ words₂ text₃ a _ x q))
 
-    -- or read
-    module _ (words₂ text₃ : List ℕ) (to : Cursor) (b : Sink) (count : ℕ) (q : SpecIs (specN look (enough s) (fr .kind) s depth (h .at .at)) fr depth words₁ text₂ words₂ text₃ a (Done to b count)) where
-      answer : Gave (λ ps. spec (direct (suc depth) ps) ∷ ps) (specN look (enough s) (fr .kind) s depth (h .at .at)) fr depth words₁ text₂ words₂ text₃ a (to .at) b
-      answer = gave _ fr depth words₁ text₂ words₂ text₃ a _ to b count q
+      -- or read
+      module _ (words₂ text₃ : List ℕ) (to : Cursor) (b : Sink) (count : ℕ) (q : SpecIs (specN look (enough s) (fr .kind) s depth (h .at .at)) fr depth words₁ text₂ words₂ text₃ a (Done to b count)) where
+        answer : Gave (λ ps. spec (direct (suc depth) ps) ∷ ps) (specN look (enough s) (fr .kind) s depth (h .at .at)) fr depth words₁ text₂ words₂ text₃ a (to .at) b
+        answer = gave _ fr depth words₁ text₂ words₂ text₃ a _ to b count q
 
-      pub end-refuses : (words′ text′ : List ℕ) (x : Refusal) → end.Refused x ≡ fieldEnd s (to .at) (h .blank) → ReadIs read fr depth words text words′ text′ k (Refused x)
-      end-refuses words′ text′ x e =
-          to-refuse (λ l. l) fr depth words text words′ text′ k read x (spec-unended look s depth from (k .used) fr text text₁ h opened (answer .pieces) (to .at) (answer .reads) x e)
+        pub end-refuses : (words′ text′ : List ℕ) (x : Refusal) → end.Refused x ≡ fieldEnd s (to .at) (h .blank) → ReadIs (read look) fr depth words text words′ text′ k (Refused x)
+        end-refuses words′ text′ x e =
+            to-refuse (λ l. l) fr depth words text words′ text′ k (read look) x (spec-unended look s depth from (k .used) fr text text₁ h opened (answer .pieces) (to .at) (answer .reads) x e)
 
-      module _ (close : Cursor) (e : end.At close ≡ fieldEnd s (to .at) (h .blank)) where
-        there : Placed fr h (h .used - k .used) from (h .at .at) (close .at)
-        there =
-            placed calls s from (k .used) fr k h text text₁ (h .at .at) (close .at) opened R (head-in calls s from (k .used) h text text₁ opened)
-            (spec-ended look s depth from (k .used) fr text text₁ h opened (answer .pieces) (to .at) (answer .reads) close e .1)
+        module _ (close : Cursor) (e : end.At close ≡ fieldEnd s (to .at) (h .blank)) where
+          there : Placed fr h (h .used - k .used) from (h .at .at) (close .at)
+          there =
+              placed calls s from (k .used) fr k h text text₁ (h .at .at) (close .at) opened R (head-in calls s from (k .used) h text text₁ opened)
+              (spec-ended look s depth from (k .used) fr text text₁ h opened (answer .pieces) (to .at) (answer .reads) close e .1)
 
-        pub spec-returns : (rows rows₁ rows₂ : List ℕ) (fields : ℕ) → rows₂ ≡ windowed (fr .window) fields (rowNumbers (fr .window .within) (r.rowOf fr h (h .used - k .used) parts from (h .at .at) (close .at))) rows₁
-            → SignedBy (specN look (enough s) (fr .kind) s depth (h .at .at)) fr rows rows₁ (fields + 1) count
-            → ReadIs read fr depth words text words₂ text₃ k (Done close b count) × SignedBy read fr rows rows₂ fields count
-        spec-returns rows rows₁ rows₂ fields p y = (
-          specified-field look s depth from (k .used) fr text text₁ h opened (answer .pieces) (to .at) (answer .reads) close e words words₁ text₂ words₂ text₃ k a b count begun (answer .emits),
-          to-sign read _ (close .at) count fr rows rows₂ fields (spec-ended look s depth from (k .used) fr text text₁ h opened (answer .pieces) (to .at) (answer .reads) close e .0)
-              (field-signed fr depth (opened .expression) h 1 from (h .at .at) (close .at) (h .used - k .used) rows rows₁ rows₂ fields (omega (arith, opened .grown)) (rw one at (row-written fr h fields (h .used - k .used) parts from (h .at .at) (close .at) rows₁ rows₂ there p)) (answer .pieces) count _
-              (read-signed _ (answer .pieces) (to .at) count fr rows rows₁ (fields + 1) (answer .reads) y)),
-        )
+          pub spec-returns : (rows rows₁ rows₂ : List ℕ) (fields : ℕ) → rows₂ ≡ windowed (fr .window) fields (rowNumbers (fr .window .within) (r.rowOf fr h (h .used - k .used) parts from (h .at .at) (close .at))) rows₁
+              → SignedBy (specN look (enough s) (fr .kind) s depth (h .at .at)) fr rows rows₁ (fields + 1) count
+              → ReadIs (read look) fr depth words text words₂ text₃ k (Done close b count) × SignedBy (read look) fr rows rows₂ fields count
+          spec-returns rows rows₁ rows₂ fields p y = (
+            specified-field look s depth from (k .used) fr text text₁ h opened (answer .pieces) (to .at) (answer .reads) close e words words₁ text₂ words₂ text₃ k a b count begun (answer .emits),
+            to-sign (read look) _ (close .at) count fr rows rows₂ fields (spec-ended look s depth from (k .used) fr text text₁ h opened (answer .pieces) (to .at) (answer .reads) close e .0)
+                (field-signed fr depth (opened .expression) h 1 from (h .at .at) (close .at) (h .used - k .used) rows rows₁ rows₂ fields (omega (arith, opened .grown)) (rw one at (row-written fr h fields (h .used - k .used) parts from (h .at .at) (close .at) rows₁ rows₂ there p)) (answer .pieces) count _
+                (read-signed _ (answer .pieces) (to .at) count fr rows rows₁ (fields + 1) (answer .reads) y)),
+          )
 
 -- TEXT up to a place
 pub text-written : (look : Naming) (s : List ℕ) (depth at : ℕ) (fr : Frame) (words text words₁ text₁ : List ℕ) (k : Sink) (i : ℕ) (a : Sink) → Sofar look s (fr .kind) depth at fr words text words₁ text₁ k i a
@@ -184,14 +186,14 @@ module _ (look : Naming) (s : List ℕ) (depth i : ℕ) (fr : Frame) (words text
   behind = gave _ fr (suc depth) words₁ text₁ words₂ text₂ b _ to b′ count q
 
   behind-fits : Fits b′
-  behind-fits = spec-fits look s depth i fr words text words₁ text₁ k a b end j R l K at size wrote g free res z words₂ text₂ b′ (to .at) behind
+  behind-fits = spec-fits s depth i fr words text words₁ text₁ k a b end j R l K at size wrote g look free res z words₂ text₂ b′ (to .at) behind
 
   pub braced-returns : (code s j is "{") ≡ true → (words₃ : List ℕ) (r : Sink) → written words₃ r ≡ specified fr k (written words₂ b′)
       → (rows rows₁ : List ℕ) (fields : ℕ) → SignedBy (textN look (enough s) (fr .kind) s (suc depth) j [] []) fr rows rows₁ fields count
       → SpecIs (specN look (enough s) (fr .kind) s depth i) fr depth words text words₃ text₂ k (Done to r count) × SignedBy (specN look (enough s) (fr .kind) s depth i) fr rows rows₁ fields count
   braced-returns c words₃ r f rows rows₁ fields y = (
-    spec-braced look s depth i fr words text words₁ text₁ k a b end j R l K at size wrote g free res z c words₂ text₂ words₃ b′ r to count behind (filled-in .0) (filled-in .1),
-    to-sign (specN look (enough s) (fr .kind) s depth i) _ (to .at) count fr rows rows₁ fields (braced-reads look s depth i fr words text words₁ text₁ k a b end j R l K at size wrote g free res z c (behind .pieces) (to .at) (behind .reads))
+    spec-braced s depth i fr words text words₁ text₁ k a b end j R l K at size wrote g look free res z c words₂ text₂ words₃ b′ r to count behind (filled-in .0) (filled-in .1),
+    to-sign (specN look (enough s) (fr .kind) s depth i) _ (to .at) count fr rows rows₁ fields (braced-reads s depth i fr words text words₁ text₁ k a b end j R l K at size wrote g look free res z c (behind .pieces) (to .at) (behind .reads))
         (both-signed fr (firstPiece s depth i) (behind .pieces) rows rows rows₁ fields fields count (filled-signed fr (suc depth) _ rows fields) (read-signed _ (behind .pieces) (to .at) count fr rows rows₁ fields (behind .reads) y)),
   )
     where

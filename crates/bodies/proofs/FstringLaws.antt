@@ -471,7 +471,7 @@ pub room-kept : (s : List ℕ) (at : ℕ) (fr : Frame) (k a : Sink) → Room s a
 room-kept s at fr k a R l q = record { low = R .low; small = R .small; places = R .places; load = omega (arith, q .load); ordered = q .ordered (R .ordered) }
 
 -- a spec's first piece, emitted behind the place kept for the spec
-module _ (look : Naming) (s : List ℕ) (depth i : ℕ) (fr : Frame) (words text words₁ text₁ : List ℕ) (k a b : Sink) (end j : ℕ)
+module _ (s : List ℕ) (depth i : ℕ) (fr : Frame) (words text words₁ text₁ : List ℕ) (k a b : Sink) (end j : ℕ)
     (R : Room s i fr k) (l : loadOf k + 8 * (length s - i) < 16777216) (q : Kept k a)
     (at : j ≡ firstEnd s i) (size : end + i ≡ k .used + j) (wrote : text₁ ≡ over text (k .used) (part s i j))
     (g : (t T : List ℕ) → end ≡ a .used + length t → Emits fr (suc depth) (filled (suc depth) t) words T words₁ (over T (a .used) t) a b) where
@@ -489,7 +489,7 @@ module _ (look : Naming) (s : List ℕ) (depth i : ℕ) (fr : Frame) (words text
       room-on s i j (suc depth) fr (firstPiece s depth i) words text words₁ text₁ a b first-emits (room-kept s i fr k a R l q) (omega (arith, at)) (rw at (first-in s i (R .low)))
       (omega (arith, at, filled-light (suc depth) (part s i (firstEnd s i)), part-short s i (firstEnd s i)))
 
-  module _ (free : isHeld k ≡ false) (res : (words T : List ℕ) → outOf a words T ≡ reserved (outOf k words T)) (z : a .parts ≡ 0) where
+  module _ (look : Naming) (free : isHeld k ≡ false) (res : (words T : List ℕ) → outOf a words T ≡ reserved (outOf k words T)) (z : a .parts ≡ 0) where
     -- the spec's record is filled in behind pieces that it gave
     spec-filled : (ps : List Piece) (n : ℕ) (words₂ text₂ words₃ : List ℕ) (c r : Sink)
         → specN look (enough s) (fr .kind) s depth i ≡ got ps n → Emits fr (suc depth) ps words text words₂ text₂ a c

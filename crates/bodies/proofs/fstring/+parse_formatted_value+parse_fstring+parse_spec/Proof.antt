@@ -108,35 +108,35 @@ parse-fstring-μ-loop s nested fr words₀ text₀ rows₀ fields file index cur
 
 parse-formatted-value-returns : (t : ℕ) → parse-formatted-value-lts.Need-returns (parse-formatted-value-calls t) (parse-formatted-value-at t) parse-formatted-value.Post
 parse-formatted-value-returns t c =
-    let a = c .before .before .before .before .before .before .before .before .before .before .before .before .before .before .before .before .before .before .before .before .before .before .before .before .before .before .before .before .args in let E = rw (c .before .before .before .before .before .before .before .before .before .before .before .before .before .before .before .before .h .given .1) at (c .before .before .before .before .before .before .before .before .before .before .before .before .before .before .before .before .before .before .before .before .read-head .ensures) in closed-returns _ (a .s .now) (a .nested) (a .at .at) (a .fr) (a .k) (c .before .before .before .before .before .before .before .before .before .before .before .before .before .before .before .before .h .given .0 .0) _ _ _ _ _ _ _ E (c .before .before .before .before .before .before .before .before .before .before .before .before .before .before .before .before .before .before .before .before .before .before .before .before .before .before .before .before .pre .1 .0) (c .before .before .before .before .before .before .before .before .before .emit-field .ensures) (c .before .before .before .before .if1 .taken) _ _ (a .fields) (c .before .before .put-signs .ensures)
+    let a = c .before .before .before .before .before .before .before .before .before .before .before .before .before .before .before .before .before .before .before .before .before .before .before .before .before .before .before .before .args in let E = rw (c .before .before .before .before .before .before .before .before .before .before .before .before .before .before .before .before .h .given .1) at (c .before .before .before .before .before .before .before .before .before .before .before .before .before .before .before .before .before .before .before .before .read-head .ensures) in closed-returns (a .s .now) (a .nested) (a .at .at) (a .fr) (a .k) (c .before .before .before .before .before .before .before .before .before .before .before .before .before .before .before .before .h .given .0 .0) _ _ _ _ _ _ _ E (c .before .before .before .before .before .before .before .before .before .before .before .before .before .before .before .before .before .before .before .before .before .before .before .before .before .before .before .before .pre .1 .0) (c .before .before .before .before .before .before .before .before .before .emit-field .ensures) (c .before .before .before .before .if1 .taken) _ _ _ (a .fields) (c .before .before .put-signs .ensures)
 
 parse-formatted-value-parse-spec-requires : (t : ℕ) → parse-formatted-value-lts.Need-parse-spec-requires (parse-formatted-value-calls t) (parse-formatted-value-at t) parse-formatted-value.Post
 parse-formatted-value-parse-spec-requires t c κs =
-    let a = c .before .before .before .before .before .before .before .before .before .before .before .before .before .before .before .before .before .before .before .before .before .before .before .before .before .before .before .args in let p = c .before .before .before .before .before .before .before .before .before .before .before .before .before .before .before .before .before .before .before .before .before .before .before .before .before .before .before .pre in let E = rw (c .before .before .before .before .before .before .before .before .before .before .before .before .before .before .before .h .given .1) at (c .before .before .before .before .before .before .before .before .before .before .before .before .before .before .before .before .before .before .before .read-head .ensures) in let q = spec-asks (namesBy (a .file .now) (a .index .now)) (a .s .now) (a .nested) (a .at .at) (a .fr) (a .k) (c .before .before .before .before .before .before .before .before .before .before .before .before .before .before .before .h .given .0 .0) _ _ _ _ _ _ _ E (p .1 .0) (c .before .before .before .before .before .before .before .before .emit-field .ensures) (c .before .before .before .if1 .left) (a .fields) (p .1 .1 .1) in (omega (arith, p .0, q .0 .further, q .0 .room .low), (q .0 .room, ((p .1 .1 .0, q .0 .free, q .0 .strict), q .1)))
+    let a = c .before .before .before .before .before .before .before .before .before .before .before .before .before .before .before .before .before .before .before .before .before .before .before .before .before .before .before .args in let p = c .before .before .before .before .before .before .before .before .before .before .before .before .before .before .before .before .before .before .before .before .before .before .before .before .before .before .before .pre in let E = rw (c .before .before .before .before .before .before .before .before .before .before .before .before .before .before .before .h .given .1) at (c .before .before .before .before .before .before .before .before .before .before .before .before .before .before .before .before .before .before .before .read-head .ensures) in let q = spec-asks (a .s .now) (a .nested) (a .at .at) (a .fr) (a .k) (c .before .before .before .before .before .before .before .before .before .before .before .before .before .before .before .h .given .0 .0) _ _ _ _ _ _ _ E (p .1 .0) (c .before .before .before .before .before .before .before .before .emit-field .ensures) (c .before .before .before .if1 .left) (a .fields) (p .1 .1 .1) in (omega (arith, p .0, q .0 .further, q .0 .room .low), (q .0 .room, ((p .1 .1 .0, q .0 .free, q .0 .strict), q .1)))
 
 parse-formatted-value-returns-3 : (t : ℕ) → parse-formatted-value-lts.Need-returns-3 (parse-formatted-value-calls t) (parse-formatted-value-at t) parse-formatted-value.Post
 parse-formatted-value-returns-3 t c =
-    let a = c .before .before .before .before .before .before .before .before .before .before .before .before .before .before .before .before .before .before .before .before .before .before .before .before .before .before .before .before .before .before .before .before .before .before .before .before .before .args in let E = rw (c .before .before .before .before .before .before .before .before .before .before .before .before .before .before .before .before .before .before .before .before .before .before .before .before .before .h .given .1) at (c .before .before .before .before .before .before .before .before .before .before .before .before .before .before .before .before .before .before .before .before .before .before .before .before .before .before .before .before .before .read-head .ensures) in let Q = rw (c .before .r2 .given .1) at (c .before .before .before .before .before .before .before .before .before .parse-spec .ensures) in (spec-refuses _ (a .s .now) (a .nested) (a .at .at) (a .fr) (a .k) (c .before .before .before .before .before .before .before .before .before .before .before .before .before .before .before .before .before .before .before .before .before .before .before .before .before .h .given .0 .0) _ _ _ _ _ _ _ E (c .before .before .before .before .before .before .before .before .before .before .before .before .before .before .before .before .before .before .before .before .before .before .before .before .before .before .before .before .before .before .before .before .before .before .before .before .before .pre .1 .0) (c .before .before .before .before .before .before .before .before .before .before .before .before .before .before .before .before .before .before .emit-field .ensures) (c .before .before .before .before .before .before .before .before .before .before .before .before .before .if1 .left) _ _ _ _ _ (Q .0), tt)
+    let a = c .before .before .before .before .before .before .before .before .before .before .before .before .before .before .before .before .before .before .before .before .before .before .before .before .before .before .before .before .before .before .before .before .before .before .before .before .before .args in let E = rw (c .before .before .before .before .before .before .before .before .before .before .before .before .before .before .before .before .before .before .before .before .before .before .before .before .before .h .given .1) at (c .before .before .before .before .before .before .before .before .before .before .before .before .before .before .before .before .before .before .before .before .before .before .before .before .before .before .before .before .before .read-head .ensures) in let Q = rw (c .before .r2 .given .1) at (c .before .before .before .before .before .before .before .before .before .parse-spec .ensures) in (spec-refuses (a .s .now) (a .nested) (a .at .at) (a .fr) (a .k) (c .before .before .before .before .before .before .before .before .before .before .before .before .before .before .before .before .before .before .before .before .before .before .before .before .before .h .given .0 .0) _ _ _ _ _ _ _ E (c .before .before .before .before .before .before .before .before .before .before .before .before .before .before .before .before .before .before .before .before .before .before .before .before .before .before .before .before .before .before .before .before .before .before .before .before .before .pre .1 .0) (c .before .before .before .before .before .before .before .before .before .before .before .before .before .before .before .before .before .before .emit-field .ensures) (c .before .before .before .before .before .before .before .before .before .before .before .before .before .if1 .left) _ _ _ _ _ _ (Q .0), tt)
 
 parse-formatted-value-returns-4 : (t : ℕ) → parse-formatted-value-lts.Need-returns-4 (parse-formatted-value-calls t) (parse-formatted-value-at t) parse-formatted-value.Post
 parse-formatted-value-returns-4 t c =
-    let a = c .before .before .before .before .before .before .before .before .before .before .before .before .before .before .before .before .before .before .before .before .before .before .before .before .before .before .before .before .before .before .before .before .before .before .before .before .before .before .before .before .before .args in let E = rw (c .before .before .before .before .before .before .before .before .before .before .before .before .before .before .before .before .before .before .before .before .before .before .before .before .before .before .before .before .before .h .given .1) at (c .before .before .before .before .before .before .before .before .before .before .before .before .before .before .before .before .before .before .before .before .before .before .before .before .before .before .before .before .before .before .before .before .before .read-head .ensures) in let Q = rw (c .before .before .before .before .before .next .given .1) at (c .before .before .before .before .before .before .before .before .before .before .before .before .before .parse-spec .ensures) in (end-refuses _ (a .s .now) (a .nested) (a .at .at) (a .fr) (a .k) (c .before .before .before .before .before .before .before .before .before .before .before .before .before .before .before .before .before .before .before .before .before .before .before .before .before .before .before .before .before .h .given .0 .0) _ _ _ _ _ _ _ E (c .before .before .before .before .before .before .before .before .before .before .before .before .before .before .before .before .before .before .before .before .before .before .before .before .before .before .before .before .before .before .before .before .before .before .before .before .before .before .before .before .before .pre .1 .0) (c .before .before .before .before .before .before .before .before .before .before .before .before .before .before .before .before .before .before .before .before .before .before .emit-field .ensures) (c .before .before .before .before .before .before .before .before .before .before .before .before .before .before .before .before .before .if1 .left) _ _ _ _ _ (Q .0) _ _ _ (sym (c .before .r3 .given .1) ∙ (c .before .before .before .end-field .ensures)), tt)
+    let a = c .before .before .before .before .before .before .before .before .before .before .before .before .before .before .before .before .before .before .before .before .before .before .before .before .before .before .before .before .before .before .before .before .before .before .before .before .before .before .before .before .before .args in let E = rw (c .before .before .before .before .before .before .before .before .before .before .before .before .before .before .before .before .before .before .before .before .before .before .before .before .before .before .before .before .before .h .given .1) at (c .before .before .before .before .before .before .before .before .before .before .before .before .before .before .before .before .before .before .before .before .before .before .before .before .before .before .before .before .before .before .before .before .before .read-head .ensures) in let Q = rw (c .before .before .before .before .before .next .given .1) at (c .before .before .before .before .before .before .before .before .before .before .before .before .before .parse-spec .ensures) in (end-refuses (a .s .now) (a .nested) (a .at .at) (a .fr) (a .k) (c .before .before .before .before .before .before .before .before .before .before .before .before .before .before .before .before .before .before .before .before .before .before .before .before .before .before .before .before .before .h .given .0 .0) _ _ _ _ _ _ _ E (c .before .before .before .before .before .before .before .before .before .before .before .before .before .before .before .before .before .before .before .before .before .before .before .before .before .before .before .before .before .before .before .before .before .before .before .before .before .before .before .before .before .pre .1 .0) (c .before .before .before .before .before .before .before .before .before .before .before .before .before .before .before .before .before .before .before .before .before .before .emit-field .ensures) (c .before .before .before .before .before .before .before .before .before .before .before .before .before .before .before .before .before .if1 .left) _ _ _ _ _ _ (Q .0) _ _ _ (sym (c .before .r3 .given .1) ∙ (c .before .before .before .end-field .ensures)), tt)
 
 parse-formatted-value-returns-5 : (t : ℕ) → parse-formatted-value-lts.Need-returns-5 (parse-formatted-value-calls t) (parse-formatted-value-at t) parse-formatted-value.Post
 parse-formatted-value-returns-5 t c =
-    let a = c .before .before .before .before .before .before .before .before .before .before .before .before .before .before .before .before .before .before .before .before .before .before .before .before .before .before .before .before .before .before .before .before .before .before .before .before .before .before .before .before .before .before .before .before .before .args in let E = rw (c .before .before .before .before .before .before .before .before .before .before .before .before .before .before .before .before .before .before .before .before .before .before .before .before .before .before .before .before .before .before .before .before .before .h .given .1) at (c .before .before .before .before .before .before .before .before .before .before .before .before .before .before .before .before .before .before .before .before .before .before .before .before .before .before .before .before .before .before .before .before .before .before .before .before .before .read-head .ensures) in let Q = rw (c .before .before .before .before .before .before .before .before .before .next .given .1) at (c .before .before .before .before .before .before .before .before .before .before .before .before .before .before .before .before .before .parse-spec .ensures) in spec-returns _ (a .s .now) (a .nested) (a .at .at) (a .fr) (a .k) (c .before .before .before .before .before .before .before .before .before .before .before .before .before .before .before .before .before .before .before .before .before .before .before .before .before .before .before .before .before .before .before .before .before .h .given .0 .0) _ _ _ _ _ _ _ E (c .before .before .before .before .before .before .before .before .before .before .before .before .before .before .before .before .before .before .before .before .before .before .before .before .before .before .before .before .before .before .before .before .before .before .before .before .before .before .before .before .before .before .before .before .before .pre .1 .0) (c .before .before .before .before .before .before .before .before .before .before .before .before .before .before .before .before .before .before .before .before .before .before .before .before .before .before .emit-field .ensures) (c .before .before .before .before .before .before .before .before .before .before .before .before .before .before .before .before .before .before .before .before .before .if1 .left) _ _ _ _ _ (Q .0) (c .before .before .before .before .before .close .given .0 .0) (sym (c .before .before .before .before .before .close .given .1) ∙ (c .before .before .before .before .before .before .before .end-field .ensures)) _ _ _ (a .fields) (c .before .before .put-signs2 .ensures) (Q .1)
+    let a = c .before .before .before .before .before .before .before .before .before .before .before .before .before .before .before .before .before .before .before .before .before .before .before .before .before .before .before .before .before .before .before .before .before .before .before .before .before .before .before .before .before .before .before .before .before .args in let E = rw (c .before .before .before .before .before .before .before .before .before .before .before .before .before .before .before .before .before .before .before .before .before .before .before .before .before .before .before .before .before .before .before .before .before .h .given .1) at (c .before .before .before .before .before .before .before .before .before .before .before .before .before .before .before .before .before .before .before .before .before .before .before .before .before .before .before .before .before .before .before .before .before .before .before .before .before .read-head .ensures) in let Q = rw (c .before .before .before .before .before .before .before .before .before .next .given .1) at (c .before .before .before .before .before .before .before .before .before .before .before .before .before .before .before .before .before .parse-spec .ensures) in spec-returns (a .s .now) (a .nested) (a .at .at) (a .fr) (a .k) (c .before .before .before .before .before .before .before .before .before .before .before .before .before .before .before .before .before .before .before .before .before .before .before .before .before .before .before .before .before .before .before .before .before .h .given .0 .0) _ _ _ _ _ _ _ E (c .before .before .before .before .before .before .before .before .before .before .before .before .before .before .before .before .before .before .before .before .before .before .before .before .before .before .before .before .before .before .before .before .before .before .before .before .before .before .before .before .before .before .before .before .before .pre .1 .0) (c .before .before .before .before .before .before .before .before .before .before .before .before .before .before .before .before .before .before .before .before .before .before .before .before .before .before .emit-field .ensures) (c .before .before .before .before .before .before .before .before .before .before .before .before .before .before .before .before .before .before .before .before .before .if1 .left) _ _ _ _ _ _ (Q .0) (c .before .before .before .before .before .close .given .0 .0) (sym (c .before .before .before .before .before .close .given .1) ∙ (c .before .before .before .before .before .before .before .end-field .ensures)) _ _ _ (a .fields) (c .before .before .put-signs2 .ensures) (Q .1)
 
 parse-spec-returns : (t : ℕ) → parse-spec-lts.Need-returns (parse-spec-calls t) (parse-spec-at t) parse-spec.Post
 parse-spec-returns t c =
-    let a = (c .before .before .before .before .before .before .before .before .before .before .before .before .before .before .before .before .before .before .before .before .before .before .args) in let R = (c .before .before .before .before .before .before .before .before .before .before .before .before .before .before .before .before .before .before .before .before .before .before .pre .1 .0) in let Z = (c .before .before .before .before .before .before .before .before .before .before .before .before .before .before .before .before .before .before .before .before .before .before .pre .1 .1 .0) in let N = reserved-kept (a .k) (c .before .before .before .before .before .before .before .before .before .reserve .result) (fits _ _ _ _ R) (c .before .before .before .before .before .before .before .before .before .reserve .ensures) in let K = kept (a .k) (c .before .before .before .before .before .before .before .before .before .reserve .result) (N .0) (N .1) in let F = (c .before .before .before .before .before .before .before .before .before .before .before .before .before .before .read-first .ensures) in let g = first-written (a .s .now) (a .nested) (a .at .at) (a .fr) _ _ (a .k) _ _ _ _ R K (F .0) (F .1) (rw (add-one (a .nested)) at (c .before .before .before .before .before .before .before .before .end-text .ensures)) in let n = ne-eqb _ _ (λ e. (c .before .before .before .before .if1 .taken) ((c .before .before .before .before .before .peek .ensures) ∙ e)) in let P = specified-filled (a .fr) (a .k) _ _ _ _ (fits _ _ _ _ R) (fits _ _ _ _ (first-room (namesBy (a .file .now) (a .index .now)) (a .s .now) (a .nested) (a .at .at) (a .fr) _ _ _ _ (a .k) _ _ _ _ R (Z .2) K (F .0) (F .1) (F .2) g)) (c .before .before .fill-spec .ensures) in (spec-plain _ (a .s .now) (a .nested) (a .at .at) (a .fr) _ _ _ _ (a .k) _ _ _ _ R (Z .2) K (F .0) (F .1) (F .2) g (Z .1) (N .0) (N .1) _ _ _ _ refl n (P .0) (P .1), to-sign _ _ _ _ (a .fr) _ _ (a .fields) (plain-reads _ (a .s .now) (a .nested) (a .at .at) (a .fr) _ _ _ _ (a .k) _ _ _ _ R (Z .2) K (F .0) (F .1) (F .2) g (Z .1) (N .0) (N .1) _ refl n) (filled-signed (a .fr) (suc (a .nested)) _ _ (a .fields)))
+    let a = (c .before .before .before .before .before .before .before .before .before .before .before .before .before .before .before .before .before .before .before .before .before .before .args) in let R = (c .before .before .before .before .before .before .before .before .before .before .before .before .before .before .before .before .before .before .before .before .before .before .pre .1 .0) in let Z = (c .before .before .before .before .before .before .before .before .before .before .before .before .before .before .before .before .before .before .before .before .before .before .pre .1 .1 .0) in let N = reserved-kept (a .k) (c .before .before .before .before .before .before .before .before .before .reserve .result) (fits _ _ _ _ R) (c .before .before .before .before .before .before .before .before .before .reserve .ensures) in let K = kept (a .k) (c .before .before .before .before .before .before .before .before .before .reserve .result) (N .0) (N .1) in let F = (c .before .before .before .before .before .before .before .before .before .before .before .before .before .before .read-first .ensures) in let g = first-written (a .s .now) (a .nested) (a .at .at) (a .fr) _ _ (a .k) _ _ _ _ R K (F .0) (F .1) (rw (add-one (a .nested)) at (c .before .before .before .before .before .before .before .before .end-text .ensures)) in let n = ne-eqb _ _ (λ e. (c .before .before .before .before .if1 .taken) ((c .before .before .before .before .before .peek .ensures) ∙ e)) in let P = specified-filled (a .fr) (a .k) _ _ _ _ (fits _ _ _ _ R) (fits _ _ _ _ (first-room (a .s .now) (a .nested) (a .at .at) (a .fr) _ _ _ _ (a .k) _ _ _ _ R (Z .2) K (F .0) (F .1) (F .2) g)) (c .before .before .fill-spec .ensures) in (spec-plain (a .s .now) (a .nested) (a .at .at) (a .fr) _ _ _ _ (a .k) _ _ _ _ R (Z .2) K (F .0) (F .1) (F .2) g _ (Z .1) (N .0) (N .1) _ _ _ _ refl n (P .0) (P .1), to-sign _ _ _ _ (a .fr) _ _ (a .fields) (plain-reads (a .s .now) (a .nested) (a .at .at) (a .fr) _ _ _ _ (a .k) _ _ _ _ R (Z .2) K (F .0) (F .1) (F .2) g _ (Z .1) (N .0) (N .1) _ refl n) (filled-signed (a .fr) (suc (a .nested)) _ _ (a .fields)))
 
 parse-spec-parse-fstring-requires : (t : ℕ) → parse-spec-lts.Need-parse-fstring-requires (parse-spec-calls t) (parse-spec-at t) parse-spec.Post
 parse-spec-parse-fstring-requires t c κs =
-    let a = (c .before .before .before .before .before .before .before .before .before .before .before .before .before .before .before .before .before .before .before .before .before .args) in let R = (c .before .before .before .before .before .before .before .before .before .before .before .before .before .before .before .before .before .before .before .before .before .pre .1 .0) in let Z = (c .before .before .before .before .before .before .before .before .before .before .before .before .before .before .before .before .before .before .before .before .before .pre .1 .1 .0) in let N = reserved-kept (a .k) (c .before .before .before .before .before .before .before .before .reserve .result) (fits _ _ _ _ R) (c .before .before .before .before .before .before .before .before .reserve .ensures) in let K = kept (a .k) (c .before .before .before .before .before .before .before .before .reserve .result) (N .0) (N .1) in let F = (c .before .before .before .before .before .before .before .before .before .before .before .before .before .read-first .ensures) in let g = first-written (a .s .now) (a .nested) (a .at .at) (a .fr) _ _ (a .k) _ _ _ _ R K (F .0) (F .1) (rw (add-one (a .nested)) at (c .before .before .before .before .before .before .before .end-text .ensures)) in let lo = first-in (a .s .now) (a .at .at) (R .low) in let q = first-room (namesBy (a .file .now) (a .index .now)) (a .s .now) (a .nested) (a .at .at) (a .fr) _ _ _ _ (a .k) _ _ _ _ R (Z .2) K (F .0) (F .1) (F .2) g in (omega (arith, (c .before .before .before .before .before .before .before .before .before .before .before .before .before .before .before .before .before .before .before .before .before .pre .0), Z .0, F .0, q .low), (q, (omega (arith, Z .0), few-on (a .fr) (suc (a .nested)) _ _ _ _ _ _ _ _ _ _ _ (first-emits (namesBy (a .file .now) (a .index .now)) (a .s .now) (a .nested) (a .at .at) (a .fr) _ _ _ _ (a .k) _ _ _ _ R (Z .2) K (F .0) (F .1) (F .2) g) (filled-signed (a .fr) (suc (a .nested)) _ (a .rows .now) _) (omega (arith, K .count, (c .before .before .before .before .before .before .before .before .before .before .before .before .before .before .before .before .before .before .before .before .before .pre .1 .1 .1))))))
+    let a = (c .before .before .before .before .before .before .before .before .before .before .before .before .before .before .before .before .before .before .before .before .before .args) in let R = (c .before .before .before .before .before .before .before .before .before .before .before .before .before .before .before .before .before .before .before .before .before .pre .1 .0) in let Z = (c .before .before .before .before .before .before .before .before .before .before .before .before .before .before .before .before .before .before .before .before .before .pre .1 .1 .0) in let N = reserved-kept (a .k) (c .before .before .before .before .before .before .before .before .reserve .result) (fits _ _ _ _ R) (c .before .before .before .before .before .before .before .before .reserve .ensures) in let K = kept (a .k) (c .before .before .before .before .before .before .before .before .reserve .result) (N .0) (N .1) in let F = (c .before .before .before .before .before .before .before .before .before .before .before .before .before .read-first .ensures) in let g = first-written (a .s .now) (a .nested) (a .at .at) (a .fr) _ _ (a .k) _ _ _ _ R K (F .0) (F .1) (rw (add-one (a .nested)) at (c .before .before .before .before .before .before .before .end-text .ensures)) in let lo = first-in (a .s .now) (a .at .at) (R .low) in let q = first-room (a .s .now) (a .nested) (a .at .at) (a .fr) _ _ _ _ (a .k) _ _ _ _ R (Z .2) K (F .0) (F .1) (F .2) g in (omega (arith, (c .before .before .before .before .before .before .before .before .before .before .before .before .before .before .before .before .before .before .before .before .before .pre .0), Z .0, F .0, q .low), (q, (omega (arith, Z .0), few-on (a .fr) (suc (a .nested)) _ _ _ _ _ _ _ _ _ _ _ (first-emits (a .s .now) (a .nested) (a .at .at) (a .fr) _ _ _ _ (a .k) _ _ _ _ R (Z .2) K (F .0) (F .1) (F .2) g) (filled-signed (a .fr) (suc (a .nested)) _ (a .rows .now) _) (omega (arith, K .count, (c .before .before .before .before .before .before .before .before .before .before .before .before .before .before .before .before .before .before .before .before .before .pre .1 .1 .1))))))
 
 parse-spec-returns-2 : (t : ℕ) → parse-spec-lts.Need-returns-2 (parse-spec-calls t) (parse-spec-at t) parse-spec.Post
 parse-spec-returns-2 t c =
-    let a = (c .before .before .before .before .before .before .before .before .before .before .before .before .before .before .before .before .before .before .before .before .before .before .before .before .before .before .before .before .before .before .before .args) in let R = (c .before .before .before .before .before .before .before .before .before .before .before .before .before .before .before .before .before .before .before .before .before .before .before .before .before .before .before .before .before .before .before .pre .1 .0) in let Z = (c .before .before .before .before .before .before .before .before .before .before .before .before .before .before .before .before .before .before .before .before .before .before .before .before .before .before .before .before .before .before .before .pre .1 .1 .0) in let N = reserved-kept (a .k) (c .before .before .before .before .before .before .before .before .before .before .before .before .before .before .before .before .before .before .reserve .result) (fits _ _ _ _ R) (c .before .before .before .before .before .before .before .before .before .before .before .before .before .before .before .before .before .before .reserve .ensures) in let K = kept (a .k) (c .before .before .before .before .before .before .before .before .before .before .before .before .before .before .before .before .before .before .reserve .result) (N .0) (N .1) in let F = (c .before .before .before .before .before .before .before .before .before .before .before .before .before .before .before .before .before .before .before .before .before .before .before .read-first .ensures) in let g = first-written (a .s .now) (a .nested) (a .at .at) (a .fr) _ _ (a .k) _ _ _ _ R K (F .0) (F .1) (rw (add-one (a .nested)) at (c .before .before .before .before .before .before .before .before .before .before .before .before .before .before .before .before .before .end-text .ensures)) in let Q = rw (add-one (a .nested), (c .before .r .given .1)) at (c .before .before .before .before .before .before .before .before .before .parse-fstring .ensures) in (spec-refused _ (a .s .now) (a .nested) (a .at .at) (a .fr) _ _ _ _ (a .k) _ _ _ _ R (Z .2) K (F .0) (F .1) (F .2) g (Z .1) (N .0) (N .1) (eq-eqb _ _ (sym (c .before .before .before .before .before .before .before .before .before .before .before .before .before .before .peek .ensures) ∙ (c .before .before .before .before .before .before .before .before .before .before .before .before .before .if1 .left))) _ _ _ (refuses _ _ _ _ _ _ _ _ _ _ (Q .0)), tt)
+    let a = (c .before .before .before .before .before .before .before .before .before .before .before .before .before .before .before .before .before .before .before .before .before .before .before .before .before .before .before .before .before .before .before .args) in let R = (c .before .before .before .before .before .before .before .before .before .before .before .before .before .before .before .before .before .before .before .before .before .before .before .before .before .before .before .before .before .before .before .pre .1 .0) in let Z = (c .before .before .before .before .before .before .before .before .before .before .before .before .before .before .before .before .before .before .before .before .before .before .before .before .before .before .before .before .before .before .before .pre .1 .1 .0) in let N = reserved-kept (a .k) (c .before .before .before .before .before .before .before .before .before .before .before .before .before .before .before .before .before .before .reserve .result) (fits _ _ _ _ R) (c .before .before .before .before .before .before .before .before .before .before .before .before .before .before .before .before .before .before .reserve .ensures) in let K = kept (a .k) (c .before .before .before .before .before .before .before .before .before .before .before .before .before .before .before .before .before .before .reserve .result) (N .0) (N .1) in let F = (c .before .before .before .before .before .before .before .before .before .before .before .before .before .before .before .before .before .before .before .before .before .before .before .read-first .ensures) in let g = first-written (a .s .now) (a .nested) (a .at .at) (a .fr) _ _ (a .k) _ _ _ _ R K (F .0) (F .1) (rw (add-one (a .nested)) at (c .before .before .before .before .before .before .before .before .before .before .before .before .before .before .before .before .before .end-text .ensures)) in let Q = rw (add-one (a .nested), (c .before .r .given .1)) at (c .before .before .before .before .before .before .before .before .before .parse-fstring .ensures) in (spec-refused (a .s .now) (a .nested) (a .at .at) (a .fr) _ _ _ _ (a .k) _ _ _ _ R (Z .2) K (F .0) (F .1) (F .2) g _ (Z .1) (N .0) (N .1) (eq-eqb _ _ (sym (c .before .before .before .before .before .before .before .before .before .before .before .before .before .before .peek .ensures) ∙ (c .before .before .before .before .before .before .before .before .before .before .before .before .before .if1 .left))) _ _ _ (refuses _ _ _ _ _ _ _ _ _ _ (Q .0)), tt)
 
 parse-spec-returns-3 : (t : ℕ) → parse-spec-lts.Need-returns-3 (parse-spec-calls t) (parse-spec-at t) parse-spec.Post
 parse-spec-returns-3 t c =
