@@ -119,6 +119,25 @@ tooLittleIndexRoom = 62
 abbrev pub wrongIndex : ℕ
 wrongIndex = 63
 
+-- of a trace replayed through a template
+abbrev pub notOfGrammar : ℕ
+notOfGrammar = 68
+
+abbrev pub outsideSet : ℕ
+outsideSet = 69
+
+abbrev pub rowMalformed : ℕ
+rowMalformed = 70
+
+abbrev pub wrongColumns : ℕ
+wrongColumns = 71
+
+abbrev pub outOfRange : ℕ
+outOfRange = 72
+
+abbrev pub tooLittleLineRoom : ℕ
+tooLittleLineRoom = 73
+
 -- of every field of a script: a number of our own, where Python reads otherwise
 abbrev pub readOtherwise : ℕ
 readOtherwise = 75

@@ -1,4 +1,5 @@
--- Two calls that leave the same twelve numbers, words and text have one outcome; and so have two that leave the same list, or the same rows of a script.
+-- Two calls that leave the same twelve numbers, words and text have one outcome; and so have two that leave the same list, the same rows of a
+-- script, or the same lines of a trace.
 -- Assumes nothing.
 use mathlib.Core.Path.{_≡_, refl, sym, _∙_, ap}
 use mathlib.Core.List.{List, [], _∷_, _++_}
@@ -12,7 +13,9 @@ use Rattle.definition_scripts.specs.Listing.{fieldsInto, fieldsNumbers}
 use Rattle.definition.proofs.formed.Held.{numbers-one}
 use Rattle.definition_scripts.proofs.literals.ListOne.{list-one}
 use Rattle.definition_scripts.proofs.listing.ListingOne.{fields-one}
-use Rattle.stumpgarret.specs.Twelve.{twelve, CallIs, ListIs, FieldsIs}
+use Rattle.definition_replay.specs.Replay.{replayNumbers, replayNumbersOf}
+use Rattle.definition_replay.proofs.replay.ReplayOne.{replay-one}
+use Rattle.stumpgarret.specs.Twelve.{twelve, CallIs, ListIs, FieldsIs, ReplayIs}
 
 zeros-word : (n k : ℕ) → word (replicate n 0) k ≡ 0
 zeros-word zero k = refl
@@ -58,3 +61,17 @@ scripts-one look look′ script buffer script′ buffer′ answer left c c′ =
     ∙ ap (λ l. word l k) (sym (c .numbered) ∙ c′ .numbered)
     ∙ twelve-word (fieldsNumbers (fieldsInto look′ script′ buffer′ .listed)) k)
     (sym (c .rows-left) ∙ c′ .rows-left)
+
+pub replays-one : (look look′ : Naming) (script ns trace words text output script′ ns′ trace′ words′ text′ output′ answer left-words left-text left-output : List ℕ)
+    → ReplayIs (replayNumbers look script ns trace words text output) answer left-words left-text left-output
+    → ReplayIs (replayNumbers look′ script′ ns′ trace′ words′ text′ output′) answer left-words left-text left-output
+    → replayNumbers look script ns trace words text output .result ≡ replayNumbers look′ script′ ns′ trace′ words′ text′ output′ .result
+replays-one look look′ script ns trace words text output script′ ns′ trace′ words′ text′ output′ answer left-words left-text left-output c c′ =
+    replay-one look look′ script ns trace words text output script′ ns′ trace′ words′ text′ output′ (
+      λ k. sym (twelve-word (replayNumbersOf (replayNumbers look script ns trace words text output .result)) k)
+          ∙ ap (λ l. word l k) (sym (c .numbered) ∙ c′ .numbered)
+          ∙ twelve-word (replayNumbersOf (replayNumbers look′ script′ ns′ trace′ words′ text′ output′ .result)) k,
+      sym (c .words-left) ∙ c′ .words-left,
+      sym (c .text-left) ∙ c′ .text-left,
+      sym (c .output-left) ∙ c′ .output-left,
+    )

@@ -8,6 +8,7 @@ use Rattle.definition.specs.Rows.{SignsCall, rowedNumbers}
 use Rattle.definition_scripts.specs.Literals.{ListCall, listNumbers}
 use Rattle.definition_scripts.specs.Listing.{FieldsCall, fieldsNumbers}
 use Rattle.definition_names.specs.Names.{BuildCall, indexNumbers}
+use Rattle.definition_replay.specs.Replay.{ReplayCall, replayNumbersOf}
 use Rattle.names.specs.declared.Answer.{Answer}
 use Rattle.names.specs.declared.Answer.the-variants.{Entries, Refused}
 
@@ -45,3 +46,10 @@ indexSays (Refused n) = n ∷ []
 pub record IndexIs (call : BuildCall) (answer index : List ℕ) : Type 0 where
   pub numbered : answer ≡ twelve (indexNumbers (call .outcome))
   pub index-left : index ≡ call .index
+
+-- the same of a call that replays a trace: the twelve numbers, and the three buffers afterwards
+pub record ReplayIs (call : ReplayCall) (answer words text output : List ℕ) : Type 0 where
+  pub numbered : answer ≡ twelve (replayNumbersOf (call .result))
+  pub words-left : words ≡ call .words
+  pub text-left : text ≡ call .text
+  pub output-left : output ≡ call .output

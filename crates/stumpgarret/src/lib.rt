@@ -5,6 +5,8 @@ use listing::list_named;
 use literals::Listing;
 use literals::list_literals;
 use names::Answer;
+use replay::Replay;
+use replay::replay_trace;
 use strings::Outcome;
 use strings::parse_named;
 use strings::parse_searched;
@@ -18,10 +20,13 @@ ghost use Rattle.definition_scripts.specs.Literals.{literalsInto};
 ghost use Rattle.definition_scripts.specs.Listing.{fieldsInto};
 ghost use Rattle.definition_names.specs.Names.{check, buildInto, indexNumbers, searched};
 ghost use Rattle.definition_names.specs.NamedReading.{namedNumbers, fieldsNamedInto};
+ghost use Rattle.definition_replay.specs.SpecNumbers.{specNumbers};
+ghost use Rattle.definition_replay.specs.Replay.{replayNumbers};
 ghost use Rattle.strings.specs.Strings.{says};
 ghost use Rattle.literals.specs.Answers as listing;
 ghost use Rattle.listing.specs.Answers as fields;
-ghost use Rattle.stumpgarret.specs.Twelve.{twelve, CallIs, SignsIs, ListIs, FieldsIs, indexSays, IndexIs};
+ghost use Rattle.replay.specs.Answers as replays;
+ghost use Rattle.stumpgarret.specs.Twelve.{twelve, CallIs, SignsIs, ListIs, FieldsIs, indexSays, IndexIs, ReplayIs};
 
 const SCRIPT_TOO_LONG: u32 = 49;
 
@@ -204,4 +209,52 @@ pub extern "C" fn stumpgarret_read_searched(
     ensures { λ _. ⌜ CallIs (readNumbers (searched (now (file .entry)) (now (index .entry))) (now (script .entry)) (now (literals .entry)) (now (words .entry)) (now (text .entry))) (now (answer .exit)) (now (words .exit)) (now (text .exit)) ⌝ }
 {
     *answer = twelve(parse_searched(script, literals, file, index, words, text));
+}
+
+// A replay's numbers, and zeros up to twelve.
+fn twelve_replayed(x: Replay) -> [u32; 12]
+    ensures { λ r. ⌜ r ≡ twelve (replays.says x) ⌝ }
+{
+    match x {
+        Replay::Replayed(l) => [
+            0,
+            l.reading.sort,
+            l.reading.mark,
+            l.reading.start,
+            l.reading.end,
+            l.reading.records,
+            l.reading.text,
+            0,
+            l.reading.chars,
+            l.rows,
+            l.bytes,
+            0,
+        ],
+        Replay::Unread(r) => twelve(Outcome::Refused(r)),
+        Replay::Stopped(s) => [s.number, 0, 0, 0, 0, 0, 0, 0, 0, s.told, 0, 0],
+    }
+}
+
+// Replays a trace through the template that the literals are, reading it into words and text, a line for each row, and answers in twelve numbers.
+#[no_mangle]
+pub extern "C" fn stumpgarret_replay(
+    script: &[u8],
+    literals: &[u32],
+    trace: &[u8],
+    words: &mut [u32],
+    text: &mut [u8],
+    output: &mut [u8],
+    answer: &mut [u32; 12],
+)
+    ensures { λ _. ⌜ ReplayIs (replayNumbers heldNames (now (script .entry)) (now (literals .entry)) (now (trace .entry)) (now (words .entry)) (now (text .entry)) (now (output .entry))) (now (answer .exit)) (now (words .exit)) (now (text .exit)) (now (output .exit)) ⌝ }
+{
+    *answer = twelve_replayed(replay_trace(script, literals, trace, words, text, output));
+}
+
+// Tells the parts of a format specification in twelve numbers.
+#[no_mangle]
+pub extern "C" fn stumpgarret_spec(spec: &[u8], answer: &mut [u32; 12])
+    ensures { λ _. ⌜ now (answer .exit) ≡ specNumbers (now (spec .entry)) ⌝ }
+{
+    *answer = formats::tell(spec);
 }

@@ -1,0 +1,5 @@
+pub mod Digits
+pub mod WrittenLaws
+pub mod Grouped
+pub mod IntegerSteps
+pub mod IntegerTable

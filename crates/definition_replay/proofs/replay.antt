@@ -1,0 +1,6 @@
+pub mod ReplayShown
+pub mod ReplayLines
+pub mod ReplayLaws
+pub mod ReplayFirst
+pub mod ReplayOne
+pub mod ReplayTable

@@ -1,0 +1,4 @@
+pub mod SpecLaws
+pub mod SpecWhole
+pub mod SpecExact
+pub mod SpecSteps

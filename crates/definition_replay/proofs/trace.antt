@@ -1,0 +1,5 @@
+pub mod TraceLaws
+pub mod TraceRows
+pub mod TraceTexts
+pub mod TraceNumbers
+pub mod TraceByNumber

@@ -1,0 +1,9 @@
+pub mod Spec
+pub mod IsSpec
+pub mod Integers
+pub mod IsInteger
+pub mod SpecNumbers
+pub mod Trace
+pub mod IsTrace
+pub mod Replay
+pub mod IsLine

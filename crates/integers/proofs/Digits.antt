@@ -1,0 +1,95 @@
+-- Digits read one at a time. Assumes nothing.
+use mathlib.Core.Path.{_≡_, refl, sym, _∙_, ap}
+use mathlib.Core.Bool.{true, false}
+use mathlib.Core.List.{List, [], _∷_}
+use Prim.Native.Nat.{ℕ, _+_, _-_, _*_, _≤_, _<_, min}
+use native.Mathlib.Omega.{arith}
+use lib.ListN.{length, getD, drop}
+use borrow.Author.Tests.{le-leb, lt-leb}
+use Rattle.definition.specs.Chars.{byte}
+use Rattle.definition_replay.specs.Spec.{isDigit, front, behind}
+use Rattle.definition_replay.specs.Integers.{decimalFrom}
+use Rattle.definition.proofs.moves.CharLaws.{byte-is}
+use Rattle.definition_replay.proofs.spec.SpecSteps.{front-there, front-not, front-end}
+use Rattle.definition_replay.specs.SpecNumbers.{toldOf}
+use Rattle.integers.specs.Told.{moreTold, toldFrom}
+
+pub more-first : (b : ℕ) {told : ℕ} → told ≡ 0 → 48 ≤ b → b ≤ 57 → b - 48 + 1 ≡ moreTold told b
+unfolding moreTold
+more-first b e h k = omega arith
+
+pub more-over : (told b : ℕ) → (told ≡ 0 → ⊥) → 48 ≤ b → 0xFFFFFFFF ≤ (told - 1) * 10 + (b - 48) + 1 → 0xFFFFFFFF ≡ moreTold told b
+unfolding moreTold
+more-over told b n h k = omega arith
+
+pub more-next : (told b : ℕ) → (told ≡ 0 → ⊥) → 48 ≤ b → (told - 1) * 10 + (b - 48) + 1 < 0xFFFFFFFF → (told - 1) * 10 + (b - 48) + 1 ≡ moreTold told b
+unfolding moreTold
+more-next told b n h k = omega arith
+
+step : (v d : ℕ) → moreTold (min (v + 1) 0xFFFFFFFF) d ≡ min (v * 10 + (d - 48) + 1) 0xFFFFFFFF
+unfolding moreTold
+step v d = omega arith
+
+told-from : (v : ℕ) (ds : List ℕ) → toldFrom (min (v + 1) 0xFFFFFFFF) ds ≡ min (decimalFrom v ds + 1) 0xFFFFFFFF
+unfolding toldFrom decimalFrom
+told-from v [] = refl
+told-from v (d ∷ ds) = ap (λ t. toldFrom t ds) (step v d) ∙ told-from (v * 10 + (d - 48)) ds
+
+first-step : (d : ℕ) → moreTold 0 d ≡ min (0 * 10 + (d - 48) + 1) 0xFFFFFFFF
+unfolding moreTold
+first-step d = omega arith
+
+pub told-is : (ds : List ℕ) → toldFrom 0 ds ≡ toldOf ds
+unfolding toldFrom toldOf decimalFrom
+told-is [] = refl
+told-is (d ∷ ds) = ap (λ t. toldFrom t ds) (first-step d) ∙ told-from (0 * 10 + (d - 48)) ds
+
+-- THE LOOP
+pub record Reading (s : List ℕ) (at told i : ℕ) : Type 0 where
+  pub number : toldFrom told (front isDigit (drop i s)) ≡ toldOf (front isDigit (drop at s))
+  pub ends : behind isDigit (drop i s) ≡ behind isDigit (drop at s)
+  pub from : at ≤ i
+  pub within : at ≤ length s → i ≤ length s
+
+module _ (s : List ℕ) (at : ℕ) where
+  pub reading-starts : Reading s at 0 at
+  reading-starts = record { number = told-is (front isDigit (drop at s)); ends = refl; from = omega arith; within = λ h. h }
+
+  module _ (told i : ℕ) (r : Reading s at told i) where
+    abbrev Read : Type 0
+    Read = (told ≡ toldOf (front isDigit (drop at s))) × (drop i s ≡ behind isDigit (drop at s)) × (at ≤ i) × (at ≤ length s → i ≤ length s)
+
+    none-from : front isDigit (drop i s) ≡ [] → behind isDigit (drop i s) ≡ drop i s → Read
+    unfolding toldFrom
+    none-from e b = (sym (ap (toldFrom told) e) ∙ r .number, sym b ∙ r .ends, r .from, r .within)
+
+    digit-not-low : byte s i < 48 → isDigit (byte s i) ≡ false
+    digit-not-low l = rw (lt-leb 48 (byte s i) l)
+
+    digit-not-high : 57 < byte s i → isDigit (byte s i) ≡ false
+    digit-not-high l = rw (lt-leb (byte s i) 57 l, le-leb 48 (byte s i) (omega arith))
+
+    digit-is : 48 ≤ byte s i → byte s i ≤ 57 → isDigit (byte s i) ≡ true
+    digit-is l h = rw (le-leb 48 (byte s i) l, le-leb (byte s i) 57 h)
+
+    pub read-low : i < length s → getD s i 0 < 48 → Read
+    read-low h l = let e = front-not s i isDigit h (digit-not-low (rw (byte-is s i h) at l)) in none-from (e .0) (e .1)
+
+    pub read-high : i < length s → 57 < getD s i 0 → Read
+    read-high h l = let e = front-not s i isDigit h (digit-not-high (rw (byte-is s i h) at l)) in none-from (e .0) (e .1)
+
+    pub read-end : length s ≤ i → Read
+    read-end h = let e = front-end s i isDigit h in none-from (e .0) (e .1)
+
+    pub read-more : {next : ℕ} → i < length s → 48 ≤ getD s i 0 → getD s i 0 ≤ 57 → next ≡ moreTold told (getD s i 0) → Reading s at next (i + 1)
+    unfolding toldFrom
+    read-more {next} h l k e =
+        let b = byte-is s i h in
+        let f = front-there s i isDigit h (digit-is (rw b at l) (rw b at k)) in
+        let m = r .from in
+        record {
+          number = ap (λ t. toldFrom t (front isDigit (drop (i + 1) s))) (e ∙ ap (moreTold told) b) ∙ sym (ap (toldFrom told) (f .0)) ∙ r .number;
+          ends = sym (f .1) ∙ r .ends;
+          from = omega arith;
+          within = λ g. omega arith;
+        }

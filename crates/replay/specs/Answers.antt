@@ -1,0 +1,45 @@
+-- What a replay answers, and what it leaves in the three buffers.
+use Prim.Native.Nat.{ℕ}
+use mathlib.Core.Path.{_≡_}
+use mathlib.Core.List.{List, [], _∷_, _++_}
+use lib.ListN.{length, take, replicate}
+use Rattle.definition.specs.Records.{Answer}
+use Rattle.definition.specs.Reading.{accepts, zeros, numbers}
+use Rattle.definition.specs.Words.{recordsFrom}
+use Rattle.definition_replay.specs.Replay.{ReplayCall, replayCall, replayNumbersOf}
+use Rattle.definition.proofs.outcomes.Outcomes.{Gapless}
+use Rattle.strings.specs.declared.Answer.{Answer as Read}
+use Rattle.replay.specs.declared.Replay.{Replay}
+use Rattle.replay.specs.declared.Replay.the-variants.{Replayed, Unread, Stopped}
+
+-- the numbers of a reading
+abbrev pub readNumbers : Read → List ℕ
+readNumbers x = 0 ∷ x .sort ∷ x .mark ∷ x .start ∷ x .end ∷ x .records ∷ x .text ∷ 0 ∷ x .chars ∷ []
+
+-- the numbers of an answer
+abbrev pub says : Replay → List ℕ
+says (Replayed l) = readNumbers (l .reading) ++ (l .rows ∷ l .bytes ∷ [])
+says (Unread r) = r .number ∷ r .literal ∷ r .place ∷ r .a ∷ r .b ∷ r .opened ∷ r .line ∷ r .column ∷ r .chars ∷ []
+says (Stopped s) = s .number ∷ replicate 8 0 ++ (s .told ∷ [])
+
+-- a call of the definition: what is answered, and the three buffers afterwards
+pub record ReplayIs (call : ReplayCall) (words′ text′ output′ : List ℕ) (r : Replay) : Type 0 where
+  pub answer : says r ≡ replayNumbersOf (call .result)
+  pub words : words′ ≡ call .words
+  pub text : text′ ≡ call .text
+  pub output : output′ ≡ call .output
+
+-- an answer of the definition that lies in words and text
+pub record Holds (a : Answer) (x : Read) (words text : List ℕ) : Type 0 where
+  pub numbered : readNumbers x ≡ numbers (accepts a)
+  pub records : recordsFrom (x .records) 0 words ≡ a .records
+  pub texts : take (x .text) text ≡ a .text
+  pub gapless : Gapless 0 (a .records) (length (a .text))
+
+-- the call that replays a trace through it
+abbrev pub replayOf : Answer → (trace words text output : List ℕ) → ReplayCall
+replayOf a trace words text output = replayCall (record { outcome = accepts a; words = words; text = text }) trace output
+
+-- all three buffers hold zeros
+abbrev pub Cleared : (words text output words′ text′ output′ : List ℕ) → Type 0
+Cleared words text output words′ text′ output′ = (words′ ≡ zeros words) × (text′ ≡ zeros text) × (output′ ≡ zeros output)

@@ -1,0 +1,86 @@
+-- Columns one at a time, in the definition's terms.
+use Prim.Native.Nat.{ℕ, zero, suc, _+_, _-_, min}
+use mathlib.Core.Bool.{Bool, true, false, _&&_, not}
+use mathlib.Core.List.{List, [], _∷_}
+use mathlib.Core.Option.{Option, none, some}
+use lib.Dec.{eqb}
+use lib.ListN.{length, drop}
+use Rattle.definition.specs.Chars.{if_then_else_}
+use Rattle.definition_replay.specs.Integers.{Integer}
+use Rattle.definition_replay.specs.Trace.{Taken, taken, broken, Behind, comma, ends, other, behindColumn}
+use Rattle.definition_replay.specs.Replay.{Made, made, stopped, inRange, allInRange}
+use Rattle.definition_replay.proofs.trace.TraceByNumber.{numberOf}
+
+-- what the code says of what stands behind a column
+abbrev pub saysBehind : List ℕ → (kind next : ℕ) → Behind
+saysBehind s kind next = if eqb kind 0 then other else if eqb kind 1 then comma (drop next s) else ends (drop next s)
+
+-- A COLUMN and what follows it: malformed, one more column, or the row's last one
+pub data Cell : Type 0 where
+  wrong : Cell
+  more : (v : Integer) (rest : List ℕ) → Cell
+  last : (v : Integer) (rest : List ℕ) → Cell
+
+unfoldable pub endedWith : Integer → Behind → Cell
+endedWith v (comma u) = more v u
+endedWith v (ends u) = last v u
+endedWith v other = wrong
+
+unfoldable pub cellOf : List ℕ → Cell
+cellOf s = elim (numberOf s) [ broken ↦ wrong | taken v t ↦ endedWith v (behindColumn t) ]
+
+-- a size that does not fit is cut off
+abbrev pub clip : Integer → Integer
+clip v = record { negative = v .negative; size = min (v .size) 0xFFFFFFFE }
+
+unfoldable pub clipCell : Cell → Cell
+clipCell wrong = wrong
+clipCell (more v u) = more (clip v) u
+clipCell (last v u) = last (clip v) u
+
+abbrev pub integer : (negative : Bool) (size : ℕ) → Integer
+integer negative size = record { negative = negative; size = size }
+
+abbrev pub endedBy : (negative : Bool) (size : ℕ) → Behind → Cell
+endedBy negative size b = endedWith (integer negative size) b
+
+-- what the code says of a column
+abbrev pub saysCell : List ℕ → (ends : ℕ) (negative : Bool) (size next : ℕ) → Cell
+saysCell s e negative size next = endedWith (integer negative size) (saysBehind s e next)
+
+-- WHAT IS FOUND OF A ROW with so many fields: a refusal's number, or nothing and what follows the row
+pub data Checked : Type 0 where
+  refused : (number : ℕ) → Checked
+  fine : (rest : List ℕ) → Checked
+
+unfoldable pub verdictOf : (fields count : ℕ) (fits : Bool) (rest : List ℕ) → Checked
+verdictOf fields count fits u = if not (eqb count fields) then refused 71 else if not fits then refused 72 else fine u
+
+unfoldable pub checkOf : (fields : ℕ) → Taken (List Integer) → Checked
+checkOf fields broken = refused 70
+checkOf fields (taken vs u) = verdictOf fields (length vs) (allInRange vs) u
+
+-- column by column, so many before and all of them in range or not; n bounds them
+unfoldable pub scanN : (n fields count : ℕ) (fits : Bool) → List ℕ → Checked
+scanN zero fields count fits s = refused 70
+scanN (suc n) fields count fits s =
+    elim (cellOf s) [
+      | wrong ↦ refused 70
+      | more v u ↦ scanN n fields (count + 1) (fits && inRange v) u
+      | last v u ↦ verdictOf fields (count + 1) (fits && inRange v) u
+    ]
+
+-- what the code says of a row
+abbrev pub saysRow : List ℕ → (number next : ℕ) → Checked
+saysRow s number next = if eqb number 0 then fine (drop next s) else refused number
+
+-- ROWS with so many fields, from number i on: how many numbers there are then, or the first refusal
+unfoldable pub checkedFrom : (fields i : ℕ) → List (Option (List Integer)) → Made ℕ
+checkedFrom fields i [] = made i
+checkedFrom fields i (none ∷ rs) = stopped 70 i
+checkedFrom fields i (some vs ∷ rs) =
+    elim (eqb (length vs) fields) [ false ↦ stopped 71 i | true ↦ elim (allInRange vs) [ false ↦ stopped 72 i | true ↦ checkedFrom fields (i + 1) rs ] ]
+
+-- what the code says of rows
+abbrev pub saysRows : (number row : ℕ) → Made ℕ
+saysRows number row = if eqb number 0 then made row else stopped number row
