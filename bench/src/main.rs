@@ -1,10 +1,11 @@
 //! Times the library and the published Rust on the same inputs, in one process.
 //!
-//!   bench ROUNDS LIBRARY_RUNS LIBRARY_SCRIPTS [UNICODE_DATA]
+//!   bench ROUNDS LIBRARY_RUNS LIBRARY_SCRIPTS TRACE [UNICODE_DATA]
 //!
 //! Each input is timed ROUNDS times, and the best time counts. LIBRARY_RUNS has runs of literals, as crates/try_readings
-//! takes them. LIBRARY_SCRIPTS has scripts, as bench/library-scripts writes them. UNICODE_DATA is the file of names that
-//! Unicode publishes. Where the Rust's source was not at hand, the library is timed alone.
+//! takes them. LIBRARY_SCRIPTS has scripts, as bench/library-scripts writes them. TRACE is what bench/replay-trace writes.
+//! UNICODE_DATA is the file of names that Unicode publishes. Where the Rust's source was not at hand, the library is timed
+//! alone.
 
 #[allow(dead_code)]
 #[path = "../../bindings/rust/src/call.rs"]
@@ -12,6 +13,7 @@ mod call;
 mod inputs;
 mod listing;
 mod names;
+mod replay;
 mod reference {
     include!(env!("STUMPGARRET_REFERENCE_RS"));
 }
@@ -46,11 +48,12 @@ struct Times {
     rust: Option<Duration>,
 }
 
-const USAGE: &str = "usage: bench ROUNDS LIBRARY_RUNS LIBRARY_SCRIPTS [UNICODE_DATA]";
+const USAGE: &str = "usage: bench ROUNDS LIBRARY_RUNS LIBRARY_SCRIPTS TRACE [UNICODE_DATA]";
 
 fn main() {
     let runs = argument(2).expect(USAGE);
     let scripts = argument(3).expect(USAGE);
+    let trace = argument(4).expect(USAGE);
     let mut buffers = Buffers { words: vec![0; 8 << 20], text: vec![0; 4 << 20] };
     println!("{}", reference::WHAT);
     println!("input        calls      bytes   ours ns/byte  noise %   Rust ns/byte");
@@ -68,7 +71,8 @@ fn main() {
         println!("bytes {:>8}: {:.3} ns/byte", size, per_byte(times.ours, &input));
     }
     listing::measure(&std::fs::read(scripts).expect("the scripts can be read"));
-    if let Some(names) = argument(4) {
+    replay::measure(&std::fs::read(trace).expect("the trace can be read"));
+    if let Some(names) = argument(5) {
         names::measure(&std::fs::read(names).expect("the file of names can be read"));
     }
 }

@@ -971,6 +971,173 @@ static void lists_fields_named(void)
     numbers_are("word", words, expected, WORDS);
 }
 
+/* Tells the parts of a spec: its numbers, and zeros up to twelve. */
+static void spec_is(const char *spec, size_t length, const uint32_t *numbers, size_t count)
+{
+    memset(answer, FILL, sizeof answer);
+    stumpgarret_spec((const uint8_t *)spec, length, answer);
+    numbers_are("answer", answer, numbers, count);
+    filled("byte of the answer", answer, count * sizeof *answer, sizeof answer, 0);
+}
+
+static void tells_specs(void)
+{
+    static const struct {
+        const char *spec;
+        uint32_t numbers[STUMPGARRET_ANSWER_NUMBERS];
+    } specs[] = {
+        {"", {STUMPGARRET_ACCEPTED}},
+        {"d", {STUMPGARRET_ACCEPTED, 0, 0, 0, 0, 0, 0, 0, 0, 0, 'd', 0}},
+        {"*^+z#064,.3f", {STUMPGARRET_ACCEPTED, '*', '^', '+', 1, 1, 1, 65, ',', 4, 'f', 1}},
+        {"\xe2\x98\x83= _x", {STUMPGARRET_ACCEPTED, 0x2603, '=', ' ', 0, 0, 0, 0, '_', 0, 'x', 0}},
+        {"<<", {STUMPGARRET_ACCEPTED, '<', '<', 0, 0, 0, 0, 0, 0, 0, 0, 0}},
+        {"00", {STUMPGARRET_ACCEPTED, 0, 0, 0, 0, 0, 1, 1, 0, 0, 0, 0}},
+        {".0", {STUMPGARRET_ACCEPTED, 0, 0, 0, 0, 0, 0, 0, 0, 1, 0, 1}},
+        {".2s", {STUMPGARRET_ACCEPTED, 0, 0, 0, 0, 0, 0, 0, 0, 3, 's', 0}},
+        {"4294967293", {STUMPGARRET_ACCEPTED, 0, 0, 0, 0, 0, 0, 4294967294u, 0, 0, 0, 0}},
+        {"99999999999", {STUMPGARRET_ACCEPTED, 0, 0, 0, 0, 0, 0, UINT32_MAX, 0, 0, 0, 0}},
+    };
+    for (size_t i = 0; i < COUNT(specs); i++)
+        spec_is(specs[i].spec, strlen(specs[i].spec), specs[i].numbers, COUNT(specs[i].numbers));
+    static const uint32_t not_of_grammar[] = {STUMPGARRET_NOT_OF_GRAMMAR};
+    static const char *const none[] = {"q", "5 ", ".", "dd", ">>>", "__", "5,_", "\xff", "\xd9\xa5"};
+    for (size_t i = 0; i < COUNT(none); i++)
+        spec_is(none[i], strlen(none[i]), not_of_grammar, 1);
+    static const uint32_t nul[] = {STUMPGARRET_ACCEPTED, 0, '>', 0, 0, 0, 0, 6};
+    spec_is("\0>5", 3, nul, COUNT(nul));
+
+    spec_is("*^+z#064,.3f", 12, specs[2].numbers, COUNT(specs[2].numbers));
+    const uint32_t by_name[] = {
+        answer[STUMPGARRET_ANSWER_NUMBER],  answer[STUMPGARRET_SPEC_FILL],
+        answer[STUMPGARRET_SPEC_ALIGN],     answer[STUMPGARRET_SPEC_SIGN],
+        answer[STUMPGARRET_SPEC_Z],         answer[STUMPGARRET_SPEC_ALTERNATE],
+        answer[STUMPGARRET_SPEC_ZERO],      answer[STUMPGARRET_SPEC_WIDTH],
+        answer[STUMPGARRET_SPEC_GROUPING],  answer[STUMPGARRET_SPEC_PRECISION],
+        answer[STUMPGARRET_SPEC_TYPE],      answer[STUMPGARRET_SPEC_ROUNDS],
+    };
+    numbers_are("named number", by_name, specs[2].numbers, COUNT(by_name));
+}
+
+enum { OUTPUT = 256 };
+
+static uint8_t output[OUTPUT];
+
+/* Replays a trace through the f-string that a script is, with so much lent, all filled before. */
+static void replay_with(const char *script, const char *trace, size_t words_length,
+                        size_t text_length, size_t output_length)
+{
+    uint32_t length = (uint32_t)strlen(script);
+    const uint32_t literal[] = {STUMPGARRET_FSTRING, 0, 2, length - 3, 0, length};
+    memset(words, FILL, sizeof words);
+    memset(text, FILL, sizeof text);
+    memset(output, FILL, sizeof output);
+    memset(answer, FILL, sizeof answer);
+    stumpgarret_replay((const uint8_t *)script, length, literal, COUNT(literal),
+                       (const uint8_t *)trace, strlen(trace), words, words_length, text,
+                       text_length, output, output_length, answer);
+}
+
+/* A refusal with these numbers: zeros in all that was lent, and nothing else changed. */
+static void replay_refused(const uint32_t *numbers, size_t count, size_t words_length,
+                           size_t text_length, size_t output_length)
+{
+    refused(numbers, count, words_length, text_length);
+    filled("byte of the output", output, 0, output_length, 0);
+    filled("byte of the output", output, output_length, sizeof output, FILL);
+}
+
+static void replays(void)
+{
+    static const char script[] = "f'VDD {mv:>6,} mV {code:#06x}'";
+    static const char trace[] = "1234,255\r\n\"-1\",0";
+    static const char lines[] = "VDD  1,234 mV 0x00ff\nVDD     -1 mV 0x0000\n";
+    size_t size = strlen(lines);
+    static const uint32_t records[] = {
+        STUMPGARRET_LITERAL_RECORD, 0, 4, 0, 30, 0, 0, 0,
+        STUMPGARRET_FIELD_RECORD, 4, 2, 0, 30, 0, 1, 7,
+        STUMPGARRET_SPEC_RECORD, 6, 0, 0, 30, 0, 1, 0,
+        STUMPGARRET_LITERAL_RECORD, 6, 3, 0, 30, 0, 0, 0,
+        STUMPGARRET_LITERAL_RECORD, 9, 4, 0, 30, 0, 0, 0,
+        STUMPGARRET_FIELD_RECORD, 13, 4, 0, 30, 0, 1, 19,
+        STUMPGARRET_SPEC_RECORD, 17, 0, 0, 30, 0, 1, 0,
+        STUMPGARRET_LITERAL_RECORD, 17, 4, 0, 30, 0, 0, 0,
+    };
+    const uint32_t numbers[STUMPGARRET_ANSWER_NUMBERS] = {
+        STUMPGARRET_ACCEPTED, STUMPGARRET_JOINED, 0, 0, 30, 8, 21, 0, 27, 2, (uint32_t)size,
+    };
+    for (size_t room = size; room <= OUTPUT; room += OUTPUT - size) {
+        replay_with(script, trace, WORDS, TEXT, room);
+        accepted(numbers, records, "VDD mv>6, mV code#06x");
+        for (size_t i = 0; i < size; i++)
+            if (output[i] != (uint8_t)lines[i])
+                fail("byte of the output", i, output[i], (uint8_t)lines[i]);
+        filled("byte of the output", output, size, sizeof output, FILL);
+    }
+    if (answer[STUMPGARRET_REPLAY_ROWS] != 2 || answer[STUMPGARRET_REPLAY_BYTES] != size)
+        fail("number", STUMPGARRET_REPLAY_ROWS, answer[STUMPGARRET_REPLAY_ROWS], 2);
+
+    /* the reading's own refusals, and 73 with what is needed */
+    static const uint32_t places[] = {
+        STUMPGARRET_TOO_FEW_RECORD_PLACES, 0, 0, 8, 21, 0, 0, 0, 27,
+    };
+    replay_with(script, trace, 63, TEXT, size);
+    replay_refused(places, COUNT(places), 63, TEXT, size);
+    static const uint32_t brace[] = {STUMPGARRET_SINGLE_RBRACE, 0, 6, 0, 0, 0, 0, 4, 4};
+    replay_with("f'{x}}'", "q", WORDS, TEXT, 9);
+    replay_refused(brace, COUNT(brace), WORDS, TEXT, 9);
+    const uint32_t room[] = {
+        STUMPGARRET_TOO_LITTLE_LINE_ROOM, 0, 0, 0, 0, 0, 0, 0, 0, (uint32_t)size,
+    };
+    for (size_t lent = 0; lent < size; lent++) {
+        replay_with(script, trace, WORDS, TEXT, lent);
+        replay_refused(room, COUNT(room), WORDS, TEXT, lent);
+    }
+
+    /* no row, and no field */
+    static const uint32_t nothing[STUMPGARRET_ANSWER_NUMBERS] = {
+        STUMPGARRET_ACCEPTED, STUMPGARRET_JOINED, 0, 0, 6, 1, 1, 0, 3, 0, 0,
+    };
+    static const uint32_t record[] = {STUMPGARRET_FIELD_RECORD, 0, 1, 0, 6, 0, 0, 3};
+    replay_with("f'{x}'", "", WORDS, TEXT, 0);
+    accepted(nothing, record, "x");
+    filled("byte of the output", output, 0, sizeof output, FILL);
+}
+
+static void refuses_replays(void)
+{
+    static const struct {
+        const char *script, *trace;
+        uint32_t number, told;
+    } rows[] = {
+        {"f'{x:q}'", "q", STUMPGARRET_NOT_OF_GRAMMAR, 0},
+        {"f'{x}{y!r:q}'", "q", STUMPGARRET_NOT_OF_GRAMMAR, 1},
+        {"f'{x}{y:{w}q}{z:q}'", "q", STUMPGARRET_OUTSIDE_SET, 1},
+        {"f'{x!s}'", "q", STUMPGARRET_OUTSIDE_SET, 0},
+        {"f'{x=}'", "1", STUMPGARRET_OUTSIDE_SET, 0},
+        {"f'{x:65}'", "1", STUMPGARRET_OUTSIDE_SET, 0},
+        {"f'{x:f}'", "1", STUMPGARRET_OUTSIDE_SET, 0},
+        {"f'{x:.1}'", "1", STUMPGARRET_OUTSIDE_SET, 0},
+        {"f'{x:,x}'", "1", STUMPGARRET_OUTSIDE_SET, 0},
+        {"f'{x:zd}'", "1", STUMPGARRET_OUTSIDE_SET, 0},
+        {"f'{x}'", "1\r\n2\n3", STUMPGARRET_ROW_MALFORMED, 1},
+        {"f'{x}'", "1\r2", STUMPGARRET_ROW_MALFORMED, 0},
+        {"f'{x}'", "\r\n", STUMPGARRET_ROW_MALFORMED, 0},
+        {"f'{x}'", "1\r\n\r\n", STUMPGARRET_ROW_MALFORMED, 1},
+        {"f'{x}'", "99999999999,", STUMPGARRET_ROW_MALFORMED, 0},
+        {"f'{x}'", "+1", STUMPGARRET_ROW_MALFORMED, 0},
+        {"f'{x}'", "\"1", STUMPGARRET_ROW_MALFORMED, 0},
+        {"f'{x}'", "1\r\n2\r\n99999999999,3\r\nq", STUMPGARRET_WRONG_COLUMNS, 2},
+        {"f''", "1", STUMPGARRET_WRONG_COLUMNS, 0},
+        {"f'{x}'", "2147483647\r\n-2147483648\r\n2147483648", STUMPGARRET_OUT_OF_RANGE, 2},
+        {"f'{x}'", "-2147483649", STUMPGARRET_OUT_OF_RANGE, 0},
+    };
+    for (size_t i = 0; i < COUNT(rows); i++) {
+        const uint32_t numbers[] = {rows[i].number, 0, 0, 0, 0, 0, 0, 0, 0, rows[i].told};
+        replay_with(rows[i].script, rows[i].trace, WORDS, TEXT, OUTPUT);
+        replay_refused(numbers, COUNT(numbers), WORDS, TEXT, OUTPUT);
+    }
+}
+
 int main(void)
 {
     reads_two();
@@ -993,6 +1160,9 @@ int main(void)
     searches_unchecked();
     named_is_checked_and_searched();
     lists_fields_named();
+    tells_specs();
+    replays();
+    refuses_replays();
     printf("bindings/c: %d checks passed\n", checks);
     return 0;
 }

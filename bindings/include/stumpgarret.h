@@ -1,6 +1,7 @@
 /* Lists every formatted field of a whole Python script; reads runs of its string literals to records:
    texts, formatted fields, format specs; tells where the signs of each field stand; lists the
-   literals of a script from an offset on; and takes the names of characters from a file that is lent.
+   literals of a script from an offset on; takes the names of characters from a file that is lent;
+   reads format specs; and replays recorded readings through a template.
    For C99 and C++11 on x86-64 Linux:
 
        cc -I bindings/include program.c target/staticlib/libstumpgarret.a
@@ -174,6 +175,19 @@ enum stumpgarret_refusal {
                                                or the file has 2^32 bytes or more */
     STUMPGARRET_WRONG_INDEX = 63,       /* the lent index is not the file's; or the file has 2^32 bytes
                                            or more */
+
+    /* Of stumpgarret_replay, and 68 of stumpgarret_spec too, with no literal, no place, no details and
+       no characters; see STUMPGARRET_REPLAY_TOLD. The template comes before the trace: its first field
+       that is refused, for 68 before 69. Then the first row that is refused, for 70 before 71 before
+       72; and 73 only for what is otherwise accepted. */
+    STUMPGARRET_NOT_OF_GRAMMAR = 68,    /* the spec is none of the format specification mini-language */
+    STUMPGARRET_OUTSIDE_SET = 69,       /* a conversion or a nested field; a width above 64; a type but
+                                           d, b, o, x, X and none; or what Python refuses for integers:
+                                           z, a precision, a comma with b, o, x or X */
+    STUMPGARRET_ROW_MALFORMED = 70,     /* by RFC 4180; or a column is not digits after at most one - */
+    STUMPGARRET_WRONG_COLUMNS = 71,     /* not as many columns as the template has fields */
+    STUMPGARRET_OUT_OF_RANGE = 72,      /* a number below -2,147,483,648 or above 2,147,483,647 */
+    STUMPGARRET_TOO_LITTLE_LINE_ROOM = 73,
 
     /* Of stumpgarret_fields: 49, and 53, see STUMPGARRET_FIELDS_NEEDED; 6, 10 to 28, 50 and 51 as rows,
        and as a row only: */
@@ -404,6 +418,74 @@ void stumpgarret_fields_named(const uint8_t *script, size_t script_length,
                               const uint32_t *index, size_t index_length,
                               uint32_t *rows, size_t rows_length,
                               uint32_t answer[STUMPGARRET_ANSWER_NUMBERS]);
+
+/* The answer of stumpgarret_spec. Those of one character are its ASCII code, 0 for none. */
+enum stumpgarret_spec_answer {
+    STUMPGARRET_SPEC_FILL = 1,   /* its code point, 0 for none. The fill U+0000 is 0 too: a spec that is
+                                    accepted and begins with a byte 0 has it */
+    STUMPGARRET_SPEC_ALIGN,      /* one of < > = ^ */
+    STUMPGARRET_SPEC_SIGN,       /* + - or a space */
+    STUMPGARRET_SPEC_Z,          /* 1 if it has a z, else 0 */
+    STUMPGARRET_SPEC_ALTERNATE,  /* 1 if it has a #, else 0 */
+    STUMPGARRET_SPEC_ZERO,       /* 1 if it has a 0 before the width, else 0 */
+    STUMPGARRET_SPEC_WIDTH,      /* 0 for none, else 1 more than its value, at most 4,294,967,295 */
+    STUMPGARRET_SPEC_GROUPING,   /* _ or a comma */
+    STUMPGARRET_SPEC_PRECISION,  /* as the width */
+    STUMPGARRET_SPEC_TYPE,       /* one of b c d e E f F g G n o s x X % */
+    STUMPGARRET_SPEC_ROUNDS      /* 1 if it rounds a number, else 0: a type of e E f F g G n %, or no
+                                    type with a precision */
+};
+
+/* Reads a format spec by the mini-language of Python 3.11's library reference,
+
+       [[fill]align][sign][z][#][0][width][grouping][.precision][type]
+
+   from its bytes: a fill is any character with an align behind it, digits are ASCII, the first 0
+   behind the # is the flag. Refusal: 68, with all else of the answer 0. `answer` always gets twelve
+   numbers, and nothing else is written.
+
+   The caller sees to the same as for stumpgarret_read. Any bytes and any length get an answer. */
+void stumpgarret_spec(const uint8_t *spec, size_t spec_length,
+                      uint32_t answer[STUMPGARRET_ANSWER_NUMBERS]);
+
+/* The answer of stumpgarret_replay: an acceptance has the numbers that stumpgarret_read gives of the
+   template, and these. */
+enum stumpgarret_replay_answer {
+    STUMPGARRET_REPLAY_ROWS = 9,  /* how many rows the trace has */
+    STUMPGARRET_REPLAY_BYTES,     /* how many bytes their lines have */
+
+    STUMPGARRET_REPLAY_TOLD = 9   /* of 68 and 69 the top-level field, of 70 to 72 the row, both from 0;
+                                     of 73 the bytes that are needed; at most 4,294,967,295 */
+};
+
+/* Replays a recorded trace through a template: for each row the line that Python would write with
+   column k in the k-th top-level field, and a byte 10. The template is a run of literals, of any sort,
+   as stumpgarret_read takes it; `words` and `text` are lent to read it into, and hold its records
+   afterwards. No file of names is lent, so fourteen names are known.
+
+   The trace is a file of RFC 4180 without a header: rows end with CR LF, the last one may lack it,
+   columns are parted by commas, and a column may stand in quotes. A byte 10 or 13 alone is 70, and so
+   is an empty line; an empty file has no row. A column is at most one - and ASCII digits, any number
+   of them, zeros in front too.
+
+   A field has no conversion and no nested field, and a spec that asks for an integer: fill and align,
+   sign, #, 0, a width up to 64, grouping, and one of the types d, b, o, x, X or none.
+
+   Refusals: 1 to 31 as stumpgarret_read gives them, then 68 and 69, then 70 to 72, then 73. On
+   acceptance the lines stand in front in `output`, the template's records in `words` and `text`, and
+   what follows them is unchanged. On refusal every word, text byte and byte of the output is 0.
+   `answer` always gets twelve numbers. Each line depends on its row and the template alone: a trace
+   may be lent in parts that end with rows.
+
+   The caller sees to the same as for stumpgarret_read: `words`, `text`, `output` and `answer` overlap
+   neither each other nor anything else that is passed. Any bytes, numbers and lengths get an answer. */
+void stumpgarret_replay(const uint8_t *script, size_t script_length,
+                        const uint32_t *literals, size_t literals_length,
+                        const uint8_t *trace, size_t trace_length,
+                        uint32_t *words, size_t words_length,
+                        uint8_t *text, size_t text_length,
+                        uint8_t *output, size_t output_length,
+                        uint32_t answer[STUMPGARRET_ANSWER_NUMBERS]);
 
 #ifdef __cplusplus
 }

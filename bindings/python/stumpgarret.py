@@ -1,14 +1,17 @@
 #!/usr/bin/env python3
 """Lists every formatted field in the string literals of Python 3.11 scripts, by the proved library stumpgarret.
 
-    python3 stumpgarret.py [--why] [--json] [--html FILE] [--names FILE] [--check] SCRIPT...
+    python3 stumpgarret.py [fields] [--why] [--json] [--html FILE] [--names FILE] [--check] SCRIPT...
+    python3 stumpgarret.py replay [--lf] SCRIPT:LINE[:COLUMN] TRACE
 
-`python3 stumpgarret.py --help` says what is printed, and what the exit status means. Any Python from 3.7 on will do.
+`python3 stumpgarret.py --help` and `python3 stumpgarret.py replay --help` say what is printed, and what the exit status
+means. Any Python from 3.7 on will do.
 
 In a program, `fields` gives the same list, or raises `Incomplete`; `list_script` gives what is refused as well.
 `rows` is the library's call behind both: every row of a whole script, by places. `read` reads one run of literals, and
 `literals` lists the adjacent literals of a script from an offset on. `Names` is a file of the names of characters, for
-those in `\\N{..}`: without one the library has fourteen.
+those in `\\N{..}`: without one the library has fourteen. `replay` puts the rows of a recorded trace into the fields of a
+template, and `Spec` has the parts of a format spec.
 
     >>> import stumpgarret
     >>> for field in stumpgarret.fields("print(f'{mv / 12.5:.0f} {n!r}')", "bench.py"):
@@ -196,6 +199,14 @@ class Bytes:
 
 
 @dataclass(frozen=True)
+class Replay:
+    """A trace replayed through a template: how many rows it has, and the bytes of their lines, each ended by byte 10."""
+
+    rows: int
+    output: bytes
+
+
+@dataclass(frozen=True)
 class Answer:
     """What a run of literals reads as. `records` has one `Text` or one `Bytes`, or the parts of a joined string; `chars`
     is how many characters the bodies have."""
@@ -242,6 +253,16 @@ REFUSALS = {
     61: ("name twice", "a name stands twice in the file of names"),
     62: ("index buffer too short", "the index has no room, or the file of names has 2^32 bytes or more"),
     63: ("wrong index", "the index is not that of the file of names, or the file has 2^32 bytes or more"),
+    68: ("spec not of the grammar", "the spec is not of the format specification mini-language"),
+    69: (
+        "spec or field outside the set",
+        "the field has a conversion, a nested field, a width above 64, a type other than d, b, o, x and X, or what Python "
+        "refuses for integers",
+    ),
+    70: ("row malformed", "the row is not of RFC 4180, or a column is not digits after at most one -"),
+    71: ("column count", "the row has not as many columns as the template has fields"),
+    72: ("number out of range", "a number is below -2,147,483,648 or above 2,147,483,647"),
+    73: ("output buffer too short", "the lines need {told} bytes"),
     75: (
         "read otherwise by Python",
         "Python reads this field otherwise or not at all, by a #, a backslash, a triple-quoted literal with its own quote "
@@ -254,6 +275,10 @@ NEVER_CLOSED = 50, 51
 READ_OTHERWISE = 75
 OF_A_LIST = *range(49, 54), READ_OTHERWISE
 OF_NAMES = range(60, 64)
+NO_LINE_ROOM = 73
+OF_A_REPLAY = range(68, 74)
+# What a refusal of a replay tells beside its number.
+TELLS = {68: "field", 69: "field", 70: "row", 71: "row", 72: "row"}
 
 # Why a brace counts as unclosed, by the first detail of 20.
 UNCLOSED = {
@@ -266,10 +291,11 @@ UNCLOSED = {
 
 
 class Refusal(Exception):
-    """The library refused a run, or a file of names: a number of `REFUSALS` and its name, the index of the literal from 0, the place,
-    two details, the place's line and column in the literal's body, both from 0, the place just after the bracket
-    that is closed by another, and how many characters were read. What has no literal, place, details, line, column,
-    bracket or characters has 0 there."""
+    """The library refused a run, a file of names, or a trace: a number of `REFUSALS` and its name, the index of the literal
+    from 0, the place, two details, the place's line and column in the literal's body, both from 0, the place just after
+    the bracket that is closed by another, how many characters were read, and what is told of a replay: the field or the
+    row, from 0, or the bytes that are needed. What has no literal, place, details, line, column, bracket, characters or
+    anything told has 0 there."""
 
     def __init__(
         self,
@@ -281,8 +307,9 @@ class Refusal(Exception):
         column: int = 0,
         opened: int = 0,
         chars: int = 0,
+        told: int = 0,
     ):
-        super().__init__(number, literal, place, details, line, column, opened, chars)
+        super().__init__(number, literal, place, details, line, column, opened, chars, told)
         self.number = number
         self.literal = literal
         self.place = place
@@ -291,13 +318,14 @@ class Refusal(Exception):
         self.column = column
         self.opened = opened
         self.chars = chars
+        self.told = told
 
         self.name = _name(number)
 
     @property
     def meaning(self) -> str:
         """Number and name, and what they mean."""
-        return _meaning(self.number, self.details)
+        return _meaning(self.number, self.details, self.told)
 
     def position(self, line: int, column: int) -> tuple[int, int]:
         """Line and column in a script where the literal's body begins at these, from 1."""
@@ -306,6 +334,9 @@ class Refusal(Exception):
     def __str__(self) -> str:
         if self.number in OF_NAMES:
             return f"refused: {self.meaning}"
+        if self.number in OF_A_REPLAY:
+            at = f" at {TELLS[self.number]} {self.told}" if self.number in TELLS else ""
+            return f"refused{at}: {self.meaning}"
         at = f"refused in literal {self.literal} at {self.place}"
         if self.number in IN_A_BODY:
             at += ", line {} and column {} of its body".format(*self.position(1, 1))
@@ -317,9 +348,9 @@ def _name(number: int) -> str:
     return REFUSALS.get(number, ("unknown to this module", ""))[0]
 
 
-def _meaning(number: int, details: tuple[int, int]) -> str:
+def _meaning(number: int, details: tuple[int, int], told: int = 0) -> str:
     unclosed = UNCLOSED.get(details[0], "a field does not end as it should")
-    said = REFUSALS.get(number, ("", ""))[1].format(*details, unclosed=unclosed)
+    said = REFUSALS.get(number, ("", ""))[1].format(*details, unclosed=unclosed, told=told)
     return f"{number} {_name(number)}" + (f": {said}" if said else "")
 
 
@@ -339,6 +370,7 @@ MOST_BODY_BYTES = 1_048_576
 FIRST_LITERALS = 16
 FIRST_ROWS = 256
 LEAST_LINE_OF_A_NAME = 20
+LINE_ROOM_PER_BYTE = 4
 
 
 class Names:
@@ -388,6 +420,46 @@ class Names:
         return tuple(self._index)
 
 
+@dataclass(frozen=True)
+class Spec:
+    """The parts of a format spec by the mini-language of Python 3.11, None for one that is not there. `zero` is the `0`
+    before the width; width and precision are at most 4,294,967,294. `rounds` says whether it rounds a number: by a type of
+    e E f F g G n %, or by a precision without a type."""
+
+    fill: str | None
+    align: str | None
+    sign: str | None
+    z: bool
+    alternate: bool
+    zero: bool
+    width: int | None
+    grouping: str | None
+    precision: int | None
+    type: str | None
+    rounds: bool
+
+    @classmethod
+    def parse(cls, spec: bytes | str) -> Spec:
+        """The parts of a spec; a str stands for its UTF-8 bytes. Raises `Refusal` 68 if it is not of the grammar.
+
+        >>> Spec.parse(">8,.3f").rounds
+        True
+        """
+        spec = _bytes(spec, "a format spec")
+        answer = (ctypes.c_uint32 * 12)()
+        _function("spec")(spec, len(spec), answer)
+        if answer[0]:
+            raise _refusal(list(answer))
+        _, fill, align, sign, z, alternate, zero, width, grouping, precision, type_, rounds = answer
+        align, sign, grouping, type_ = (chr(one) if one else None for one in (align, sign, grouping, type_))
+        # A fill of code 0 is told as none; nothing else begins with it.
+        own_fill = chr(fill) if fill or spec.startswith(b"\0") else None
+        width, precision = (told - 1 if told else None for told in (width, precision))
+        return cls(
+            own_fill, align, sign, bool(z), bool(alternate), bool(zero), width, grouping, precision, type_, bool(rounds)
+        )
+
+
 def read(script: bytes | str, literals: Iterable[Literal], names: Names | None = None) -> Answer:
     """Reads a run of literals, whose bodies lie in `script`; a str stands for its UTF-8 bytes. With names they are looked
     for in their file, which is not checked again.
@@ -398,8 +470,7 @@ def read(script: bytes | str, literals: Iterable[Literal], names: Names | None =
     lent_names = _lent(names)
     answer, words, text = _call(script, numbers, lent_names)
     if answer[0]:
-        number, literal, place, a, b, opened, line, column, chars, *_ = answer
-        raise Refusal(number, literal, place, (a, b), line, column, opened, chars)
+        raise _refusal(answer)
     _, sort, u_mark, start, end, _, _, _, chars, *_ = answer
     records = (words[at : at + WORDS_OF_A_RECORD] for at in range(0, len(words), WORDS_OF_A_RECORD))
     if lent_names:
@@ -438,6 +509,31 @@ def rows(script: bytes | str, names: Names | None = None) -> Rows:
     return Rows(tuple(_row(*own) for own in _cut(numbers, NUMBERS_OF_A_ROW, count)), literals, cut_to)
 
 
+def replay(script: bytes | str, literals: Iterable[Literal], trace: bytes | str) -> Replay:
+    """For each row of a trace the line that Python would write, column k in the k-th top-level field of the template: a run
+    of literals, as `read` takes it. A str stands for its UTF-8 bytes.
+
+    A trace is a file of RFC 4180 without a header, whose rows end with CR LF and whose columns are decimal integers of 32
+    bits. Each line depends on its row and the template alone.
+
+    Raises `Refusal`: as `read` does for the template, then 68 or 69 for its first field that has no integer's spec, then
+    70 to 72 for the first row that is none, 73 for lines of more than 4,294,967,295 bytes; `told` is the field or the row,
+    from 0, or the bytes. ValueError for a number that does not fit into 32 bits."""
+    script, numbers, trace = _bytes(script), _numbers(literals), _bytes(trace, "a trace's content")
+    room = LINE_ROOM_PER_BYTE * len(trace)
+    answer, output = _replay_call(script, numbers, trace, room)
+    if answer[0] == NO_LINE_ROOM and room < answer[9] < 2**32 - 1:
+        answer, output = _replay_call(script, numbers, trace, answer[9])
+    if answer[0]:
+        raise _refusal(answer)
+    return Replay(answer[9], output[: answer[10]])
+
+
+def _refusal(answer: list[int]) -> Refusal:
+    number, literal, place, a, b, opened, line, column, chars, told, *_ = answer
+    return Refusal(number, literal, place, (a, b), line, column, opened, chars, told)
+
+
 def _listed(kind: int, triple: int, *rest: int) -> Literal:
     return Literal(Kind(kind), bool(triple), *rest)
 
@@ -464,15 +560,15 @@ def _cut(numbers: list[int], size: int, count: int) -> list[list[int]]:
     return [numbers[at : at + size] for at in range(0, count * size, size)]
 
 
-def _bytes(script: bytes | str) -> bytes:
+def _bytes(given: bytes | str, what: str = "a script's content") -> bytes:
     """A str's UTF-8; a lone surrogate becomes bytes that are none, which the library refuses in an f-string."""
-    return script.encode("utf-8", "surrogatepass") if isinstance(script, str) else _undecoded(script)
+    return given.encode("utf-8", "surrogatepass") if isinstance(given, str) else _undecoded(given, what)
 
 
-def _undecoded(script: bytes) -> bytes:
-    if not isinstance(script, (bytes, bytearray, memoryview)):
-        raise TypeError(f"a script's content is wanted, as bytes or str, not {_type(script)}")
-    return bytes(script)
+def _undecoded(given: bytes, what: str = "a script's content") -> bytes:
+    if not isinstance(given, (bytes, bytearray, memoryview)):
+        raise TypeError(f"{what} is wanted, as bytes or str, not {_type(given)}")
+    return bytes(given)
 
 
 def _file(file: bytes) -> bytes:
@@ -552,6 +648,19 @@ def _call(script: bytes, numbers: list[int], lent_names: list[object]) -> tuple[
     return list(answer), words[: answer[5] * WORDS_OF_A_RECORD], text[: answer[6]]
 
 
+def _replay_call(script: bytes, numbers: list[int], trace: bytes, room: int) -> tuple[list[int], ctypes.Array]:
+    """The answer, and the output, which has so many bytes."""
+    records, text_bytes = _room(numbers)
+    listed = (ctypes.c_uint32 * len(numbers))(*numbers)
+    words = (ctypes.c_uint32 * (records * WORDS_OF_A_RECORD))()
+    text = (ctypes.c_char * text_bytes)()
+    output = (ctypes.c_char * room)()
+    answer = (ctypes.c_uint32 * 12)()
+    lent = [script, len(script), listed, len(listed), trace, len(trace)]
+    _function("replay")(*lent, words, len(words), text, len(text), output, len(output), answer)
+    return list(answer), output
+
+
 def _signs(script: bytes, numbers: list[int], fields: int) -> list[tuple[Reason, Signs]]:
     """Reason and signs of so many fields, which are all fields of literals that are accepted; no call for none."""
     if not fields:
@@ -612,6 +721,8 @@ CALLS = {
         [TEXT, LENGTH, NUMBERS, LENGTH, TEXT, LENGTH, NUMBERS, LENGTH, NUMBERS, LENGTH, TEXT, LENGTH, NUMBERS],
     ),
     "fields_named": [TEXT, LENGTH, TEXT, LENGTH, NUMBERS, LENGTH, NUMBERS, LENGTH, NUMBERS],
+    "spec": [TEXT, LENGTH, NUMBERS],
+    "replay": [TEXT, LENGTH, NUMBERS, LENGTH, TEXT, LENGTH, NUMBERS, LENGTH, TEXT, LENGTH, TEXT, LENGTH, NUMBERS],
 }
 
 
@@ -961,7 +1072,12 @@ and without the shared library.
 
 def main(arguments: list[str] | None = None) -> int:
     """The command; gives its exit status."""
-    given = _arguments(arguments)
+    arguments = sys.argv[1:] if arguments is None else arguments
+    if arguments[:1] == ["replay"]:
+        import stumpgarret_replay
+
+        return stumpgarret_replay.main(arguments[1:])
+    given = _arguments(arguments[1:] if arguments[:1] == ["fields"] else arguments)
     for stream in (sys.stdout, sys.stderr):
         if isinstance(stream, io.TextIOWrapper):
             stream.reconfigure(errors="backslashreplace")
@@ -976,10 +1092,11 @@ def main(arguments: list[str] | None = None) -> int:
     return max(status, _write_page(given.html, on_page)) if given.html else status
 
 
-def _arguments(arguments: list[str] | None) -> argparse.Namespace:
+def _arguments(arguments: list[str]) -> argparse.Namespace:
     parser = argparse.ArgumentParser(
         prog="stumpgarret",
-        usage="%(prog)s [--why] [--json] [--html FILE] [--names FILE] [--check] SCRIPT...",
+        usage="%(prog)s [fields] [--why] [--json] [--html FILE] [--names FILE] [--check] SCRIPT...\n"
+        "       %(prog)s replay [--lf] SCRIPT:LINE[:COLUMN] TRACE   (%(prog)s replay --help)",
         description=DESCRIPTION,
         epilog=EPILOG,
         formatter_class=argparse.RawDescriptionHelpFormatter,
@@ -1127,4 +1244,6 @@ def process() -> None:
 
 
 if __name__ == "__main__":
+    # The modules beside this one import it by its name.
+    sys.modules["stumpgarret"] = sys.modules["__main__"]
     process()

@@ -74,6 +74,13 @@ class Server:
     def fields_named(self, script, script_length, file, file_length, index, index_length, rows, rows_length, answer):
         self.ask_named(2**32 - 7, [file, index, b"", script, rows, b""], answer, index, rows)
 
+    def replay(self, script, _1, numbers, _2, trace, _3, words, _4, text, _5, output, _6, answer):
+        lent = [numbers, script, trace, words, text, output]
+        self.ask(struct.pack("<7I", 2**32 - 8, *map(len, lent)) + b"".join(map(bytes, lent)), answer, words, text, output)
+
+    def spec(self, spec, spec_length, answer):
+        self.ask(struct.pack("<4I", 2**32 - 9, spec_length, 0, 0) + spec[:spec_length], answer)
+
     def ask_named(self, verb, lent, *written):
         self.ask(struct.pack("<7I", verb, *map(len, lent)) + b"".join(map(bytes, lent)), *written)
 

@@ -7,6 +7,7 @@ import re
 import unittest
 import warnings
 
+import test_format
 import test_listing
 import test_tokenize
 from by_python import literal
@@ -158,7 +159,8 @@ class Effects(unittest.TestCase):
     def test_all_rows_are_seen(self):
         """A row of the page is a row of one of these tables."""
         titles = {entry[0] for table in (*TABLES, differences.ADDED) for entry in table}
-        on_page = {line.split(" | ")[0][2:] for line in DOCUMENT if line.startswith("| ")} - {"What"}
+        titles |= {*test_format.differences("Spec"), *test_format.differences("Trace")}
+        on_page = {line.split(" | ")[0][2:] for line in DOCUMENT if line.startswith("| ")} - {"What", "Class"}
         self.assertEqual(on_page, titles)
 
     def test_rows_are_those_of_the_list(self):

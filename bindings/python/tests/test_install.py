@@ -33,6 +33,17 @@ examples/bench.py:5:10\trail\t\t:<8
 examples/bench.py:5:20\tmv=\t!r\t
 examples/bench.py:5:26\tstatus\t!r\t:>{2 + len(status)}
 examples/bench.py:5:37\t2 + len(status)\t\t
+examples/bench.py:7:14\tat\t\t:>9,
+examples/bench.py:7:31\tmv\t\t:>5
+examples/bench.py:7:48\tcode\t\t:#06x
+"""
+BENCH_REPLAY = "replay", "examples/bench.py:7", "examples/readings.csv"
+BENCH_LINES = """\
+        0 us  VDD   743 mV  code 0x003b
+      125 us  VDD   741 mV  code 0x003b
+      250 us  VDD    -3 mV  code 0x0000
+    1,000 us  VDD  5003 mV  code 0x0190
+1,048,576 us  VDD   743 mV  code 0xffff
 """
 SYSTEM_NAMES = pathlib.Path(stumpgarret.SYSTEM_NAMES)
 VERSION = f"""\
@@ -86,7 +97,7 @@ class Copy(unittest.TestCase):
         cls.work.chmod(0o755)
         cls.built = cls.work / "built"
         (cls.built / "target/staticlib").mkdir(parents=True)
-        for part in ("NOTICE", "bindings", "crates", "crates.txt", "examples", "fields", "install", "prepare"):
+        for part in ("NOTICE", "bindings", "crates", "crates.txt", "examples", "fields", "install", "prepare", "stumpgarret"):
             subprocess.run(["cp", "-a", CLONE / part, cls.built], check=True)
         shutil.copy(os.environ["STUMPGARRET_STATIC"], cls.built / "target/staticlib/libstumpgarret.a")
         subprocess.run(["cp", "-a", CLONE / "target/python", cls.built / "target"], check=True)
@@ -138,6 +149,17 @@ class Fields(Copy):
         for call in calls:
             self.assertEqual(ended(call), (0, BENCH_FIELDS, ""))
         self.assertEqual(state(self.built), before)
+
+    def test_words(self):
+        for words, said in (
+            (("fields", "examples/bench.py"), BENCH_FIELDS),
+            (("examples/bench.py",), BENCH_FIELDS),
+            (BENCH_REPLAY, BENCH_LINES),
+        ):
+            call = run("./stumpgarret", *words, user=OTHER_USER, cwd=self.built, PATH=self.few)
+            self.assertEqual(call, (0, said, ""))
+        call = run("./stumpgarret", "replay", "--template", "f'{x}'", "examples/readings.csv", cwd=self.built, PATH=self.few)
+        self.assertEqual(call, (1, "", "examples/readings.csv: row 1: 71, 3 columns for 1 field\n"))
 
     def test_by_a_link(self):
         link = self.work / "link"
@@ -245,7 +267,7 @@ class Install(Copy):
 
     def test_files(self):
         self.assertEqual((self.status, self.err, self.unchanged), (0, "", True))
-        modules = ["stumpgarret.py", "stumpgarret_page.py", "libstumpgarret.so"]
+        modules = ["stumpgarret.py", "stumpgarret_page.py", "stumpgarret_replay.py", "libstumpgarret.so"]
         files = ["bin/stumpgarret", *(f"lib/stumpgarret/{name}" for name in modules), "lib/libstumpgarret.a"]
         files += ["include/stumpgarret.h", "share/doc/stumpgarret/NOTICE", self.wheel.relative_to(self.prefix)]
         said = self.out.splitlines()
@@ -264,6 +286,8 @@ class Install(Copy):
         for command in (self.prefix / "bin/stumpgarret", link):
             call = run(command, "examples/bench.py", user=OTHER_USER, cwd=examples, PATH=self.few)
             self.assertEqual(call, (0, BENCH_FIELDS, ""))
+            call = run(command, *BENCH_REPLAY, user=OTHER_USER, cwd=examples, PATH=self.few)
+            self.assertEqual(call, (0, BENCH_LINES, ""))
 
     def test_names(self):
         command = self.prefix / "bin/stumpgarret"
@@ -287,7 +311,7 @@ class Install(Copy):
         words = "--html", page, "examples/bench.py"
         call = run(self.prefix / "bin/stumpgarret", *words, user=OTHER_USER, cwd=self.work / "away", PATH=self.few)
         self.assertEqual(call, (0, "", ""))
-        self.assertIn("Complete: 6 fields, and these are all", page.read_text())
+        self.assertIn("Complete: 9 fields, and these are all", page.read_text())
 
     def test_again(self):
         """Over what is installed already."""

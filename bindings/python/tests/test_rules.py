@@ -10,17 +10,18 @@ import unittest
 from support import CLONE, stumpgarret
 
 PAGE = CLONE / "docs" / "RULES.md"
+# Each file of definitions, by its name.
 SPECS = {path.name: path for path in CLONE.glob("crates/definition*/specs/*.antt") if path.name != "Lib.antt"}
 SECTION = re.compile(r"### (\d+)\.(\d+) (.+)")
 DEFINED = re.compile(r"Defined in `(\w+\.antt)`: ((?:`[^`]+`(?:, )?)+)")
 SPAN = re.compile(r"`([^`]+)`")
 CITED = re.compile(r"RULES (\d+(?:\.\d+)?)")
-FROM, ROOM, AT = re.compile(r"from (\d+)"), re.compile(r"room for (\d+) numbers"), re.compile(r"at (\d+)")
+FROM, ROOM, AT = re.compile(r"from (\d+)"), re.compile(r"room for (\d+) (?:numbers|bytes)"), re.compile(r"at (\d+)")
 LENT = re.compile(r"script '(.*)' list \[(.*)\](?: room (\d+) words, (\d+) bytes)?", re.DOTALL)
 LENT_FILE = re.compile(r"file '(.*)' index \[(.*)\]", re.DOTALL)
 MARK = re.compile(r"<(?:(LF|CR|TAB|NUL)|([0-9A-F]{2})|U\+([0-9A-F]{4,6})|(\d+) times (.+?))>")
 CHARACTERS = {"LF": "\n", "CR": "\r", "TAB": "\t", "NUL": "\0"}
-FIRST_CHAPTER, REFUSALS = 1, 11
+FIRST_CHAPTER, REFUSALS, LAST_CHAPTER = 1, 11, 12
 NOT_OURS = ".git", "target"
 ROOM_FOR_ALL = 8192
 FILL = 7
@@ -96,6 +97,20 @@ def read_named(script, listed, file, index):
     given = script, len(script), numbers, len(numbers), file, len(file), offsets, len(offsets)
     stumpgarret._function("read_named")(*given, words, len(words), text, len(text), answer)
     return list(answer), list(words), text.raw
+
+
+def tell_spec(spec):
+    answer = numbers_of(12)
+    stumpgarret._function("spec")(spec, len(spec), answer)
+    return list(answer)
+
+
+def replay(script, listed, trace, room=ROOM_FOR_ALL):
+    numbers, words, answer = (ctypes.c_uint32 * len(listed))(*listed), numbers_of(ROOM_FOR_ALL), numbers_of(12)
+    text, output = lent(ctypes.c_char, ROOM_FOR_ALL), lent(ctypes.c_char, room)
+    given = script, len(script), numbers, len(numbers), trace, len(trace)
+    stumpgarret._function("replay")(*given, words, len(words), text, len(text), output, room, answer)
+    return list(answer), output.raw
 
 
 def literals_of(script):
@@ -250,6 +265,24 @@ def asked_named(cell, spans):
     return parts(*read_named(script, literals_of(script), file, index[: answer[1]]))
 
 
+def asked_replay(shown):
+    def ask(cell, spans):
+        script, trace = map(plain, [*spans, ""][:2])
+        return shown(*replay(script, literals_of(script), trace, room_of(SPAN.sub("", cell))))
+
+    return ask
+
+
+def written(answer, output):
+    if answer[0] in (68, 69):
+        return f"refused: {answer[0]} of field {answer[9]}"
+    if answer[0] in (70, 71, 72):
+        return f"refused: {answer[0]} of row {answer[9]}"
+    if answer[0] == 73:
+        return f"refused: 73 with {answer[9]} bytes needed"
+    return refusal(answer) if answer[0] else output[: answer[10]].decode() or "nothing"
+
+
 def room_of(cell):
     room = ROOM.search(cell)
     return int(room[1]) if room else ROOM_FOR_ALL
@@ -297,6 +330,9 @@ TABLES = {
     ("File", "Index"): asked_file,
     ("Lent file", "Numbers"): asked_lent_file,
     ("Named", "Parts"): asked_named,
+    ("Spec", "Numbers"): lambda cell, spans: numbers_shown(tell_spec(plain(spans[0])), 12),
+    ("Replay", "Lines"): asked_replay(written),
+    ("Replay", "Numbers"): asked_replay(lambda answer, output: numbers_shown(answer, 11)),
     ("Body", "Line"): lambda cell, spans: lines(plain(spans[0])).rstrip("\n"),
 }
 ASKING = {headings[0] for headings in TABLES}
@@ -397,6 +433,9 @@ class Definitions(unittest.TestCase):
     def test_each_file_is_named(self):
         self.assertEqual({file for section in RULES for file, _ in section.defined}, set(SPECS))
 
+    def test_no_two_files_have_a_name(self):
+        self.assertEqual(len(SPECS), sum(path.name != "Lib.antt" for path in CLONE.glob("crates/definition*/specs/*.antt")))
+
     def test_no_file_is_named_otherwise(self):
         """Each list of names is read, up to its full stop."""
         for section in RULES:
@@ -465,8 +504,8 @@ def names():
 class Numbering(unittest.TestCase):
     def test_in_order(self):
         chapters = [int(number) for number in re.findall(r"^## (\d+)\. ", PAGE_TEXT, re.MULTILINE)]
-        self.assertEqual(chapters, [*range(1, REFUSALS + 1)])
-        for chapter in chapters[:-1]:
+        self.assertEqual(chapters, [*range(1, LAST_CHAPTER + 1)])
+        for chapter in set(chapters) - {REFUSALS}:
             own = [section.number for section in SECTIONS if section.chapter == chapter]
             self.assertEqual(own, [*range(1, len(own) + 1)])
 

@@ -82,6 +82,22 @@ extern "C" {
         rows_length: usize,
         answer: *mut u32,
     );
+    fn stumpgarret_spec(spec: *const u8, spec_length: usize, answer: *mut u32);
+    fn stumpgarret_replay(
+        script: *const u8,
+        script_length: usize,
+        literals: *const u32,
+        literals_length: usize,
+        trace: *const u8,
+        trace_length: usize,
+        words: *mut u32,
+        words_length: usize,
+        text: *mut u8,
+        text_length: usize,
+        output: *mut u8,
+        output_length: usize,
+        answer: *mut u32,
+    );
 }
 
 pub(crate) fn read(
@@ -235,6 +251,45 @@ pub(crate) fn fields_named(
             index.len(),
             rows.as_mut_ptr(),
             rows.len(),
+            answer.as_mut_ptr(),
+        );
+    }
+    answer
+}
+
+pub(crate) fn spec(spec: &[u8]) -> [u32; ANSWER] {
+    let mut answer = [0; ANSWER];
+    // SAFETY: as above.
+    unsafe {
+        stumpgarret_spec(spec.as_ptr(), spec.len(), answer.as_mut_ptr());
+    }
+    answer
+}
+
+pub(crate) fn replay(
+    script: &[u8],
+    literals: &[u32],
+    trace: &[u8],
+    words: &mut [u32],
+    text: &mut [u8],
+    output: &mut [u8],
+) -> [u32; ANSWER] {
+    let mut answer = [0; ANSWER];
+    // SAFETY: as above.
+    unsafe {
+        stumpgarret_replay(
+            script.as_ptr(),
+            script.len(),
+            literals.as_ptr(),
+            literals.len(),
+            trace.as_ptr(),
+            trace.len(),
+            words.as_mut_ptr(),
+            words.len(),
+            text.as_mut_ptr(),
+            text.len(),
+            output.as_mut_ptr(),
+            output.len(),
             answer.as_mut_ptr(),
         );
     }

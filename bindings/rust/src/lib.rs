@@ -72,6 +72,9 @@
 //! [`literals_at`] finds the literals in a script, so that none is cut out by hand, and [`read_at`]
 //! reads what it finds.
 //!
+//! [`replay`] puts the rows of a recorded trace into the fields of a template, a line for each, and
+//! [`Spec::parse`] tells the parts of a format spec.
+//!
 //! Of the names of characters in `\N{..}` the library itself has fourteen. [`Names`] is a file with all
 //! of them, which [`fields_named`], [`parse_strings_named`], [`read_into_named`] and
 //! [`read_at_named`] take.
@@ -82,6 +85,7 @@ mod listing;
 mod literal;
 mod names;
 mod refusal;
+mod replay;
 mod run;
 mod signs;
 
@@ -90,6 +94,7 @@ pub use listing::{fields, fields_named, Listed, ListedField, ListedRefusal, List
 pub use literal::{Literal, StringKind};
 pub use names::Names;
 pub use refusal::{Reason, Refusal, Unclosed};
+pub use replay::{replay, FormatSpec, Replay};
 pub use run::{literals_at, read_at, read_at_named, Run};
 pub use signs::{field_signs, ConversionReason, FieldSigns};
 

@@ -2,7 +2,7 @@ use crate::call;
 use std::error::Error;
 use std::fmt;
 
-/// Why literals, a script or a file of names were refused. Where rustpython-parser has such an error,
+/// Why literals, a script, a file of names, a format spec or a trace were refused. Where rustpython-parser has such an error,
 /// the name is its.
 #[derive(Clone, Debug, PartialEq, Eq, Hash)]
 #[non_exhaustive]
@@ -77,6 +77,32 @@ pub enum Reason {
     TooLittleIndexRoom,
     /// An index that is not that of its file of names, or one of a file of 2^32 bytes or more.
     WrongIndex,
+    /// A format spec is not of the grammar: that of the template's field, from 0; of
+    /// [`Spec::parse`](crate::Spec::parse) it is 0.
+    NotOfGrammar {
+        field: usize,
+    },
+    /// The template's field, from 0, has a conversion, a nested field, a width above 64, a type other
+    /// than `d`, `b`, `o`, `x` and `X`, or what Python refuses for integers.
+    OutsideSet {
+        field: usize,
+    },
+    /// The row, from 0, is not of RFC 4180, or a column is not digits after at most one `-`.
+    RowMalformed {
+        row: usize,
+    },
+    /// The row, from 0, has not as many columns as the template has fields.
+    WrongColumns {
+        row: usize,
+    },
+    /// The row, from 0, has a number beyond 32 bits.
+    OutOfRange {
+        row: usize,
+    },
+    /// The lines have so many bytes, 4,294,967,295 for that many or more.
+    TooLittleLineRoom {
+        bytes: usize,
+    },
     /// Python 3.11 reads a field otherwise, or not at all: only in a [`Listing`](crate::Listing).
     ReadOtherwise,
     /// An answer that this crate cannot read, so the library linked is not the one it is for.
@@ -131,6 +157,28 @@ impl fmt::Display for Reason {
             }
             Self::WrongIndex => {
                 "the index is not that of the file of names, or that has 2^32 bytes or more"
+            }
+            Self::NotOfGrammar { field } => {
+                return write!(f, "the format spec of field {} is not of the grammar", field)
+            }
+            Self::OutsideSet { field } => {
+                return write!(
+                    f,
+                    "field {} has a conversion, a nested field or a spec that is no integer's",
+                    field
+                )
+            }
+            Self::RowMalformed { row } => {
+                return write!(f, "row {} is not one of integers by RFC 4180", row)
+            }
+            Self::WrongColumns { row } => {
+                return write!(f, "row {} has not as many columns as there are fields", row)
+            }
+            Self::OutOfRange { row } => {
+                return write!(f, "row {} has a number beyond 32 bits", row)
+            }
+            Self::TooLittleLineRoom { bytes } => {
+                return write!(f, "the output is too small: {} bytes are needed", bytes)
             }
             Self::ReadOtherwise => "Python reads the field otherwise, or not at all",
             Self::UnknownAnswer => "the library linked gives answers that this crate does not know",
@@ -267,7 +315,8 @@ impl Refusal {
     }
 }
 
-/// By a number, its details, and what is needed for want of room.
+/// By a number, its details, and what is told beside them: what is needed for want of room, the field
+/// or the row of a replay.
 pub(crate) fn reason(number: u32, [a, b]: [u32; 2], needed: u32) -> Option<Reason> {
     let (records, text) = (a as usize, b as usize);
     Some(match number {
@@ -302,6 +351,12 @@ pub(crate) fn reason(number: u32, [a, b]: [u32; 2], needed: u32) -> Option<Reaso
         61 => Reason::NameTwice,
         62 => Reason::TooLittleIndexRoom,
         63 => Reason::WrongIndex,
+        68 => Reason::NotOfGrammar { field: needed as usize },
+        69 => Reason::OutsideSet { field: needed as usize },
+        70 => Reason::RowMalformed { row: needed as usize },
+        71 => Reason::WrongColumns { row: needed as usize },
+        72 => Reason::OutOfRange { row: needed as usize },
+        73 => Reason::TooLittleLineRoom { bytes: needed as usize },
         75 => Reason::ReadOtherwise,
         _ => return None,
     })
@@ -310,7 +365,7 @@ pub(crate) fn reason(number: u32, [a, b]: [u32; 2], needed: u32) -> Option<Reaso
 impl fmt::Display for Refusal {
     fn fmt(&self, f: &mut fmt::Formatter<'_>) -> fmt::Result {
         let Refusal { number, reason, literal, place, opened, line, column, .. } = self;
-        if (60..=63).contains(number) {
+        if (60..=73).contains(number) {
             return write!(f, "{} (refusal {})", reason, number);
         }
         write!(f, "{} (refusal {}, literal {}, place {}", reason, number, literal, place)?;

@@ -24,7 +24,14 @@
    index, the list, the script, the words and the text. A row buffer is lent as the words.
    Answer: 12 u32, the index, the words, the text after the call.
 
-   Requests may come together. */
+   Request for a trace replayed through a template: u32 FFFFFFF8, u32 list length, u32 script bytes,
+   u32 trace bytes, u32 words lent, u32 text bytes lent, u32 output bytes lent, then all of these.
+   Answer: 12 u32, the words, the text, the output after the call.
+
+   Request for the parts of a format spec: u32 FFFFFFF7, u32 spec bytes, u32 0, u32 0, the spec.
+   Answer: 12 u32.
+
+   Requests may come together; what was answered goes out before more is waited for. */
 #include "../pipe.h"
 #include "stumpgarret.h"
 
@@ -32,6 +39,7 @@ enum { GUARD = 16, FILL = 0x5A };
 static const uint32_t LITERALS = UINT32_MAX, FIELDS = UINT32_MAX - 1, ROWS = UINT32_MAX;
 static const uint32_t BUILD = UINT32_MAX - 2, CHECK = UINT32_MAX - 3,
                       SEARCHED = UINT32_MAX - 5, FIELDS_NAMED = UINT32_MAX - 6;
+static const uint32_t REPLAY = UINT32_MAX - 7, SPEC = UINT32_MAX - 8;
 
 static void *lend(size_t size)
 {
@@ -190,6 +198,59 @@ static void answer_named(const uint32_t head[4])
     }
 }
 
+/* What is lent to a replay, in the order in which it comes. */
+enum { REPLAYED_LIST, REPLAYED_SCRIPT, TRACE, REPLAYED_WORDS, REPLAYED_TEXT, OUTPUT, REPLAY_LENT };
+
+static void answer_replay(const uint32_t head[4])
+{
+    static const char *const names[REPLAY_LENT] = {"the list",  "the script", "the trace",
+                                                   "the words", "the text",   "the output"};
+    uint32_t count[REPLAY_LENT];
+    memcpy(count, head + 1, 3 * sizeof *count);
+    take(count + 3, 3 * sizeof *count);
+    size_t size[REPLAY_LENT];
+    void *lent[REPLAY_LENT], *before[REPLAY_LENT];
+    for (int i = 0; i < REPLAY_LENT; i++) {
+        size[i] = (i == REPLAYED_LIST || i == REPLAYED_WORDS ? 4 : 1) * (size_t)count[i];
+        lent[i] = lend(size[i]);
+        before[i] = lend(size[i]);
+        take(lent[i], size[i]);
+        memcpy(before[i], lent[i], size[i]);
+    }
+    uint32_t *answer = lend(48);
+    memset(answer, 0xFF, 48);
+    stumpgarret_replay(lent[REPLAYED_SCRIPT], count[REPLAYED_SCRIPT], lent[REPLAYED_LIST],
+                       count[REPLAYED_LIST], lent[TRACE], count[TRACE], lent[REPLAYED_WORDS],
+                       count[REPLAYED_WORDS], lent[REPLAYED_TEXT], count[REPLAYED_TEXT],
+                       lent[OUTPUT], count[OUTPUT], answer);
+    put(answer, 48);
+    for (int i = REPLAYED_WORDS; i < REPLAY_LENT; i++)
+        put(lent[i], size[i]);
+    give_back(answer, 48, "the answer");
+    for (int i = 0; i < REPLAY_LENT; i++) {
+        if (i < REPLAYED_WORDS)
+            unchanged(lent[i], before[i], size[i], names[i]);
+        give_back(before[i], size[i], "a copy");
+        give_back(lent[i], size[i], names[i]);
+    }
+}
+
+static void answer_spec(const uint32_t head[4])
+{
+    size_t size = head[1];
+    uint8_t *spec = lend(size), *before = lend(size);
+    take(spec, size);
+    memcpy(before, spec, size);
+    uint32_t *answer = lend(48);
+    memset(answer, 0xFF, 48);
+    stumpgarret_spec(spec, size, answer);
+    put(answer, 48);
+    give_back(answer, 48, "the answer");
+    unchanged(spec, before, size, "the spec");
+    give_back(before, size, "a copy of the spec");
+    give_back(spec, size, "the spec");
+}
+
 int main(void)
 {
     setvbuf(stdout, NULL, _IOFBF, 1 << 20);
@@ -200,6 +261,10 @@ int main(void)
             answer_script(size);
         else if (size[0] >= FIELDS_NAMED)
             answer_named(size);
+        else if (size[0] == REPLAY)
+            answer_replay(size);
+        else if (size[0] == SPEC)
+            answer_spec(size);
         else if (size[3] == ROWS)
             answer_rows(size);
         else

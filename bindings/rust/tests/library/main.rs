@@ -5,5 +5,6 @@ mod literals;
 mod names;
 mod readings;
 mod refusals;
+mod replay;
 mod room;
 mod signs;
