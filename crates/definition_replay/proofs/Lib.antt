@@ -1,3 +1,4 @@
+pub mod computed
 pub mod spec
 pub mod integers
 pub mod trace

@@ -2,4 +2,3 @@ pub mod Digits
 pub mod WrittenLaws
 pub mod Grouped
 pub mod IntegerSteps
-pub mod IntegerTable

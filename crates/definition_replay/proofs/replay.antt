@@ -3,4 +3,3 @@ pub mod ReplayLines
 pub mod ReplayLaws
 pub mod ReplayFirst
 pub mod ReplayOne
-pub mod ReplayTable

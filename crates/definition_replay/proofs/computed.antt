@@ -1,0 +1,2 @@
+pub mod IntegerTable
+pub mod ReplayTable
