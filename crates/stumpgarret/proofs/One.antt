@@ -15,7 +15,8 @@ use Rattle.definition_scripts.proofs.literals.ListOne.{list-one}
 use Rattle.definition_scripts.proofs.listing.ListingOne.{fields-one}
 use Rattle.definition_replay.specs.Replay.{replayNumbers, replayNumbersOf}
 use Rattle.definition_replay.proofs.replay.ReplayOne.{replay-one}
-use Rattle.stumpgarret.specs.Twelve.{twelve, CallIs, ListIs, FieldsIs, ReplayIs}
+use Rattle.twelve.specs.Twelve.{twelve}
+use Rattle.stumpgarret.specs.Calls.{CallIs, ListIs, FieldsIs, ReplayIs}
 
 zeros-word : (n k : ℕ) → word (replicate n 0) k ≡ 0
 zeros-word zero k = refl

@@ -1,13 +1,8 @@
 // The C interface: flat numbers in, twelve numbers out.
-use listing::Fields;
 use listing::list_fields;
 use listing::list_named;
-use literals::Listing;
 use literals::list_literals;
-use names::Answer;
-use replay::Replay;
 use replay::replay_trace;
-use strings::Outcome;
 use strings::parse_named;
 use strings::parse_searched;
 use strings::parse_signs;
@@ -22,51 +17,8 @@ ghost use Rattle.definition_names.specs.Names.{check, buildInto, indexNumbers, 
 ghost use Rattle.definition_names.specs.NamedReading.{namedNumbers, fieldsNamedInto};
 ghost use Rattle.definition_replay.specs.SpecNumbers.{specNumbers};
 ghost use Rattle.definition_replay.specs.Replay.{replayNumbers};
-ghost use Rattle.strings.specs.Strings.{says};
-ghost use Rattle.literals.specs.Answers as listing;
-ghost use Rattle.listing.specs.Answers as fields;
-ghost use Rattle.replay.specs.Answers as replays;
-ghost use Rattle.stumpgarret.specs.Twelve.{twelve, CallIs, SignsIs, ListIs, FieldsIs, indexSays, IndexIs, ReplayIs};
-
-const SCRIPT_TOO_LONG: u32 = 49;
-
-const TOO_LITTLE_LIST_ROOM: u32 = 53;
-
-// An outcome's numbers, and zeros up to twelve.
-fn twelve(o: Outcome) -> [u32; 12]
-    ensures { λ r. ⌜ r ≡ twelve (says o) ⌝ }
-{
-    match o {
-        Outcome::Accepted(x) => [
-            0,
-            x.sort,
-            x.mark,
-            x.start,
-            x.end,
-            x.records,
-            x.text,
-            0,
-            x.chars,
-            0,
-            0,
-            0,
-        ],
-        Outcome::Refused(r) => [
-            r.number,
-            r.literal,
-            r.place,
-            r.a,
-            r.b,
-            r.opened,
-            r.line,
-            r.column,
-            r.chars,
-            0,
-            0,
-            0,
-        ],
-    }
-}
+ghost use Rattle.twelve.specs.Twelve.{twelve};
+ghost use Rattle.stumpgarret.specs.Calls.{CallIs, SignsIs, ListIs, FieldsIs, IndexIs, ReplayIs};
 
 // Reads the literals whose numbers are listed, six for each, from a script into both buffers, and answers in twelve numbers.
 #[no_mangle]
@@ -79,7 +31,7 @@ pub extern "C" fn stumpgarret_read(
 )
     ensures { λ _. ⌜ CallIs (readNumbers heldNames (now (script .entry)) (now (literals .entry)) (now (words .entry)) (now (text .entry))) (now (answer .exit)) (now (words .exit)) (now (text .exit)) ⌝ }
 {
-    *answer = twelve(parse_strings(script, literals, words, text));
+    *answer = twelve::of_reading(parse_strings(script, literals, words, text));
 }
 
 // Reads the literals as `stumpgarret_read` does, writes the row of each field, ten numbers for each, and answers in twelve numbers.
@@ -92,18 +44,7 @@ pub extern "C" fn stumpgarret_signs(
 )
     ensures { λ _. ⌜ SignsIs (signsNumbers heldNames (now (script .entry)) (now (literals .entry)) (now (rows .entry))) (now (answer .exit)) (now (rows .exit)) ⌝ }
 {
-    *answer = twelve(parse_signs(script, literals, rows));
-}
-
-// A listing's numbers, and zeros up to twelve.
-fn twelve_listed(l: Listing) -> [u32; 12]
-    ensures { λ r. ⌜ r ≡ twelve (listing.says l) ⌝ }
-{
-    match l {
-        Listing::Lists(x) => [0, x.count, x.end, x.stop, 0, 0, 0, 0, 0, 0, 0, 0],
-        Listing::Refused(r) => [r.number, 0, r.place, 0, 0, 0, 0, 0, 0, 0, 0, 0],
-        Listing::Short(needed) => [TOO_LITTLE_LIST_ROOM, 0, 0, 0, 0, 0, 0, 0, 0, needed, 0, 0],
-    }
+    *answer = twelve::of_reading(parse_signs(script, literals, rows));
 }
 
 // Lists the adjacent literals of a script from an offset on, six numbers for each, and answers in twelve numbers.
@@ -116,19 +57,7 @@ pub extern "C" fn stumpgarret_literals(
 )
     ensures { λ _. ⌜ ListIs (literalsInto (now (script .entry)) offset (now (numbers .entry))) (now (answer .exit)) (now (numbers .exit)) ⌝ }
 {
-    *answer = twelve_listed(list_literals(script, offset, numbers));
-}
-
-// The numbers of a script's list, and zeros up to twelve.
-fn twelve_fields(x: Fields) -> [u32; 12]
-    ensures { λ r. ⌜ r ≡ twelve (fields.says x) ⌝ }
-{
-    match x {
-        Fields::Listed(l) => [0, l.rows, l.refusals, l.literals, l.to, 0, 0, 0, 0, 0, 0, 0],
-        Fields::TooLong => [SCRIPT_TOO_LONG, 0, 0, 0, 0, 0, 0, 0, 0, 0, 0, 0],
-        Fields::WrongNames(number) => [number, 0, 0, 0, 0, 0, 0, 0, 0, 0, 0, 0],
-        Fields::Short(count) => [TOO_LITTLE_LIST_ROOM, 0, 0, 0, 0, 0, 0, 0, 0, count, 0, 0],
-    }
+    *answer = twelve::of_literals(list_literals(script, offset, numbers));
 }
 
 // Lists every field of a script, a row of ten numbers for each, and answers in twelve numbers.
@@ -136,7 +65,7 @@ fn twelve_fields(x: Fields) -> [u32; 12]
 pub extern "C" fn stumpgarret_fields(script: &[u8], rows: &mut [u32], answer: &mut [u32; 12])
     ensures { λ _. ⌜ FieldsIs (fieldsInto heldNames (now (script .entry)) (now (rows .entry))) (now (answer .exit)) (now (rows .exit)) ⌝ }
 {
-    *answer = twelve_fields(list_fields(script, rows));
+    *answer = twelve::of_fields(list_fields(script, rows));
 }
 
 // Lists them as `stumpgarret_fields` does, with the names of a file, which is checked with its index once.
@@ -150,17 +79,7 @@ pub extern "C" fn stumpgarret_fields_named(
 )
     ensures { λ _. ⌜ FieldsIs (fieldsNamedInto (now (file .entry)) (now (index .entry)) (now (script .entry)) (now (rows .entry))) (now (answer .exit)) (now (rows .exit)) ⌝ }
 {
-    *answer = twelve_fields(list_named(script, file, index, rows));
-}
-
-// The numbers of an index, and zeros up to twelve.
-fn twelve_index(x: Answer) -> [u32; 12]
-    ensures { λ r. ⌜ r ≡ twelve (indexSays x) ⌝ }
-{
-    match x {
-        Answer::Entries(count) => [0, count, 0, 0, 0, 0, 0, 0, 0, 0, 0, 0],
-        Answer::Refused(number) => [number, 0, 0, 0, 0, 0, 0, 0, 0, 0, 0, 0],
-    }
+    *answer = twelve::of_fields(list_named(script, file, index, rows));
 }
 
 // Builds the index of a file of names at the front of a list, and answers in twelve numbers.
@@ -168,7 +87,7 @@ fn twelve_index(x: Answer) -> [u32; 12]
 pub extern "C" fn stumpgarret_names_build(file: &[u8], index: &mut [u32], answer: &mut [u32; 12])
     ensures { λ _. ⌜ IndexIs (buildInto (now (file .entry)) (now (index .entry))) (now (answer .exit)) (now (index .exit)) ⌝ }
 {
-    *answer = twelve_index(names::build(file, index));
+    *answer = twelve::of_index(names::build(file, index));
 }
 
 // Checks that a list is the index of a file of names, and answers in twelve numbers.
@@ -176,7 +95,7 @@ pub extern "C" fn stumpgarret_names_build(file: &[u8], index: &mut [u32], answer
 pub extern "C" fn stumpgarret_names_check(file: &[u8], index: &[u32], answer: &mut [u32; 12])
     ensures { λ _. ⌜ now (answer .exit) ≡ twelve (indexNumbers (check (now (file .entry)) (now (index .entry)))) ⌝ }
 {
-    *answer = twelve_index(names::check(file, index));
+    *answer = twelve::of_index(names::check(file, index));
 }
 
 // Reads the literals as `stumpgarret_read` does, with the names of a file, which is checked with its index after the entry checks.
@@ -192,7 +111,7 @@ pub extern "C" fn stumpgarret_read_named(
 )
     ensures { λ _. ⌜ CallIs (namedNumbers (now (file .entry)) (now (index .entry)) (now (script .entry)) (now (literals .entry)) (now (words .entry)) (now (text .entry))) (now (answer .exit)) (now (words .exit)) (now (text .exit)) ⌝ }
 {
-    *answer = twelve(parse_named(script, literals, file, index, words, text));
+    *answer = twelve::of_reading(parse_named(script, literals, file, index, words, text));
 }
 
 // Reads the literals as `stumpgarret_read` does, with names searched in a file by whatever index is lent.
@@ -208,31 +127,7 @@ pub extern "C" fn stumpgarret_read_searched(
 )
     ensures { λ _. ⌜ CallIs (readNumbers (searched (now (file .entry)) (now (index .entry))) (now (script .entry)) (now (literals .entry)) (now (words .entry)) (now (text .entry))) (now (answer .exit)) (now (words .exit)) (now (text .exit)) ⌝ }
 {
-    *answer = twelve(parse_searched(script, literals, file, index, words, text));
-}
-
-// A replay's numbers, and zeros up to twelve.
-fn twelve_replayed(x: Replay) -> [u32; 12]
-    ensures { λ r. ⌜ r ≡ twelve (replays.says x) ⌝ }
-{
-    match x {
-        Replay::Replayed(l) => [
-            0,
-            l.reading.sort,
-            l.reading.mark,
-            l.reading.start,
-            l.reading.end,
-            l.reading.records,
-            l.reading.text,
-            0,
-            l.reading.chars,
-            l.rows,
-            l.bytes,
-            0,
-        ],
-        Replay::Unread(r) => twelve(Outcome::Refused(r)),
-        Replay::Stopped(s) => [s.number, 0, 0, 0, 0, 0, 0, 0, 0, s.told, 0, 0],
-    }
+    *answer = twelve::of_reading(parse_searched(script, literals, file, index, words, text));
 }
 
 // Replays a trace through the template that the literals are, reading it into words and text, a line for each row, and answers in twelve numbers.
@@ -248,7 +143,7 @@ pub extern "C" fn stumpgarret_replay(
 )
     ensures { λ _. ⌜ ReplayIs (replayNumbers heldNames (now (script .entry)) (now (literals .entry)) (now (trace .entry)) (now (words .entry)) (now (text .entry)) (now (output .entry))) (now (answer .exit)) (now (words .exit)) (now (text .exit)) (now (output .exit)) ⌝ }
 {
-    *answer = twelve_replayed(replay_trace(script, literals, trace, words, text, output));
+    *answer = twelve::of_replay(replay_trace(script, literals, trace, words, text, output));
 }
 
 // Tells the parts of a format specification in twelve numbers.

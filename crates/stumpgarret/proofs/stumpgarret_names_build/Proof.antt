@@ -1,7 +1,7 @@
 -- `stumpgarret::stumpgarret_names_build` meets its contract. Assumes nothing.
 use borrow.Author.Needs.{needs}
 use mathlib.Core.Path.{_∙_, ap}
-use Rattle.stumpgarret.specs.Twelve.{twelve, indexSays}
+use Rattle.twelve.specs.Twelve.{twelve, indexSays}
 use Rattle.stumpgarret.proofs.Indexes.{index-says}
 use Rattle.stumpgarret.proofs.stumpgarret_names_build.Statement.{statement}
 use Rattle.stumpgarret.proofs.stumpgarret_names_build.Tie as tie
@@ -11,6 +11,6 @@ stumpgarret-names-build-spec =
     tie.close
     (tie.spec
     (λ c κs. search needs)  -- build-requires
-    (λ c κs. search needs)  -- twelve-index-requires
+    (λ c κs. search needs)  -- of-index-requires
     (λ c. search needs)  -- same-length
-    (λ c. let l = c .before .before .before .build .ensures in record { numbered = c .twelve-index .ensures ∙ ap (λ x. twelve (indexSays x)) (l .0) ∙ ap twelve (index-says _); index-left = l .1 }))  -- returns
+    (λ c. let l = c .before .before .before .build .ensures in record { numbered = c .of-index .ensures ∙ ap (λ x. twelve (indexSays x)) (l .0) ∙ ap twelve (index-says _); index-left = l .1 }))  -- returns

@@ -1,7 +1,7 @@
 -- `stumpgarret::stumpgarret_names_check` meets its contract. Assumes nothing.
 use borrow.Author.Needs.{needs}
 use mathlib.Core.Path.{_∙_, ap}
-use Rattle.stumpgarret.specs.Twelve.{twelve, indexSays}
+use Rattle.twelve.specs.Twelve.{twelve, indexSays}
 use Rattle.stumpgarret.proofs.Indexes.{index-says}
 use Rattle.stumpgarret.proofs.stumpgarret_names_check.Statement.{statement}
 use Rattle.stumpgarret.proofs.stumpgarret_names_check.Tie as tie
@@ -11,5 +11,5 @@ stumpgarret-names-check-spec =
     tie.close
     (tie.spec
     (λ c κs. search needs)  -- check-requires
-    (λ c κs. search needs)  -- twelve-index-requires
-    (λ c. c .twelve-index .ensures ∙ ap (λ x. twelve (indexSays x)) (c .before .check .ensures) ∙ ap twelve (index-says _)))  -- returns
+    (λ c κs. search needs)  -- of-index-requires
+    (λ c. c .of-index .ensures ∙ ap (λ x. twelve (indexSays x)) (c .before .check .ensures) ∙ ap twelve (index-says _)))  -- returns

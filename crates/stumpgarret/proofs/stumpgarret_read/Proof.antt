@@ -1,7 +1,7 @@
 -- `stumpgarret::stumpgarret_read` meets its contract. Assumes nothing.
 use borrow.Author.Needs.{needs}
 use mathlib.Core.Path.{_∙_, ap}
-use Rattle.stumpgarret.specs.Twelve.{twelve}
+use Rattle.twelve.specs.Twelve.{twelve}
 use Rattle.stumpgarret.proofs.stumpgarret_read.Statement.{statement}
 use Rattle.stumpgarret.proofs.stumpgarret_read.Tie as tie
 
@@ -10,7 +10,7 @@ stumpgarret-read-spec =
     tie.close
     (tie.spec
     (λ c κs. search needs)  -- parse-strings-requires
-    (λ c κs. search needs)  -- twelve-requires
+    (λ c κs. search needs)  -- of-reading-requires
     (λ c. search needs)  -- same-length
     (λ c. search needs)  -- same-length-2
-    (λ c. record { numbered = (c .twelve .ensures) ∙ ap twelve (c .before .before .before .before .before .parse-strings .ensures .answer); words-left = (c .before .before .before .before .before .parse-strings .ensures .words); text-left = (c .before .before .before .before .before .parse-strings .ensures .text) }))  -- returns
+    (λ c. record { numbered = (c .of-reading .ensures) ∙ ap twelve (c .before .before .before .before .before .parse-strings .ensures .answer); words-left = (c .before .before .before .before .before .parse-strings .ensures .words); text-left = (c .before .before .before .before .before .parse-strings .ensures .text) }))  -- returns

@@ -1,13 +1,13 @@
--- `stumpgarret::twelve` meets its contract. Assumes nothing.
+-- `twelve::of_reading` meets its contract. Assumes nothing.
 use borrow.Author.Needs.{needs}
 use mathlib.Core.Path.{refl}
-use Rattle.stumpgarret.specs.Twelve.{twelve}
-use Rattle.stumpgarret.proofs.twelve.Statement.{statement}
-use Rattle.stumpgarret.proofs.twelve.Tie as tie
+use Rattle.twelve.specs.Twelve.{twelve}
+use Rattle.twelve.proofs.of_reading.Statement.{statement}
+use Rattle.twelve.proofs.of_reading.Tie as tie
 
-pub twelve-spec : {M : Type 1} → statement M
+pub of-reading-spec : {M : Type 1} → statement M
 unfolding twelve
-twelve-spec =
+of-reading-spec =
     tie.close
     (tie.spec
     (λ c. search needs)  -- enum-known-o

@@ -1,20 +1,14 @@
--- The twelve numbers of an answer, and what a call over the C interface leaves.
-use Prim.Native.Nat.{ℕ, _-_}
+-- What a call over the C interface leaves: its answer's twelve numbers, and the lent buffers.
+use Prim.Native.Nat.{ℕ}
 use mathlib.Core.Path.{_≡_}
-use mathlib.Core.List.{List, [], _∷_, _++_}
-use lib.ListN.{length, replicate}
+use mathlib.Core.List.{List}
 use Rattle.definition.specs.Reading.{Call, numbers}
 use Rattle.definition.specs.Rows.{SignsCall, rowedNumbers}
 use Rattle.definition_scripts.specs.Literals.{ListCall, listNumbers}
 use Rattle.definition_scripts.specs.Listing.{FieldsCall, fieldsNumbers}
 use Rattle.definition_names.specs.Names.{BuildCall, indexNumbers}
 use Rattle.definition_replay.specs.Replay.{ReplayCall, replayNumbersOf}
-use Rattle.names.specs.declared.Answer.{Answer}
-use Rattle.names.specs.declared.Answer.the-variants.{Entries, Refused}
-
--- a list of numbers, and zeros up to twelve
-unfoldable pub twelve : List ℕ → List ℕ
-twelve ns = ns ++ replicate (12 - length ns) 0
+use Rattle.twelve.specs.Twelve.{twelve}
 
 -- a call of the definition: the twelve numbers, and both buffers afterwards
 pub record CallIs (call : Call) (answer words text : List ℕ) : Type 0 where
@@ -36,11 +30,6 @@ pub record ListIs (call : ListCall) (answer list : List ℕ) : Type 0 where
 pub record FieldsIs (call : FieldsCall) (answer rows : List ℕ) : Type 0 where
   pub numbered : answer ≡ twelve (fieldsNumbers (call .listed))
   pub rows-left : rows ≡ call .rows
-
--- the paper's numbers of an index
-abbrev pub indexSays : Answer → List ℕ
-indexSays (Entries n) = 0 ∷ n ∷ []
-indexSays (Refused n) = n ∷ []
 
 -- the same of a call that builds an index
 pub record IndexIs (call : BuildCall) (answer index : List ℕ) : Type 0 where

@@ -1,13 +1,13 @@
--- `stumpgarret::twelve_listed` meets its contract. Assumes nothing.
+-- `twelve::of_literals` meets its contract. Assumes nothing.
 use borrow.Author.Needs.{needs}
 use mathlib.Core.Path.{refl}
-use Rattle.stumpgarret.specs.Twelve.{twelve}
-use Rattle.stumpgarret.proofs.twelve_listed.Statement.{statement}
-use Rattle.stumpgarret.proofs.twelve_listed.Tie as tie
+use Rattle.twelve.specs.Twelve.{twelve}
+use Rattle.twelve.proofs.of_literals.Statement.{statement}
+use Rattle.twelve.proofs.of_literals.Tie as tie
 
-pub twelve-listed-spec : {M : Type 1} → statement M
+pub of-literals-spec : {M : Type 1} → statement M
 unfolding twelve
-twelve-listed-spec =
+of-literals-spec =
     tie.close
     (tie.spec
     (λ c. search needs)  -- enum-known-l

@@ -1,13 +1,13 @@
--- `stumpgarret::twelve_fields` meets its contract. Assumes nothing.
+-- `twelve::of_fields` meets its contract. Assumes nothing.
 use borrow.Author.Needs.{needs}
 use mathlib.Core.Path.{refl}
-use Rattle.stumpgarret.specs.Twelve.{twelve}
-use Rattle.stumpgarret.proofs.twelve_fields.Statement.{statement}
-use Rattle.stumpgarret.proofs.twelve_fields.Tie as tie
+use Rattle.twelve.specs.Twelve.{twelve}
+use Rattle.twelve.proofs.of_fields.Statement.{statement}
+use Rattle.twelve.proofs.of_fields.Tie as tie
 
-pub twelve-fields-spec : {M : Type 1} → statement M
+pub of-fields-spec : {M : Type 1} → statement M
 unfolding twelve
-twelve-fields-spec =
+of-fields-spec =
     tie.close
     (tie.spec
     (λ c. search needs)  -- enum-known-l

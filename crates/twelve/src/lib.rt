@@ -1,0 +1,109 @@
+// An answer of the library in the twelve numbers of the C interface.
+use listing::Fields;
+use literals::Listing;
+use names::Answer;
+use replay::Replay;
+use strings::Outcome;
+ghost use mathlib.Core.Path.{_≡_};
+ghost use Rattle.strings.specs.Strings.{says};
+ghost use Rattle.literals.specs.Answers as listing;
+ghost use Rattle.listing.specs.Answers as fields;
+ghost use Rattle.replay.specs.Answers as replays;
+ghost use Rattle.twelve.specs.Twelve.{twelve, indexSays};
+
+const SCRIPT_TOO_LONG: u32 = 49;
+
+const TOO_LITTLE_LIST_ROOM: u32 = 53;
+
+// An outcome's numbers, and zeros up to twelve.
+pub fn of_reading(o: Outcome) -> [u32; 12]
+    ensures { λ r. ⌜ r ≡ twelve (says o) ⌝ }
+{
+    match o {
+        Outcome::Accepted(x) => [
+            0,
+            x.sort,
+            x.mark,
+            x.start,
+            x.end,
+            x.records,
+            x.text,
+            0,
+            x.chars,
+            0,
+            0,
+            0,
+        ],
+        Outcome::Refused(r) => [
+            r.number,
+            r.literal,
+            r.place,
+            r.a,
+            r.b,
+            r.opened,
+            r.line,
+            r.column,
+            r.chars,
+            0,
+            0,
+            0,
+        ],
+    }
+}
+
+// A listing's numbers, and zeros up to twelve.
+pub fn of_literals(l: Listing) -> [u32; 12]
+    ensures { λ r. ⌜ r ≡ twelve (listing.says l) ⌝ }
+{
+    match l {
+        Listing::Lists(x) => [0, x.count, x.end, x.stop, 0, 0, 0, 0, 0, 0, 0, 0],
+        Listing::Refused(r) => [r.number, 0, r.place, 0, 0, 0, 0, 0, 0, 0, 0, 0],
+        Listing::Short(needed) => [TOO_LITTLE_LIST_ROOM, 0, 0, 0, 0, 0, 0, 0, 0, needed, 0, 0],
+    }
+}
+
+// The numbers of a script's list, and zeros up to twelve.
+pub fn of_fields(x: Fields) -> [u32; 12]
+    ensures { λ r. ⌜ r ≡ twelve (fields.says x) ⌝ }
+{
+    match x {
+        Fields::Listed(l) => [0, l.rows, l.refusals, l.literals, l.to, 0, 0, 0, 0, 0, 0, 0],
+        Fields::TooLong => [SCRIPT_TOO_LONG, 0, 0, 0, 0, 0, 0, 0, 0, 0, 0, 0],
+        Fields::WrongNames(number) => [number, 0, 0, 0, 0, 0, 0, 0, 0, 0, 0, 0],
+        Fields::Short(count) => [TOO_LITTLE_LIST_ROOM, 0, 0, 0, 0, 0, 0, 0, 0, count, 0, 0],
+    }
+}
+
+// The numbers of an index, and zeros up to twelve.
+pub fn of_index(x: Answer) -> [u32; 12]
+    ensures { λ r. ⌜ r ≡ twelve (indexSays x) ⌝ }
+{
+    match x {
+        Answer::Entries(count) => [0, count, 0, 0, 0, 0, 0, 0, 0, 0, 0, 0],
+        Answer::Refused(number) => [number, 0, 0, 0, 0, 0, 0, 0, 0, 0, 0, 0],
+    }
+}
+
+// A replay's numbers, and zeros up to twelve.
+pub fn of_replay(x: Replay) -> [u32; 12]
+    ensures { λ r. ⌜ r ≡ twelve (replays.says x) ⌝ }
+{
+    match x {
+        Replay::Replayed(l) => [
+            0,
+            l.reading.sort,
+            l.reading.mark,
+            l.reading.start,
+            l.reading.end,
+            l.reading.records,
+            l.reading.text,
+            0,
+            l.reading.chars,
+            l.rows,
+            l.bytes,
+            0,
+        ],
+        Replay::Unread(r) => of_reading(Outcome::Refused(r)),
+        Replay::Stopped(s) => [s.number, 0, 0, 0, 0, 0, 0, 0, 0, s.told, 0, 0],
+    }
+}
