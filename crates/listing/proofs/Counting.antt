@@ -26,10 +26,10 @@ use Rattle.definition_scripts.proofs.listing.RowCount.{countRows, count-none, c
 use Rattle.definition_scripts.proofs.listing.FewRows.{part-few, literal-few}
 use Rattle.literals.specs.declared.Literal.{Literal}
 use Rattle.literals.specs.Answers.{literalOf}
-use Rattle.listing.specs.declared.odd.Field.{Field}
+use Rattle.sources.specs.declared.Field.{Field}
 use Rattle.listing.specs.declared.rows.Told.{Told}
 use Rattle.listing.specs.declared.count.Window.{Window}
-use Rattle.listing.specs.Odd.{signsOf, rowOf, Source}
+use Rattle.sources.specs.Source.{signsOf, rowOf, Source}
 use Rattle.listing.specs.Put.{Reads, Bounded, refusalRow, fieldOf, rowAt, rowsIn}
 use Rattle.listing.specs.Count.{total, Found, Seen, Block}
 use Rattle.listing.proofs.Written.{not-read, rows-back}

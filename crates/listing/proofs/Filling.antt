@@ -21,11 +21,11 @@ use Rattle.definition_scripts.proofs.listing.ListingSteps.{Listing, listing-sta
 use Rattle.definition_scripts.proofs.listing.FewRows.{rows-few}
 use Rattle.buffers.specs.Over.{over}
 use Rattle.buffers.proofs.Over.{over-front}
-use Rattle.listing.specs.declared.odd.Field.{Field}
+use Rattle.sources.specs.declared.Field.{Field}
 use Rattle.listing.specs.declared.rows.Part.{Part}
 use Rattle.listing.specs.declared.List as list
 use Rattle.listing.specs.declared.Fields.the-variants.{Listed, TooLong, Short}
-use Rattle.listing.specs.Odd.{signsOf, rowOf, Source}
+use Rattle.sources.specs.Source.{signsOf, rowOf, Source}
 use Rattle.listing.specs.Put.{Puts, PartIs, rowAt, rowsIn, fieldOf, Lies, Bounded}
 use Rattle.listing.specs.Answers.{Filled, CallIs}
 use Rattle.listing.proofs.Written.{puts-none, puts-append, row-back, rows-back}
@@ -47,8 +47,7 @@ module _ (look : Naming) (s rows : List ℕ) (i : ℕ) where
     unfolding rowAt
     source-lies p long =
         let r = rw (ne-eqb (getD rows (i * 10) 0) 5 e) at p in
-        let k = r .placed .close-at .0 in
-        record { closed = omega arith; ahead = r .ahead; within = r .within; not-long = long }
+        record { ahead = r .ahead; within = r .within; not-long = long }
 
     pub source-field : (n : ℕ) → sourceRows look s n (rowAt rows i) ≡ otherwiseRow s n (rowOf f) c ++ cutRows look s n c
     unfolding rowAt sourceRows otherwiseRow otherwise

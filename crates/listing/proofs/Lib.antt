@@ -1,4 +1,3 @@
-pub mod Odds
 pub mod Alone
 pub mod Written
 pub mod Cutting

@@ -1,4 +1,3 @@
-pub mod Odd
 pub mod Put
 pub mod Count
 pub mod Answers

@@ -12,12 +12,12 @@ use Rattle.definition_scripts.specs.Cut.{cutPart}
 use Rattle.definition_scripts.specs.Listing.{ListRow, ofField, ofRefusal, tens, readRows, cutRows, reached, refusalsIn}
 use Rattle.definition_scripts.proofs.listing.SourceLaws.{Fits}
 use Rattle.buffers.specs.Over.{over}
-use Rattle.listing.specs.declared.odd.Field.{Field}
+use Rattle.sources.specs.declared.Field.{Field}
 use Rattle.listing.specs.declared.rows.Told.{Told}
 use Rattle.listing.specs.declared.rows.Alone.{Alone}
 use Rattle.listing.specs.declared.rows.Alone.the-variants.{Fields, Refused}
 use Rattle.listing.specs.declared.rows.Part.{Part}
-use Rattle.listing.specs.Odd.{signsOf}
+use Rattle.sources.specs.Source.{signsOf}
 
 -- a refusal's row
 abbrev pub refusalRow : (within : ℕ) → Told → ListRow

@@ -1,8 +1,4 @@
 // Rows counted depth first, where a buffer has no room for them.
-use crate::odd::Field;
-use crate::odd::lesser;
-use crate::odd::otherwise;
-use crate::odd::source_end;
 use crate::rows::Alone;
 use crate::rows::field_at;
 use crate::rows::is_fstring;
@@ -10,6 +6,10 @@ use crate::rows::read_alone;
 use literals::Literal;
 use literals::Next;
 use literals::next_literal;
+use sources::Field;
+use sources::lesser;
+use sources::otherwise;
+use sources::source_end;
 ghost use mathlib.Core.Path.{_≡_};
 ghost use mathlib.Core.Bool.{true};
 ghost use Prim.Native.Nat.{_+_, _≤_, _<_};
@@ -19,7 +19,7 @@ ghost use Rattle.definition_scripts.specs.Cut.{cutPart};
 ghost use Rattle.definition_scripts.specs.Listing.{readRows, cutRows, sourceEnd, otherwiseRow};
 ghost use Rattle.escapes.specs.Answers.{namesBy};
 ghost use Rattle.literals.specs.Answers.{literalOf};
-ghost use Rattle.listing.specs.Odd.{signsOf, rowOf, Source};
+ghost use Rattle.sources.specs.Source.{signsOf, rowOf, Source};
 ghost use Rattle.listing.specs.Put.{Bounded, rowsIn};
 ghost use Rattle.listing.specs.Count.{total, Found, Seen, Block};
 

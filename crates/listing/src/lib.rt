@@ -1,6 +1,5 @@
 // Every field of a whole script: its rows, level by level.
 mod count;
-mod odd;
 mod rows;
 
 use buffers::fill_words;

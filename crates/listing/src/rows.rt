@@ -1,12 +1,12 @@
 // The rows of a literal, of a cut and of a row's source, written behind those before as long as there is room.
-use crate::odd::Field;
-use crate::odd::otherwise;
-use crate::odd::source_end;
 use buffers::Row;
 use buffers::put_row;
 use literals::Literal;
 use literals::Next;
 use literals::next_literal;
+use sources::Field;
+use sources::otherwise;
+use sources::source_end;
 use strings::Outcome;
 use strings::parse_window;
 ghost use mathlib.Core.Path.{_≡_};
@@ -19,7 +19,7 @@ ghost use Rattle.definition_scripts.specs.Listing.{readRows, tenOf, sourceEnd, 
 ghost use Rattle.buffers.specs.Over.{over};
 ghost use Rattle.escapes.specs.Answers.{namesBy};
 ghost use Rattle.literals.specs.Answers.{literalOf};
-ghost use Rattle.listing.specs.Odd.{signsOf, rowOf, Source};
+ghost use Rattle.sources.specs.Source.{signsOf, rowOf, Source};
 ghost use Rattle.listing.specs.Put.{refusalRow, AloneIs, rowAt, fieldOf, Puts, PartIs, Lies, Bounded};
 
 const REFUSAL: u32 = 5;

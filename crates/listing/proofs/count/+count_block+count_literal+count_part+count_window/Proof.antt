@@ -28,8 +28,8 @@ use Rattle.listing.proofs.count.count_window.Reads as count-window
 use Rattle.listing.proofs.count.count_window.Kinds as count-window-kinds
 use Rattle.listing.proofs.count.+count_block+count_literal+count_part+count_window.Lts-count_window as count-window-lts
 use Rattle.listing.proofs.count.own_rows.Reads as own-rows-reads
-use Rattle.listing.proofs.odd.lesser.Reads as lesser-reads
-use Rattle.listing.proofs.odd.source_end.Reads as source-end-reads
+use Rattle.sources.proofs.lesser.Reads as lesser-reads
+use Rattle.sources.proofs.source_end.Reads as source-end-reads
 use Rattle.listing.proofs.rows.field_at.Reads as field-at-reads
 use Rattle.listing.proofs.rows.is_fstring.Reads as is-fstring-reads
 use Rattle.listing.proofs.rows.read_alone.Reads as read-alone-reads
@@ -133,7 +133,7 @@ pub +count-block+count-literal+count-part+count-window-spec : {M : Type 1} → s
     (λ c κs. in-block _ _ _ _ ((c .before .before .before .before .before .before .pre .1)) _ _ (c .before .loop .inv) (c .loop-test .taken))  -- field-at-requires
     (λ c κs. rw (c .field-at .ensures) (block-source _ _ _ _ ((c .before .before .before .before .before .before .before .pre .1)) _ _ (c .before .before .loop .inv) (c .before .loop-test .taken)))  -- own-rows-requires
     (λ c. search needs)  -- cast-count-part
-    (λ c κs. rw (c .before .before .field-at .ensures) (block-source _ _ _ _ ((c .before .before .before .before .before .before .before .before .before .pre .1)) _ _ (c .before .before .before .before .loop .inv) (c .before .before .before .loop-test .taken) .closed))  -- source-end-requires
+    (λ c κs. search needs)  -- source-end-requires
     (λ c κs. rw ((c .source-end .ensures), (c .before .before .before .field-at .ensures)) (omega (arith, (c .before .before .before .before .before .before .before .before .before .before .pre .0), block-less _ _ _ _ ((c .before .before .before .before .before .before .before .before .before .before .pre .1)) _ _ (c .before .before .before .before .before .loop .inv) (c .before .before .before .before .loop-test .taken)), block-bounded _ _ _ _ ((c .before .before .before .before .before .before .before .before .before .before .pre .1)) _ _ (c .before .before .before .before .before .loop .inv) (c .before .before .before .before .loop-test .taken)))  -- count-part-requires
     (λ c. let m = block-most _ _ _ _ ((c .before .before .before .before .before .before .before .before .before .before .before .pre .1)) _ _ (c .before .before .before .before .before .before .loop .inv) (c .before .before .before .before .before .loop-test .taken) _ _ (rw (c .before .before .before .before .field-at .ensures) at (c .before .before .before .own-rows .ensures)) (rw ((c .before .source-end .ensures), (c .before .before .before .before .field-at .ensures)) at (c .count-part .ensures)) in omega (arith, m))  -- add-rows
     (λ c. let m = block-most _ _ _ _ ((c .before .before .before .before .before .before .before .before .before .before .before .pre .1)) _ _ (c .before .before .before .before .before .before .loop .inv) (c .before .before .before .before .before .loop-test .taken) _ _ (rw (c .before .before .before .before .field-at .ensures) at (c .before .before .before .own-rows .ensures)) (rw ((c .before .source-end .ensures), (c .before .before .before .before .field-at .ensures)) at (c .count-part .ensures)) in omega (arith, m))  -- add-rows-2

@@ -2,6 +2,7 @@
 use borrow.Author.Needs.{needs}
 use borrow.Author.Tests.{lt-ltb, le-ltb}
 use Rattle.definition_scripts.specs.Listing.{otherwiseRow}
+use Rattle.sources.proofs.Odds.{otherwise-source}
 use Rattle.listing.proofs.count.own_rows.Statement.{statement}
 use Rattle.listing.proofs.count.own_rows.Tie as tie
 
@@ -11,5 +12,5 @@ own-rows-spec =
     tie.close
     (tie.spec
     (λ c κs. search needs)  -- otherwise-requires
-    (λ c. rw (← (c .before .otherwise .ensures), lt-ltb _ _ (c .if1 .taken)))  -- returns
-    (λ c. rw (← (c .before .otherwise .ensures), le-ltb _ _ (c .if1 .left))))  -- returns-2
+    (λ c. rw (← otherwise-source _ _ (c .before .before .before .pre), ← (c .before .otherwise .ensures), lt-ltb _ _ (c .if1 .taken)))  -- returns
+    (λ c. rw (← otherwise-source _ _ (c .before .before .before .pre), ← (c .before .otherwise .ensures), le-ltb _ _ (c .if1 .left))))  -- returns-2

@@ -19,7 +19,7 @@ source-rows-spec =
     (λ c. let p = (c .before .before .before .before .before .before .before .before .pre .few) in search needs)  -- cast-within
     (λ c κs. (rw (c .before .field-at .ensures) (source-lies (namesBy (c .before .before .before .before .before .before .before .before .before .args .file .now) (c .before .before .before .before .before .before .before .before .before .args .index .now)) _ _ _ (c .before .before .before .if1 .left) ((c .before .before .before .before .before .before .before .before .before .pre) .fits) ((c .before .before .before .before .before .before .before .before .before .pre) .not-long)), omega (arith, (c .before .before .before .before .before .before .before .before .before .pre .few))))  -- otherwise-row-requires
     (λ c. search needs)  -- cast-cut-rows
-    (λ c κs. rw (c .before .before .before .before .before .field-at .ensures) (source-lies (namesBy (c .before .before .before .before .before .before .before .before .before .before .before .before .before .args .file .now) (c .before .before .before .before .before .before .before .before .before .before .before .before .before .args .index .now)) _ _ _ (c .before .before .before .before .before .before .before .if1 .left) ((c .before .before .before .before .before .before .before .before .before .before .before .before .before .pre) .fits) ((c .before .before .before .before .before .before .before .before .before .before .before .before .before .pre) .not-long) .closed))  -- source-end-requires
+    (λ c κs. search needs)  -- source-end-requires
     (λ c κs. rw ((c .before .source-end .ensures), (c .before .before .before .before .before .before .before .field-at .ensures)) (source-bounded (namesBy (c .before .before .before .before .before .before .before .before .before .before .before .before .before .before .before .args .file .now) (c .before .before .before .before .before .before .before .before .before .before .before .before .before .before .before .args .index .now)) _ _ _ (c .before .before .before .before .before .before .before .before .before .if1 .left) _ (c .before .before .before .before .before .before .before .before .before .before .before .before .before .before .before .pre) _ _ (rw (c .before .before .before .before .before .before .before .field-at .ensures) at (c .before .before .before .before .before .otherwise-row .ensures))))  -- cut-rows-requires
     (λ c. search needs)  -- same-length
     (λ c. source-puts _ _ _ _ (c .before .before .before .before .before .before .before .before .before .before .before .before .if1 .left) _ (c .before .before .before .before .before .before .before .before .before .before .before .before .before .before .before .before .before .before .pre) _ _ (rw (c .before .before .before .before .before .before .before .before .before .before .field-at .ensures) at (c .before .before .before .before .before .before .before .before .otherwise-row .ensures)) _ _ (rw ((c .before .before .before .before .source-end .ensures), (c .before .before .before .before .before .before .before .before .before .before .field-at .ensures)) at (c .before .before .cut-rows .ensures))))  -- returns-2

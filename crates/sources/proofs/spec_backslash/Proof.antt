@@ -1,0 +1,20 @@
+-- `sources::spec_backslash` meets its contract. Assumes nothing.
+use borrow.Author.Needs.{needs}
+use native.Mathlib.Omega.{arith}
+use Rattle.sources.proofs.Odds.{spec-none, spec-kind, spec-past, spec-brace, spec-there}
+use Rattle.sources.proofs.spec_backslash.Statement.{statement}
+use Rattle.sources.proofs.spec_backslash.Tie as tie
+
+pub spec-backslash-spec : {M : Type 1} → statement M
+spec-backslash-spec =
+    tie.close
+    (tie.spec
+    (λ c. spec-none _ (c .before .before .before .args .f) (c .if1 .taken))  -- returns
+    (λ c κs. search needs)  -- kind-at-requires
+    (λ c. spec-kind _ (c .before .before .before .before .before .args .f) (c .before .before .if1 .left) _ (c .before .kind-at .ensures) (c .if2 .taken))  -- returns-2
+    (λ c. search needs)  -- cast-brace-from
+    (λ c κs. search needs)  -- brace-from-requires
+    (λ c. spec-past _ (c .before .before .before .before .before .before .before .before .args .f) (c .before .before .before .before .before .if1 .left) _ (c .before .before .before .before .kind-at .ensures) (c .before .before .before .if2 .left) _ (c .before .brace-from .ensures) (c .if3 .taken))  -- returns-3
+    (λ c. search needs)  -- shared-slice-read-if4
+    (λ c. spec-brace _ (c .before .before .before .before .before .before .before .before .before .before .args .f) (c .before .before .before .before .before .before .before .if1 .left) _ (c .before .before .before .before .before .before .kind-at .ensures) (c .before .before .before .before .before .if2 .left) _ (c .before .before .before .brace-from .ensures) (c .before .before .if3 .left) (c .if4 .taken))  -- returns-4
+    (λ c. spec-there _ (c .before .before .before .before .before .before .before .before .before .before .args .f) (c .before .before .before .before .before .before .before .if1 .left) _ (c .before .before .before .before .before .before .kind-at .ensures) (c .before .before .before .before .before .if2 .left) _ (c .before .before .before .brace-from .ensures) (c .before .before .if3 .left) (c .if4 .left)))  -- returns-5

@@ -1,0 +1,31 @@
+-- `sources::text_in` meets its contract. Assumes nothing.
+use borrow.Author.Needs.{needs}
+use native.Mathlib.Omega.{arith}
+use mathlib.Core.Path.{refl}
+use mathlib.Core.Bool.{not}
+use Prim.Native.Nat.{_-_}
+use borrow.Author.Tests.{eq-eqb, ne-eqb}
+use Rattle.definition.specs.Chars.{_is_}
+use Rattle.sources.proofs.Odds.{Scanning, scan-here, scan-next, scan-end}
+use Rattle.sources.proofs.text_in.Statement.{statement}
+use Rattle.sources.proofs.text_in.Tie as tie
+
+abbrev Inv-loop : tie.InvT-loop
+Inv-loop s from end i₀ i = Scanning (λ x. not (x is " ")) s from end i
+
+abbrev μ-loop : tie.MeasureT-loop
+μ-loop s from end i₀ i = end - i
+
+pub text-in-spec : {M : Type 1} → statement M
+text-in-spec =
+    tie.close
+    (tie.spec
+    Inv-loop
+    μ-loop
+    (λ c. record { within = c .pre .0; same = refl })  -- loop-holds
+    (λ c. omega (arith, c .before .loop-test .taken, c .before .before .before .pre .1))  -- shared-slice-read-if1
+    (λ c. scan-here _ _ _ _ _ (c .before .before .before .loop .inv) (c .before .before .loop-test .taken) (c .before .before .before .before .pre .1) (rw (ne-eqb _ _ (c .if1 .taken))))  -- returns
+    (λ c. omega (arith, c .before .before .loop-test .taken))  -- add-i
+    (λ c. omega (arith, c .before .before .loop-test .taken))  -- loop-less
+    (λ c. scan-next _ _ _ _ _ (c .before .before .before .loop .inv) (c .before .before .loop-test .taken) (c .before .before .before .before .pre .1) (rw (eq-eqb _ _ (c .if1 .left))))  -- loop-again
+    (λ c. scan-end _ _ _ _ _ (c .before .loop .inv) (c .loop-test .left)))  -- returns-2
