@@ -44,7 +44,7 @@ TESTED = ["oracle/test", "bindings/c/test", "bindings/rust/test", "bindings/pyth
 BESIDE = [*PYTHON, *(f"{one} target/staticlib/libstumpgarret.a" for one in TESTED), "bench/run --short"]
 TIMES = "What it took, in seconds:"
 EXPECTED = ["expected of try_leaves", "expected of try_readings"]
-PARTS = ["blanks", "rows", *EXPECTED, "library", "oracle", "bindings/c", "bindings/rust", "bindings/python", "bench"]
+PARTS = ["library", "blanks", "rows", *EXPECTED, "oracle", "bindings/c", "bindings/rust", "bindings/python", "bench"]
 
 
 class Test(unittest.TestCase):
@@ -108,6 +108,18 @@ class Test(unittest.TestCase):
                 status, told = self.lines_with("echo one; echo '7 passed, 0 failed'", *word)
                 self.assertEqual((status, told), (1, ["prepare", "one", *BESIDE[: at + 1]]))
             self.write(name, stands)
+
+    def test_two_at_a_time(self):
+        """The bindings run beside the oracle, one after the other; the bench when all are done."""
+        for name in *TESTED, "bench/run":
+            self.write(name, f'#!/bin/sh\necho begins {name} >> met\nsleep 0.5\necho ends {name} >> met\necho {name} "$@"\n')
+        status, told = self.lines_with("echo one; echo '7 passed, 0 failed'")
+        self.assertEqual((status, told[: 3 + len(BESIDE)]), (0, ["prepare", "one", *BESIDE, TIMES]))
+        met = (self.clone / "met").read_text().splitlines()
+        first = TESTED[:2]
+        self.assertEqual(set(met[:2]), {f"begins {name}" for name in first})
+        alone = [*TESTED[1:], "bench/run"]
+        self.assertEqual([line for line in met if "oracle" not in line], [f"{does} {name}" for name in alone for does in ("begins", "ends")])
 
     def test_failed(self):
         status, told = self.lines_with("echo one; echo '6 passed, 1 failed'; exit 1")
