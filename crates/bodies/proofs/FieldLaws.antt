@@ -21,11 +21,13 @@ use Rattle.utf8.specs.declared.Cursor.{Cursor}
 use Rattle.utf8.proofs.Steps.{Stepped}
 use Rattle.buffers.specs.Over.{over}
 use Rattle.buffers.proofs.Over.{over-nil}
+use Rattle.brackets.specs.Brackets.{unpacked, brackets}
+use Rattle.brackets.proofs.Places.{length-brackets, outside-brackets, brackets-more, brackets-less}
 use Rattle.bodies.specs.declared.field.State.{State}
 use Rattle.records.specs.declared.Head.{Head}
 use Rattle.bodies.specs.declared.field.Turn.{Turn}
 use Rattle.bodies.specs.declared.field.Turn.the-variants as turn
-use Rattle.bodies.specs.FieldTurns.{isMarked, firstOf, unpacked, pending, Room, Fits, keptTo, skippedTo, headAt, brackets, stateOf, Mover, Went, Stopped, TurnIs}
+use Rattle.bodies.specs.FieldTurns.{isMarked, firstOf, pending, Room, Fits, keptTo, skippedTo, headAt, stateOf, Mover, Went, Stopped, TurnIs}
 
 pub and-false : (b : Bool) → (b && false) ≡ false
 and-false true = refl
@@ -51,34 +53,6 @@ part-none s i = rw sub-self
 
 pub length-part : (s : List ℕ) (i j : ℕ) → j ≤ length s → length (part s i j) ≡ j - i
 length-part s i j h = omega (arith, length-take (j - i) (drop i s), length-drop i s)
-
--- BRACKETS
-length-brackets : (n : ℕ) (places : List ℕ) → length (brackets n places) ≡ n
-unfolding brackets
-length-brackets zero places = refl
-length-brackets (suc n) places = ap suc (length-brackets n places)
-
-outside-brackets : (n : ℕ) (places : List ℕ) → outside (brackets n places) ≡ eqb n 0
-unfolding brackets outside
-outside-brackets zero places = refl
-outside-brackets (suc n) places = sym (ne-eqb (suc n) 0 (λ (e : suc n ≡ 0). omega arith))
-
--- a place above those in use does not matter
-brackets-set : (n m c : ℕ) (places : List ℕ) → n ≤ m → brackets n (set places m c) ≡ brackets n places
-unfolding brackets
-brackets-set zero m c places h = refl
-brackets-set (suc n) m c places h =
-    rw (getD-set-other places m n c 0 (λ (e : n ≡ m). omega arith), brackets-set n m c places (omega arith))
-
--- one more, and one less
-brackets-more : (n c : ℕ) (places : List ℕ) → n < length places → brackets (n + 1) (set places n c) ≡ unpacked c ∷ brackets n places
-unfolding brackets
-brackets-more n c places h = rw (add-one n, getD-set-same places n c 0 h, brackets-set n n c places (omega arith))
-
-brackets-less : (n : ℕ) (places : List ℕ) → 0 < n → brackets n places ≡ unpacked (getD places (n - 1) 0) ∷ brackets (n - 1) places
-unfolding brackets
-brackets-less zero places h = absurd (omega arith)
-brackets-less (suc n) places h = rw sub-one
 
 -- TURNS, of a reader m of the definition
 -- the state with other spaces, conversion and signs

@@ -19,12 +19,13 @@ use Rattle.definition.proofs.moves.Whole.{field-on, field-stop, field-end}
 use Rattle.buffers.specs.Over.{over}
 use Rattle.buffers.proofs.Over.{over-nil, over-append}
 use Rattle.marks.specs.declared.Refusal.{Refusal}
+use Rattle.brackets.specs.Brackets.{brackets}
 use Rattle.bodies.specs.declared.field.State.{State}
 use Rattle.records.specs.declared.Head.{Head}
 use Rattle.bodies.specs.declared.field.Opened.the-variants as opened
 use Rattle.bodies.proofs.FieldLaws.{part-none, and-false, and-true, keeps, plain-goes}
 use Rattle.marks.specs.Marks.{passing, refusal, faultOf}
-use Rattle.bodies.specs.FieldTurns.{isMarked, Passed, pending, Room, Fits, keptTo, skippedTo, headAt, brackets, stateOf, headState, Went, Stopped, closedAs, HeadIs, EndedIs, OpenedIs}
+use Rattle.bodies.specs.FieldTurns.{isMarked, Passed, pending, Room, Fits, keptTo, skippedTo, headAt, stateOf, headState, Went, Stopped, closedAs, HeadIs, EndedIs, OpenedIs}
 
 -- a blank expression is refused at its `}`
 abbrev blankOf : Field → Bool

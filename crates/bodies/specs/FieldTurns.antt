@@ -14,6 +14,7 @@ use Rattle.buffers.specs.Over.{over}
 use Rattle.utf8.specs.declared.Cursor.{Cursor}
 use Rattle.utf8.proofs.Steps.{Stepped}
 use Rattle.marks.specs.Marks.{passing, refusal, faultOf}
+use Rattle.brackets.specs.Brackets.{brackets}
 use Rattle.records.specs.declared.Head.{Head}
 use Rattle.bodies.specs.declared.field.State.{State}
 use Rattle.bodies.specs.declared.field.Turn.{Turn}
@@ -72,15 +73,6 @@ pub record Passed (s : List ℕ) (f r : State) : Type 0 where
 abbrev pub headAt : State → Cursor → Head
 headAt f k =
     record { at = k; used = f .used; spaces = f .spaces; equals = f .equals; bang = f .bang; conversion = f .conversion; blank = f .blank }
-
--- a bracket and the bytes taken just after it, as one number
-abbrev pub unpacked : ℕ → Bracket
-unpacked n = record { bracket = n % 256; taken = n / 256 }
-
--- the open brackets, innermost first: the first n of the places
-unfoldable pub brackets : ℕ → List ℕ → List Bracket
-brackets zero places = []
-brackets (suc n) places = unpacked (getD places n 0) ∷ brackets n places
 
 -- the definition's state, whose expression is e
 abbrev pub stateOf : List ℕ → State → List ℕ → Field

@@ -1,6 +1,8 @@
 // A replacement field's head: from after its `{` up to and including the `}` or `:` that ends it.
 use crate::EMPTY_EXPRESSION;
 use crate::MISMATCHED_DELIMITER;
+use brackets::innermost;
+use brackets::packed;
 use buffers::add_run;
 use marks::Class;
 use marks::Refusal;
@@ -19,14 +21,14 @@ use utf8::Step;
 ghost use mathlib.Core.Path.{_≡_};
 ghost use mathlib.Core.Bool.{true};
 ghost use mathlib.Core.List.{List};
-ghost use Prim.Native.Nat.{ℕ, _+_, _-_, _^_, _≤_, _<_};
-ghost use lib.ListN.{length, getD};
+ghost use Prim.Native.Nat.{ℕ, _^_, _≤_, _<_};
+ghost use lib.ListN.{length};
 ghost use Rattle.definition.specs.Chars.{_is_, code};
 ghost use Rattle.definition.specs.Escapes.{fault};
 ghost use Rattle.definition.specs.Body.{conversionMove, openMove, closeMove, quoteMove, fieldMove};
 ghost use Rattle.buffers.specs.Over.{over};
 ghost use Rattle.marks.specs.Marks.{refusal};
-ghost use Rattle.bodies.specs.FieldTurns.{unpacked, Passed, pending, keptTo, skippedTo, firstOf, headAt, Room, Fits, TurnIs, closedAs, OpenedIs};
+ghost use Rattle.bodies.specs.FieldTurns.{Passed, pending, keptTo, skippedTo, firstOf, headAt, Room, Fits, TurnIs, closedAs, OpenedIs};
 
 const INVALID_CONVERSION_FLAG: u32 = 21;
 
@@ -136,28 +138,6 @@ fn head_of(f: State, at: Cursor) -> Head
     }
 }
 
-// A bracket and the bytes taken just after it, as one number.
-fn packed(c: u32, taken: usize) -> u32
-    requires { ⌜ (c < 0x80) × (taken ≤ 1048576) ⌝ }
-    ensures { λ r. ⌜ unpacked r ≡ record { bracket = c; taken = taken } ⌝ }
-{
-    taken as u32 * 256 + c
-}
-
-// The bracket.
-fn bracket_of(opener: u32) -> u32
-    ensures { λ r. ⌜ r ≡ unpacked opener .bracket ⌝ }
-{
-    opener % 256
-}
-
-// The bytes taken just after it.
-fn taken_of(opener: u32) -> u32
-    ensures { λ r. ⌜ r ≡ unpacked opener .taken ⌝ }
-{
-    opener / 256
-}
-
 // The opening bracket at the state's place.
 fn open_bracket(f: State, c: u32, after: Cursor, places: &mut [u32; 64]) -> Turn
     requires { ⌜ (length (now places) ≡ 64) × (c < 0x80) × (after .at ≤ 1048576) ⌝ }
@@ -170,14 +150,6 @@ fn open_bracket(f: State, c: u32, after: Cursor, places: &mut [u32; 64]) -> Turn
     }
     places[depth] = packed(c, to);
     Turn::On(kept(f, to, depth + 1, false))
-}
-
-// The innermost of so many open brackets.
-fn innermost(places: &[u32; 64], depth: usize) -> u32
-    requires { ⌜ (0 < depth) × (depth ≤ 64) ⌝ }
-    ensures { λ r. ⌜ r ≡ getD (now (places .entry)) (depth - 1) 0 ⌝ }
-{
-    places[depth - 1]
 }
 
 // The closing bracket at the state's place.
@@ -197,15 +169,14 @@ fn close_bracket(f: State, c: u32, after: Cursor, places: &[u32; 64]) -> Turn
         });
     }
     let opener = innermost(places, depth);
-    let bracket = bracket_of(opener);
-    if matches(bracket, c) {
+    if matches(opener.bracket, c) {
         return Turn::On(kept(f, to, depth - 1, false));
     }
     Turn::Refused(Refusal {
         number: MISMATCHED_DELIMITER,
-        opened: taken_of(opener),
+        opened: opener.taken,
         taken: to,
-        a: bracket,
+        a: opener.bracket,
         b: c,
     })
 }
