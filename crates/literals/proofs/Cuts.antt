@@ -7,8 +7,8 @@ use native.Mathlib.Omega.{arith}
 use borrow.Author.Tests.{lt-leb, le-leb, ltb-true, ltb-false, ne-eqb}
 use lib.Dec.{ltb, eqb}
 use lib.ListN.{length, getD, List·getD-eq-default}
-use Rattle.definition.specs.Chars.{if_then_else_, _is_, byte, atEnd, _to_, inside}
-use Rattle.definition_scripts.specs.Opening.{isQuote, noKind, opens, isSign, firstAt, isLineEnd, isWord, apart}
+use Rattle.definition.specs.Chars.{if_then_else_, _is_, byte, atEnd}
+use Rattle.definition_scripts.specs.Opening.{isQuote, noKind, opens, isSign, firstAt, apart}
 use Rattle.definition.specs.Entry.{refusal}
 use Rattle.definition.specs.Reading.{accepts, refuses}
 use Rattle.definition_scripts.specs.IsCut.{reachesEnd, breaksOff}
@@ -18,9 +18,10 @@ use Rattle.definition.proofs.moves.CharLaws.{cases, no, byte-is, before-in, bef
 use Rattle.definition_scripts.proofs.literals.RunLaws.{sign-in}
 use Rattle.definition_scripts.proofs.cut.CutLaws.{comment-past, apart-begins, cut-facts}
 use Rattle.definition_scripts.proofs.cut.CutSteps.{cut-over, cut-other, cut-comment, cut-breaks, cut-goes}
+use Rattle.scans.specs.Scans.{cutMark}
 use Rattle.literals.specs.declared.Literal.{Literal}
 use Rattle.literals.specs.declared.Refusal.{Refusal}
-use Rattle.literals.specs.Answers.{literalOf, refusalOf, cutMark, Skips}
+use Rattle.literals.specs.Answers.{literalOf, refusalOf, Skips}
 
 -- a byte that is no mark is neither a quote nor a `#`
 no-quote : (c : ℕ) → cutMark c ≡ false → isQuote c ≡ false
@@ -78,28 +79,6 @@ module _ (s : List ℕ) (i kind : ℕ) (l : i < length s) (n : getD s i 0 ≡ 35
   pub case-joined : kind ≤ 6 → (kind ≡ 0 → ⊥) → apart s i ≡ false → cutCase s i ≡ other
   unfolding cutCase begins
   case-joined h z e = rw (lt-leb (length s) i l, unsigned, ← k, lt-leb noKind kind (omega arith), ne-eqb kind 0 z, e)
-
--- a line's end, and a letter, digit or underscore
-pub line-ten : (b : ℕ) → b ≡ 10 → isLineEnd b ≡ true
-line-ten b e = rw e
-
-pub line-thirteen : (b : ℕ) → b ≡ 13 → isLineEnd b ≡ true
-line-thirteen b e = rw e
-
-pub no-line : (b : ℕ) → (b ≡ 10 → ⊥) → (b ≡ 13 → ⊥) → isLineEnd b ≡ false
-no-line b e f = rw (ne-eqb b 10 e, ne-eqb b 13 f)
-
-pub is-digit : (c : ℕ) → inside (48 to 57) c ≡ true → true ≡ isWord c
-is-digit c e = rw e
-
-pub is-capital : (c : ℕ) → inside (48 to 57) c ≡ false → inside (65 to 90) c ≡ true → true ≡ isWord c
-is-capital c e f = rw (e, f)
-
-pub is-small : (c : ℕ) → inside (48 to 57) c ≡ false → inside (65 to 90) c ≡ false → inside (97 to 122) c ≡ true → true ≡ isWord c
-is-small c e f g = rw (e, f, g)
-
-pub is-underscore : (c : ℕ) → inside (48 to 57) c ≡ false → inside (65 to 90) c ≡ false → inside (97 to 122) c ≡ false → eqb c 95 ≡ isWord c
-is-underscore c e f g = rw (e, f, g)
 
 -- A cut that has come from `from` to `at`, and may go on from `here`
 module _ (s : List ℕ) (from at here : ℕ) (p : Skips s from at) (q : Skips s at here) where

@@ -1,5 +1,5 @@
-pub mod Openings
-pub mod Closings
+pub mod Prefixes
+pub mod Passing
 pub mod Listings
 pub mod Founds
 pub mod Cuts

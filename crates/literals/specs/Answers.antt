@@ -1,16 +1,13 @@
 -- What the answers say, in the definition's terms, and what a call over a list buffer leaves.
 use Prim.Native.Nat.{ℕ, _≤_, _<_}
 use mathlib.Core.Path.{_≡_}
-use mathlib.Core.Bool.{Bool, _||_}
 use mathlib.Core.List.{List, [], _∷_}
-use lib.Dec.{eqb}
 use lib.ListN.{length}
 use Rattle.definition.specs.Numbers.{tooLittleListRoom}
-use Rattle.definition.specs.Chars.{if_then_else_, _is_}
 use Rattle.definition.specs.Entry as d
 use Rattle.definition.specs.Entry.{refusal}
 use Rattle.definition.specs.Reading.{Outcome, accepts, refuses, lastEnd}
-use Rattle.definition_scripts.specs.Opening.{noKind, opens}
+use Rattle.definition_scripts.specs.Opening.{opens}
 use Rattle.definition_scripts.specs.IsCut.{reachesEnd, breaksOff}
 use Rattle.definition_scripts.specs.Cut as c
 use Rattle.definition_scripts.specs.Cut.{cutCase, cutFrom, firstCut}
@@ -22,10 +19,6 @@ use Rattle.literals.specs.declared.Run.{Run}
 use Rattle.literals.specs.declared.Refusal.{Refusal}
 use Rattle.literals.specs.declared.Listing.{Listing}
 use Rattle.literals.specs.declared.Listing.the-variants.{Lists, Refused, Short}
-use Rattle.literals.specs.declared.BodyCase.{BodyCase}
-use Rattle.literals.specs.declared.BodyCase.the-variants.{Over, Takes, Closes, Breaks, Plain}
-use Rattle.literals.specs.declared.Closing.{Closing}
-use Rattle.literals.specs.declared.Closing.the-variants.{Closed, Fails}
 use Rattle.literals.specs.declared.Found.{Found}
 use Rattle.literals.specs.declared.Found.the-variants as found
 use Rattle.literals.specs.declared.BlankCase.{BlankCase}
@@ -36,28 +29,6 @@ use Rattle.literals.specs.declared.Next.{Next}
 use Rattle.literals.specs.declared.Next.the-variants as next
 use Rattle.literals.specs.declared.Ran.{Ran}
 use Rattle.literals.specs.declared.Ran.the-variants as ran
-
--- the kind that a letter beside an `r` says
-abbrev pub rawKind : ℕ → ℕ
-rawKind a = if a is "fF" then 4 else if a is "bB" then 5 else noKind
-
--- what a scan over a body stops at, and its third byte by the literal's quote and flag
-abbrev pub mark : ℕ → ℕ → ℕ → Bool
-mark quote third b = eqb b quote || eqb b 92 || eqb b third
-
-abbrev pub thirdOf : ℕ → ℕ → ℕ
-thirdOf quote flag = if eqb flag 1 then quote else 10
-
-abbrev pub caseOf : BodyCase → s.BodyCase
-caseOf Over = s.over
-caseOf Takes = s.takes
-caseOf Closes = s.closes
-caseOf Breaks = s.breaks
-caseOf Plain = s.plain
-
-abbrev pub closingOf : Closing → s.Closing
-closingOf (Closed at) = s.closed at
-closingOf (Fails number) = s.fails number
 
 -- a literal of a kind opens there, in a script that is not too long
 pub record Within (script : List ℕ) (at kind : ℕ) : Type 0 where
@@ -107,10 +78,6 @@ says (Short needed) = tooLittleListRoom ∷ 0 ∷ 0 ∷ 0 ∷ 0 ∷ 0 ∷ 0 ∷ 
 pub record CallIs (call : ListCall) (list : List ℕ) (r : Listing) : Type 0 where
   pub answer : says r ≡ listNumbers (call .listing)
   pub left : list ≡ call .list
-
--- what a scan over a gap stops at
-abbrev pub cutMark : ℕ → Bool
-cutMark b = eqb b 39 || eqb b 34 || eqb b 35
 
 -- the case of a place of a cut; a literal's kind
 abbrev pub CaseIs : List ℕ → ℕ → CutCase → Type 0

@@ -1,17 +1,25 @@
-// The adjacent literals of a script from an offset on: what opens one, where it closes, what is passed over after it. The cut of a whole script, literal by literal.
+// The adjacent literals of a script from an offset on, and what is passed over after each. The cut of a whole script, literal by literal.
+use scans::Closing;
+use scans::NO_KIND;
+use scans::apart;
+use scans::byte_at;
+use scans::closing_from;
+use scans::comment_end;
+use scans::line_end;
+use scans::mark_from;
+use scans::opens;
+use scans::tripled;
 ghost use mathlib.Core.Path.{_≡_};
 ghost use mathlib.Core.List.{List};
-ghost use Prim.Native.Nat.{ℕ, _+_, _*_, _≤_, _<_, _^_};
-ghost use lib.ListN.{length, drop};
+ghost use Prim.Native.Nat.{ℕ, _*_, _≤_};
+ghost use lib.ListN.{length};
 ghost use Rattle.definition.specs.Numbers.{prefix};
-ghost use Rattle.definition.specs.Chars.{_is_, byte, before, inside, _to_};
-ghost use Rattle.definition_scripts.specs.Opening.{isQuote, oneLetter, twoLetters, opens, tripled, quotes, quotesAt, lineEnd, isWord, apart, firstAt};
+ghost use Rattle.definition_scripts.specs.Opening.{quotes};
 ghost use Rattle.definition.specs.Reading.{Outcome, zeros};
 ghost use Rattle.definition_scripts.specs.Literals as s;
-ghost use Rattle.definition_scripts.specs.Literals.{bodyCase, closing, literalAt, blankCase, passed, run, listed, listInto, literalsInto};
-ghost use Rattle.definition_scripts.specs.Cut.{commentEnd};
+ghost use Rattle.definition_scripts.specs.Literals.{literalAt, blankCase, passed, run, listed, listInto, literalsInto};
 ghost use Rattle.buffers.specs.Over.{over};
-ghost use Rattle.literals.specs.Answers.{rawKind, mark, thirdOf, caseOf, closingOf, Within, foundOf, blankOf, numbersOf, Wrote, RunIs, CallIs, cutMark, CaseIs, Skips, NextIs};
+ghost use Rattle.literals.specs.Answers.{Within, foundOf, blankOf, numbersOf, Wrote, RunIs, CallIs, CaseIs, Skips, NextIs};
 
 // A literal: six numbers.
 pub struct Literal {
@@ -41,21 +49,6 @@ pub enum Listing {
     Lists(Run),
     Refused(Refusal),
     Short(u32),
-}
-
-// What stands at an index of a body: nothing more, a backslash with what it takes, the closing quotes, a newline that may not stand there, or any other byte.
-pub(crate) enum BodyCase {
-    Over,
-    Takes,
-    Closes,
-    Breaks,
-    Plain,
-}
-
-// Where a body's closing quotes begin, or the number that says why there are none.
-pub(crate) enum Closing {
-    Closed(usize),
-    Fails(u32),
 }
 
 // The literal that opens at a place, or why it never closes.
@@ -95,113 +88,7 @@ pub(crate) enum Ran {
 
 const SCRIPT_TOO_LONG: u32 = 49;
 
-const NEVER_CLOSED: u32 = 50;
-
-const NEWLINE_IN_LITERAL: u32 = 51;
-
 const NO_LITERAL: u32 = 52;
-
-// Where no literal opens: past every kind.
-const NO_KIND: u32 = 7;
-
-// The byte at an index, as a number; 256 past the end.
-fn byte_at(s: &[u8], at: usize) -> u32
-    ensures { λ r. ⌜ r ≡ byte (now (s .entry)) at ⌝ }
-{
-    if at < s.len() {
-        return s[at] as u32;
-    }
-    256
-}
-
-fn is_quote(c: u32) -> bool
-    ensures { λ r. ⌜ r ≡ isQuote c ⌝ }
-{
-    if c == 39 {
-        return true;
-    }
-    c == 34
-}
-
-// The kind that a prefix of one letter says.
-fn one_letter(a: u32) -> u32
-    ensures { λ r. ⌜ r ≡ oneLetter a ⌝ }
-{
-    match a {
-        102 => 1,
-        70 => 1,
-        98 => 2,
-        66 => 2,
-        114 => 3,
-        82 => 3,
-        117 => 6,
-        85 => 6,
-        _ => NO_KIND,
-    }
-}
-
-// The kind that a letter beside an `r` says.
-fn raw_kind(a: u32) -> u32
-    ensures { λ r. ⌜ r ≡ rawKind a ⌝ }
-{
-    match a {
-        102 => 4,
-        70 => 4,
-        98 => 5,
-        66 => 5,
-        _ => NO_KIND,
-    }
-}
-
-// Whether a letter is an `r`.
-fn is_raw(a: u32) -> bool
-    ensures { λ r. ⌜ r ≡ a is "rR" ⌝ }
-{
-    if a == 114 {
-        return true;
-    }
-    a == 82
-}
-
-// The kind that a prefix of two letters says.
-fn two_letters(a: u32, b: u32) -> u32
-    ensures { λ r. ⌜ r ≡ twoLetters a b ⌝ }
-{
-    if is_raw(a) {
-        return raw_kind(b);
-    }
-    if is_raw(b) {
-        return raw_kind(a);
-    }
-    NO_KIND
-}
-
-// The kind of the literal that opens at an index.
-fn opens(s: &[u8], at: usize) -> u32
-    requires { ⌜ at < 2 ^ 32 ⌝ }
-    ensures { λ r. ⌜ r ≡ opens (now (s .entry)) at ⌝ }
-{
-    let a = byte_at(s, at);
-    if is_quote(a) {
-        return 0;
-    }
-    let b = byte_at(s, at + 1);
-    if is_quote(b) {
-        return one_letter(a);
-    }
-    let c = byte_at(s, at + 2);
-    if is_quote(c) {
-        return two_letters(a, b);
-    }
-    NO_KIND
-}
-
-// The kind of the literal that opens at a place of a script; 7 where none does.
-pub fn kind_at(script: &[u8], at: u32) -> u32
-    ensures { λ r. ⌜ r ≡ opens (now (script .entry)) at ⌝ }
-{
-    opens(script, at as usize)
-}
 
 // The length of a kind's prefix.
 fn prefix(kind: u32) -> u32
@@ -218,18 +105,6 @@ fn prefix(kind: u32) -> u32
     }
 }
 
-// The flag of the quotes that begin at an index: 1 if three equal ones stand there.
-fn tripled(s: &[u8], at: usize) -> u32
-    requires { ⌜ at < 2 ^ 33 ⌝ }
-    ensures { λ r. ⌜ r ≡ tripled (now (s .entry)) at ⌝ }
-{
-    let quote = byte_at(s, at);
-    if byte_at(s, at + 1) != quote {
-        return 0;
-    }
-    if byte_at(s, at + 2) == quote { 1 } else { 0 }
-}
-
 // How many quotes a flag stands for.
 fn quotes(triple: u32) -> u32
     ensures { λ r. ⌜ r ≡ quotes triple ⌝ }
@@ -240,114 +115,13 @@ fn quotes(triple: u32) -> u32
     1
 }
 
-// Whether a literal's quotes stand at an index.
-fn quotes_at(s: &[u8], quote: u8, triple: u32, at: usize) -> bool
-    requires { ⌜ at < length (now s) ⌝ }
-    ensures { λ r. ⌜ r ≡ quotesAt (now (s .entry)) quote triple at ⌝ }
-{
-    let quote = quote as u32;
-    if byte_at(s, at) != quote {
-        return false;
-    }
-    if triple != 1 {
-        return true;
-    }
-    if byte_at(s, at + 1) != quote {
-        return false;
-    }
-    byte_at(s, at + 2) == quote
-}
-
-// What stands at an index of a body.
-fn body_case(s: &[u8], quote: u8, triple: u32, at: usize) -> BodyCase
-    ensures { λ r. ⌜ caseOf r ≡ bodyCase (now (s .entry)) quote triple at ⌝ }
-{
-    if s.len() <= at {
-        return BodyCase::Over;
-    }
-    let b = s[at];
-    if b == b'\\' {
-        return BodyCase::Takes;
-    }
-    if quotes_at(s, quote, triple, at) {
-        return BodyCase::Closes;
-    }
-    if b != b'\n' {
-        return BodyCase::Plain;
-    }
-    if triple == 1 {
-        return BodyCase::Plain;
-    }
-    BodyCase::Breaks
-}
-
-// The third byte that a body's scan stops at, beside the quote and the backslash: the newline if it may not stand there.
-fn third(quote: u8, triple: u32) -> u8
-    ensures { λ r. ⌜ r ≡ thirdOf quote triple ⌝ }
-{
-    if triple == 1 {
-        return quote;
-    }
-    b'\n'
-}
-
-// The index of the first quote, backslash or third byte from an index on, or the end.
-fn plain_end(s: &[u8], quote: u8, third: u8, from: usize) -> usize
-    ensures { λ r. ⌜ r ≡ from + before (mark quote third) (drop from (now (s .entry))) ⌝ }
-{
-    let mut i = from;
-    while i < s.len() {
-        let b = s[i];
-        if b == quote {
-            return i;
-        }
-        if b == b'\\' {
-            return i;
-        }
-        if b == third {
-            return i;
-        }
-        i += 1;
-    }
-    i
-}
-
-// Where the closing quotes of the body that begins at an index stand.
-fn closing_from(s: &[u8], quote: u8, triple: u32, from: usize) -> Closing
-    requires { ⌜ from ≤ length (now s) ⌝ }
-    ensures { λ r. ⌜ closingOf r ≡ closing (now (s .entry)) quote triple from ⌝ }
-{
-    let third = third(quote, triple);
-    let mut at = from;
-    loop {
-        let to = plain_end(s, quote, third, at);
-        match body_case(s, quote, triple, to) {
-            BodyCase::Over => {
-                return Closing::Fails(NEVER_CLOSED);
-            }
-            BodyCase::Takes => {
-                at = to + 2;
-            }
-            BodyCase::Closes => {
-                return Closing::Closed(to);
-            }
-            BodyCase::Breaks => {
-                return Closing::Fails(NEWLINE_IN_LITERAL);
-            }
-            BodyCase::Plain => {
-                at = to + 1;
-            }
-        }
-    }
-}
-
 // The literal of a kind that opens at an index.
 fn literal_at(s: &[u8], at: usize, kind: u32) -> Found
     requires { ⌜ Within (now s) at kind ⌝ }
     ensures { λ r. ⌜ foundOf r ≡ literalAt (now (s .entry)) at ⌝ }
 {
     let from = at + prefix(kind) as usize;
-    let triple = tripled(s, from);
+    let triple = tripled(s, from as u32);
     let size = quotes(triple);
     let body = from + size as usize;
     match closing_from(s, s[from], triple, body) {
@@ -377,20 +151,6 @@ fn blank_case(s: &[u8], at: usize) -> BlankCase
         35 => BlankCase::Comment,
         _ => BlankCase::Other,
     }
-}
-
-// The index of the first newline from an index on, or the end.
-fn line_end(s: &[u8], from: usize) -> usize
-    ensures { λ r. ⌜ r ≡ lineEnd (now (s .entry)) from ⌝ }
-{
-    let mut i = from;
-    while i < s.len() {
-        if s[i] == b'\n' {
-            return i;
-        }
-        i += 1;
-    }
-    i
 }
 
 // The first index from an index on where nothing more is passed over.
@@ -508,42 +268,6 @@ pub fn list_literals(script: &[u8], offset: u32, numbers: &mut [u32]) -> Listing
     }
 }
 
-// Whether a code lies in a range.
-fn between(c: u32, low: u32, high: u32) -> bool
-    ensures { λ r. ⌜ r ≡ inside (low to high) c ⌝ }
-{
-    if c < low {
-        return false;
-    }
-    c <= high
-}
-
-// Whether a byte is an ASCII letter, digit or underscore.
-fn is_word(c: u32) -> bool
-    ensures { λ r. ⌜ r ≡ isWord c ⌝ }
-{
-    if between(c, 48, 57) {
-        return true;
-    }
-    if between(c, 65, 90) {
-        return true;
-    }
-    if between(c, 97, 122) {
-        return true;
-    }
-    c == 95
-}
-
-// Whether none of these stands before an index.
-fn apart(s: &[u8], at: usize) -> bool
-    ensures { λ r. ⌜ r ≡ apart (now (s .entry)) at ⌝ }
-{
-    if at == 0 {
-        return true;
-    }
-    !is_word(byte_at(s, at - 1))
-}
-
 // What stands at an index of a script that is cut.
 fn cut_case(s: &[u8], at: usize) -> CutCase
     requires { ⌜ length (now s) ≤ 1048576 ⌝ }
@@ -566,45 +290,6 @@ fn cut_case(s: &[u8], at: usize) -> CutCase
         return CutCase::Literal(kind);
     }
     CutCase::Other
-}
-
-// The index of the first quote or `#` from an index on, or the end.
-fn mark_from(s: &[u8], from: usize) -> usize
-    ensures { λ r. ⌜ r ≡ firstAt cutMark (now (s .entry)) from ⌝ }
-{
-    let mut i = from;
-    while i < s.len() {
-        let b = s[i];
-        if b == b'\'' {
-            return i;
-        }
-        if b == b'"' {
-            return i;
-        }
-        if b == b'#' {
-            return i;
-        }
-        i += 1;
-    }
-    i
-}
-
-// The index of the first byte 10 or 13 from an index on, or the end.
-fn comment_end(s: &[u8], from: usize) -> usize
-    ensures { λ r. ⌜ r ≡ commentEnd (now (s .entry)) from ⌝ }
-{
-    let mut i = from;
-    while i < s.len() {
-        let b = s[i];
-        if b == b'\n' {
-            return i;
-        }
-        if b == b'\r' {
-            return i;
-        }
-        i += 1;
-    }
-    i
 }
 
 // Where a cut that has come to an index may go on: two bytes before the next quote or `#`, for a prefix.

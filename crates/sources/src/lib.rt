@@ -1,8 +1,8 @@
 // A field's source: where it ends, and where Python reads it or the spec otherwise, 75.
 use literals::Literal;
 use literals::Next;
-use literals::kind_at;
 use literals::next_literal;
+use scans::opens;
 ghost use mathlib.Core.Path.{_≡_};
 ghost use mathlib.Core.Bool.{not};
 ghost use Prim.Native.Nat.{_≤_};
@@ -174,7 +174,7 @@ fn spec_backslash(s: &[u8], f: Field) -> usize
     if f.colon == 0 {
         return s.len();
     }
-    if kind_at(s, f.start) != 1 {
+    if opens(s, f.start as usize) != 1 {
         return s.len();
     }
     let i = brace_from(s, f.colon as usize);

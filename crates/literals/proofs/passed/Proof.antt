@@ -4,7 +4,7 @@ use native.Mathlib.Omega.{arith}
 use mathlib.Core.Path.{refl}
 use Prim.Native.Nat.{_-_}
 use lib.ListN.{length}
-use Rattle.literals.proofs.Closings.{Passing, ends-other, goes-space, goes-comment}
+use Rattle.literals.proofs.Passing.{Passing, ends-other, goes-space, goes-comment}
 use Rattle.literals.proofs.passed.Statement.{statement}
 use Rattle.literals.proofs.passed.Tie as tie
 

@@ -1,6 +1,6 @@
 -- `literals::prefix` meets its contract. Assumes nothing.
 use Rattle.definition.specs.Numbers.{prefix}
-use Rattle.literals.proofs.Openings.{prefix-none}
+use Rattle.literals.proofs.Prefixes.{prefix-none}
 use Rattle.literals.proofs.prefix.Statement.{statement}
 use Rattle.literals.proofs.prefix.Tie as tie
 
