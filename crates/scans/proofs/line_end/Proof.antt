@@ -2,7 +2,7 @@
 use borrow.Author.Needs.{needs}
 use mathlib.Core.Path.{_≡_, refl, sym, _∙_}
 use Prim.Native.Nat.{_-_}
-use borrow.Author.Tests.{eq-eqb, ne-eqb}
+use borrow.Author.Tests.{ne-eqb}
 use lib.ListN.{length}
 use Rattle.definition_scripts.specs.Opening.{lineEnd}
 use Rattle.definition.proofs.moves.CharLaws.{before-end, before-here, before-next}
@@ -23,7 +23,7 @@ line-end-spec =
     μ-loop
     (λ c. refl)  -- loop-holds
     (λ c. search needs)  -- shared-slice-read
-    (λ c. sym (c .before .before .before .loop .inv ∙ before-here _ _ _ 0 (c .before .before .loop-test .taken) (eq-eqb _ _ (c .if1 .taken))))  -- returns
+    (λ c. sym (c .before .before .before .loop .inv ∙ before-here _ _ _ 0 (c .before .before .loop-test .taken) (rw (c .if1 .taken))))  -- returns
     (λ c. search needs)  -- add-i
     (λ c. search needs)  -- loop-less
     (λ c. c .before .before .before .loop .inv ∙ before-next _ _ _ 0 (c .before .before .loop-test .taken) (ne-eqb _ _ (c .if1 .left)))  -- loop-again
