@@ -1,9 +1,11 @@
 pub mod Grammar
 pub mod FieldState
 pub mod Runs
+pub mod MatchedLaw
 pub mod Accepted
 pub mod One
 pub mod WellFormed
 pub mod Held
 pub mod Marked
 pub mod Raw
+pub mod Each

@@ -10,5 +10,6 @@ pub mod Rows
 pub mod Join
 pub mod View
 pub mod Matched
+pub mod IsMatched
 pub mod Words
 pub mod Left

@@ -13,6 +13,7 @@ use lib.Seq.{drop-cons, length-take-le, getD-take, getD-drop, drop-append-seam, 
 use Rattle.definition.specs.Chars.{if_then_else_, _is_, byte, part, insideAny, code, next, char, whiteSpace, before}
 use Rattle.definition.specs.Body.{isBlank, matching}
 use Rattle.definition.specs.Matched.{Seen, clear, quoted, broken, closed, see, seeAll, settled, matched, blankAfter, blank}
+use Rattle.definition.specs.IsMatched.{Calm}
 use Rattle.definition.proofs.moves.CharLaws.{cases, byte-in, next-past, next-in, next-from, between, code-wide, next-ascii, code-ascii, code-is, Utf8, code-same, next-same}
 
 -- a text with the brackets o open before it and o′ after it
@@ -115,10 +116,7 @@ blank-first (b ∷ t) h =
     let e : next (b ∷ t) 0 ≡ suc (next (b ∷ t) 0 - 1) = omega (arith, next-past (b ∷ t) 0 h) in
     ap (λ z. isBlank (code (b ∷ t) 0) && z) (skip (next (b ∷ t) 0 - 1) t ∙ ap (λ n. blank (drop n (b ∷ t))) (sym e))
 
--- a byte, or a code, that changes nothing
-abbrev pub Calm : ℕ → Type 0
-Calm b = ((b is "\"'") ≡ false) × ((b is "([{") ≡ false) × ((b is ")]}") ≡ false) × ((b is "\\") ≡ false)
-
+-- bytes that change nothing
 calm-all : (o t : List ℕ) → ((k : ℕ) → k < length t → Calm (byte t k)) → seeAll (clear o) t ≡ clear o
 unfolding seeAll see
 calm-all o [] h = refl

@@ -10,7 +10,7 @@ use borrow.Author.Tests.{leb-true, leb-false, eqb-true}
 use Rattle.definition.specs.Numbers.{isRaw}
 use Rattle.definition.specs.Chars.{if_then_else_, _is_, atEnd, code, next}
 use Rattle.definition.specs.Body.{FieldCase, pair, converts, documents, formats, opener, closes, closer, quote, space, backslash, stray, fieldCase, tooDeep, TextCase, deep, opens, last, doubled, lone, textCase}
-use Rattle.definition.proofs.moves.Adds.{Calm}
+use Rattle.definition.specs.IsMatched.{Calm}
 
 pub and-both : (a b : Bool) → (a && b) ≡ true → (a ≡ true) × (b ≡ true)
 and-both true b e = (refl, e)
