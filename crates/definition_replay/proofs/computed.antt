@@ -1,2 +1,3 @@
 pub mod IntegerTable
 pub mod ReplayTable
+pub mod SpecTable
