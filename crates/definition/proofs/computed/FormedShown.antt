@@ -66,3 +66,8 @@ forms-shown = refl
 pub well-shown : map (λ r. recordsWellFormed (answer r)) rows ≡ map (λ r. r .is-well) rows
 unfolding rows ascii answerFrom roleAt recordsFrom sortFrom fits allFit ordered gapless noBytes oneOf sorted recordsFormed atTop whole alike apart together recordsWellFormed
 well-shown = refl
+
+-- no records and no text, of each sort: only an f-string may have none
+pub none-shown : map (λ sort. recordsFormed (answerFrom sort 0 0 0 0 0 0 [] [])) (0 ∷ 1 ∷ 2 ∷ []) ≡ false ∷ true ∷ false ∷ []
+unfolding answerFrom recordsFrom sortFrom allFit ordered gapless noBytes oneOf sorted recordsFormed
+none-shown = refl
