@@ -11,7 +11,7 @@ use Rattle.definition_replay.specs.Spec.{aligns, signs, groupings, types, fillS
 use Rattle.definition_replay.specs.Integers.{Integer, baseOf, written}
 use Rattle.definition_replay.specs.Replay.{Made, made, stopped, Part, stands, column, formMade}
 use Rattle.definition_replay.specs.SpecNumbers.{toldOf}
-use Rattle.integers.specs.Written.{formed}
+use Rattle.integers.specs.Written.{formed, writtenIn}
 use Rattle.formats.specs.declared.Form.{Form}
 use Rattle.formats.specs.declared.Parts.{Parts}
 
@@ -65,6 +65,10 @@ pub record FormIs (s : List ℕ) (r : Form) : Type 0 where
 -- 1 for a type and a told precision that round
 unfoldable pub roundsFrom : (kind precision : ℕ) → ℕ
 roundsFrom kind precision = if kind is "eEfFgGn%" || eqb kind 0 && not (eqb precision 0) then 1 else 0
+
+-- an integer written by the form that was read of a text; nothing by one that is refused, or outside the set
+unfoldable pub writtenAs : (spec : List ℕ) → Form → Integer → List ℕ
+writtenAs s r v = if eqb (r .number) 0 then writtenIn (fillOf s r) (r .shape) v else []
 
 -- an integer written by a text; nothing by one that is refused
 unfoldable pub writtenPart : Made Part → Integer → List ℕ

@@ -4,12 +4,12 @@ use utf8::Cursor;
 use utf8::Step;
 ghost use mathlib.Core.Path.{_≡_};
 ghost use mathlib.Core.Bool.{_&&_, not};
-ghost use Prim.Native.Nat.{_+_, _-_, _<_, _≤_};
+ghost use Prim.Native.Nat.{_+_, _-_, _<_, _≤_, min};
 ghost use lib.Dec.{eqb};
 ghost use lib.ListN.{length, drop};
 ghost use Rattle.definition.specs.Chars.{if_then_else_, _is_};
 ghost use Rattle.definition_replay.specs.Spec.{aligns, signs, groupings, types, first, past, pastPointed, fillSize, fillCode};
-ghost use Rattle.formats.specs.Parts.{setOf, PartsIs, pointTold, FormIs, roundsFrom, writtenBy};
+ghost use Rattle.formats.specs.Parts.{setOf, PartsIs, pointTold, FormIs, roundsFrom, writtenAs};
 ghost use Rattle.definition_replay.specs.SpecNumbers.{flagOf, specNumbers};
 ghost use Rattle.buffers.specs.Over.{over};
 ghost use Rattle.integers.specs.Written.{integer};
@@ -439,18 +439,24 @@ pub fn tell(s: &[u8]) -> [u32; 12]
     ]
 }
 
-// Writes an integer by a text from the front on, nothing by one that is refused; says how many bytes it has, at most 325.
-pub fn write_by(out: &mut [u8], s: &[u8], negative: bool, size: u32) -> usize
-    ensures { λ r. ⌜ (r ≡ length (writtenBy (now (s .entry)) (integer negative size))) × (now (out .exit) ≡ over (now (out .entry)) 0 (writtenBy (now (s .entry)) (integer negative size))) × (r ≤ 325) ⌝ }
+// The lesser of two numbers.
+fn least(a: usize, b: usize) -> usize
+    ensures { λ r. ⌜ r ≡ min a b ⌝ }
 {
-    let form = read_form(s);
+    if a <= b { a } else { b }
+}
+
+// Writes an integer by the form that was read of a text from the front on, nothing by one that is refused; says how many bytes it has, at most 325.
+pub fn write_by(out: &mut [u8], s: &[u8], form: Form, negative: bool, size: u32) -> usize
+    ensures { λ r. ⌜ (r ≡ length (writtenAs (now (s .entry)) form (integer negative size))) × (now (out .exit) ≡ over (now (out .entry)) 0 (writtenAs (now (s .entry)) form (integer negative size))) × (r ≤ 325) ⌝ }
+{
     if form.number != 0 {
         return 0;
     }
-    let fill = form.fill;
-    if fill == 0 {
+    if form.fill == 0 {
         let pad = [form.pad];
         return integers::write(out, &pad, form.shape, negative, size);
     }
+    let fill = least(form.fill, s.len());
     integers::write(out, &s[0..fill], form.shape, negative, size)
 }

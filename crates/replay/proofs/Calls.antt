@@ -28,12 +28,10 @@ use Rattle.entry.specs.declared.Refusal.{Refusal as Why}
 use Rattle.strings.specs.declared.Answer.{Answer as Read}
 use Rattle.strings.specs.declared.Outcome.the-variants.{Accepted, Refused}
 use Rattle.strings.specs.Strings.{CallIs}
-use Rattle.traces.specs.Cells.{checkedFrom, saysRows}
-use Rattle.traces.proofs.Checking.{countedLines, lines-counted}
 use Rattle.replay.specs.declared.Replay.{Replay}
 use Rattle.replay.specs.declared.Replay.the-variants as variants
-use Rattle.replay.specs.Walk.{Stand, fieldsMade}
-use Rattle.replay.specs.Lines.{LinesAre}
+use Rattle.replay.specs.Walk.{Stand, fieldsMade, saysCount}
+use Rattle.replay.specs.Lines.{AllAre, LinesAre}
 use Rattle.replay.specs.Answers.{readNumbers, says, ReplayIs, Holds, replayOf, Cleared}
 use Rattle.replay.proofs.Walking.{stand-whole}
 use Rattle.replay.proofs.Lining.{both-made}
@@ -66,8 +64,13 @@ module _ (a : Answer) (trace words text output : List ℕ) where
           output = rw (e, b) (w ∙ over-front output (concat ls) (omega arith));
         }
 
--- THE TEMPLATE AND THE ROWS, from what the code says of them
-module _ (o : Made (List Part)) (trace : List ℕ) (number told : ℕ) (e : saysRows number told ≡ fieldsMade 0 o) where
+-- THE TEMPLATE, from what the code says of it
+record Parted (o : Made (List Part)) (fields : ℕ) : Type 0 where
+  parts : List Part
+  is-made : o ≡ made parts
+  counts : fieldCount parts ≡ fields
+
+module _ (o : Made (List Part)) (number told : ℕ) (e : saysCount number told ≡ fieldsMade 0 o) where
   template-refused : (number ≡ 0 → ⊥) → o ≡ stopped number told
   unfolding fieldsMade
   template-refused z = go o refl
@@ -79,58 +82,27 @@ module _ (o : Made (List Part)) (trace : List ℕ) (number told : ℕ) (e : says
           absurd (omega arith)
       go (stopped n k) f = let y : _≡_ {A = Made ℕ} (stopped number told) (stopped n k) = rw (ne-eqb number 0 z, f) at e in f ∙ ap₂ stopped (cc) (cc)
 
-  pub check-stopped : (number ≡ 0 → ⊥) → saysRows number told ≡ countedLines 0 (linesOf o trace)
-  unfolding countedLines linesOf
-  check-stopped z = ap (λ (b : Bool). if b then made told else stopped number told) (ne-eqb number 0 z) ∙ sym (ap (λ p. countedLines 0 (linesOf p trace)) (template-refused z))
-
-  pub check-rows : number ≡ 0 → (number′ row : ℕ) → saysRows number′ row ≡ checkedFrom told 0 (rowsOf trace) → saysRows number′ row ≡ countedLines 0 (linesOf o trace)
-  unfolding fieldsMade linesOf
-  check-rows z number′ row s = go o refl
+  template-made : number ≡ 0 → Parted o told
+  unfolding fieldsMade
+  template-made z = go o refl
     where
-      go : (o′ : Made (List Part)) → o ≡ o′ → saysRows number′ row ≡ countedLines 0 (linesOf o trace)
+      go : (o′ : Made (List Part)) → o ≡ o′ → Parted o told
       go (made ps) f =
           let y : _≡_ {A = Made ℕ} (made told) (made (0 + fieldCount ps)) = rw (eq-eqb number 0 z, f) at e in
           let x : told ≡ 0 + fieldCount ps = cc in
-          s ∙ ap (λ n. checkedFrom n 0 (rowsOf trace)) (x ∙ zero-add (fieldCount ps)) ∙ sym (lines-counted ps 0 (rowsOf trace)) ∙ sym (ap (λ p. countedLines 0 (linesOf p trace)) f)
+          record { parts = ps; is-made = f; counts = sym (x ∙ zero-add (fieldCount ps)) }
       go (stopped n k) f =
           let y : _≡_ {A = Made ℕ} (made told) (stopped n k) = rw (eq-eqb number 0 z, f) at e in
           let x : _≡_ {A = ℕ} 0 1 = cc in
           absurd (omega arith)
 
--- the lines that are counted
-lines-refused : (o : Made (List (List ℕ))) (number told : ℕ) → (number ≡ 0 → ⊥) → saysRows number told ≡ countedLines 0 o → o ≡ stopped number told
-unfolding countedLines
-lines-refused (made ls) number told z e =
-    let y : _≡_ {A = Made ℕ} (stopped number told) (made (0 + length ls)) = rw (ne-eqb number 0 z) at e in
-    let x : _≡_ {A = ℕ} 0 1 = cc in
-    absurd (omega arith)
-lines-refused (stopped n k) number told z e = let y : _≡_ {A = Made ℕ} (stopped number told) (stopped n k) = rw (ne-eqb number 0 z) at e in ap₂ stopped (cc) (cc)
-
-record Counted (o : Made (List (List ℕ))) (n : ℕ) : Type 0 where
-  all : List (List ℕ)
-  are : o ≡ made all
-  many : length all ≡ n
-
-lines-made : (o : Made (List (List ℕ))) (number told : ℕ) → number ≡ 0 → saysRows number told ≡ countedLines 0 o → Counted o told
-unfolding countedLines
-lines-made (made ls) number told z e =
-    let y : _≡_ {A = Made ℕ} (made told) (made (0 + length ls)) = rw (eq-eqb number 0 z) at e in
-    let x : told ≡ 0 + length ls = cc in
-    record { all = ls; are = refl; many = sym (x ∙ zero-add (length ls)) }
-lines-made (stopped n k) number told z e =
-    let y : _≡_ {A = Made ℕ} (made told) (stopped n k) = rw (eq-eqb number 0 z) at e in
-    let x : _≡_ {A = ℕ} 0 1 = cc in
-    absurd (omega arith)
-
-record Parted (o : Made (List Part)) (trace : List ℕ) (ls : List (List ℕ)) : Type 0 where
-  parts : List Part
-  is-made : o ≡ made parts
-  lines : linesFrom parts 0 (rowsOf trace) ≡ made ls
-
-lines-parted : (o : Made (List Part)) (trace : List ℕ) (ls : List (List ℕ)) → linesOf o trace ≡ made ls → Parted o trace ls
+lines-stopped : (o : Made (List Part)) (trace : List ℕ) (n k : ℕ) → o ≡ stopped n k → linesOf o trace ≡ stopped n k
 unfolding linesOf
-lines-parted (made ps) trace ls e = record { parts = ps; is-made = refl; lines = e }
-lines-parted (stopped n k) trace ls e = let x : _≡_ {A = ℕ} 0 1 = cc in absurd (omega arith)
+lines-stopped o trace n k e = rw e
+
+lines-from : (o : Made (List Part)) (trace : List ℕ) (ps : List Part) → o ≡ made ps → linesOf o trace ≡ linesFrom ps 0 (rowsOf trace)
+unfolding linesOf
+lines-from o trace ps e = rw e
 
 -- each line has a byte
 line-some : (ps : List Part) (vs : List Integer) → 0 < length (rowLine ps vs)
@@ -153,7 +125,7 @@ each-line ps i (some vs ∷ rs) ls e =
 
 -- A READING that lies in words and text
 module _ (x : Read) (trace words text output : List ℕ) (number told : ℕ)
-    (t : (rs : List Record) → Stand words (x .records) (length (take (x .text) text)) 0 0 rs → saysRows number told ≡ countedLines 0 (linesOf (partsFrom (take (x .text) text) 0 (itemsFrom 0 rs)) trace))
+    (t : (rs : List Record) → Stand words (x .records) (length (take (x .text) text)) 0 0 rs → saysCount number told ≡ fieldsMade 0 (partsFrom (take (x .text) text) 0 (itemsFrom 0 rs)))
   where
     module _ (a : Answer) (h : Holds a x words text) where
       stands-so : Stand words (x .records) (length (take (x .text) text)) 0 0 (a .records)
@@ -163,49 +135,64 @@ module _ (x : Read) (trace words text output : List ℕ) (number told : ℕ)
       unfolding templateOf
       same-parts = ap (λ s. partsFrom s 0 (itemsFrom 0 (a .records))) (h .texts)
 
-      told-so : saysRows number told ≡ countedLines 0 (linesOf (templateOf a) trace)
-      told-so = t (a .records) stands-so ∙ ap (λ o. countedLines 0 (linesOf o trace)) same-parts
+      told-so : saysCount number told ≡ fieldsMade 0 (templateOf a)
+      told-so = t (a .records) stands-so ∙ ap (fieldsMade 0) same-parts
 
-    -- 68 to 72
-    pub at-check : (number ≡ 0 → ⊥) → {w′ t′ o′ : List ℕ} {r : Replay} → (r ≡ variants.Stopped (record { number = number; told = min told 0xFFFFFFFF })) × Cleared words text output w′ t′ o′
+    -- 68 and 69
+    pub at-template : (number ≡ 0 → ⊥) → {w′ t′ o′ : List ℕ} {r : Replay} → (r ≡ variants.Stopped (record { number = number; told = min told 0xFFFFFFFF })) × Cleared words text output w′ t′ o′
         → (a : Answer) → Holds a x words text → ReplayIs (replayOf a trace words text output) w′ t′ o′ r
-    at-check z q a h = refused-is a trace words text output number told (lines-refused (linesOf (templateOf a) trace) number told z (told-so a h)) q
+    at-template z q a h = refused-is a trace words text output number told (lines-stopped (templateOf a) trace number told (template-refused (templateOf a) number told (told-so a h) z)) q
 
-    module _ (z : number ≡ 0) (used : ℕ) (out′ : List ℕ) (w : LinesAre words (x .records) (take (x .text) text) trace told output out′ used) (e : length out′ ≡ length output) where
+    module _ (z : number ≡ 0) (stop row used : ℕ) (out′ : List ℕ) (w : LinesAre words (x .records) (take (x .text) text) trace told output out′ stop row used) (e : length out′ ≡ length output) where
       module _ (a : Answer) (h : Holds a x words text) where
-        lines : Counted (linesOf (templateOf a) trace) told
-        lines = lines-made (linesOf (templateOf a) trace) number told z (told-so a h)
+        template : Parted (templateOf a) told
+        template = template-made (templateOf a) number told (told-so a h) z
 
-        parts : Parted (templateOf a) trace (lines .all)
-        parts = lines-parted (templateOf a) trace (lines .all) (lines .are)
+        lines-are : linesOf (templateOf a) trace ≡ linesFrom (template .parts) 0 (rowsOf trace)
+        lines-are = lines-from (templateOf a) trace (template .parts) (template .is-made)
 
-        wrote : (used ≤ 0xFFFFFFFF → (used ≡ 0 + length (concat (lines .all))) × (out′ ≡ over output 0 (concat (lines .all)))) × (0xFFFFFFFF < used → 0xFFFFFFFF < length (concat (lines .all)))
-        wrote = w (a .records) (parts .parts) (lines .all) (stands-so a h) (same-parts a h ∙ parts .is-made) (parts .lines) (lines .many)
+        all : (stop ≡ 0 → AllAre (template .parts) trace output out′ row used) × ((stop ≡ 0 → ⊥) → linesFrom (template .parts) 0 (rowsOf trace) ≡ stopped stop row)
+        all = w (a .records) (template .parts) (stands-so a h) (same-parts a h ∙ template .is-made) (template .counts)
 
-      -- 73
-      pub at-short : min (length out′) 0xFFFFFFFF < used → {w′ t′ o′ : List ℕ} {r : Replay}
-          → (r ≡ variants.Stopped (record { number = 73; told = min used 0xFFFFFFFF })) × Cleared words text out′ w′ t′ o′
+      cleared : {w′ t′ o′ : List ℕ} → Cleared words text out′ w′ t′ o′ → Cleared words text output w′ t′ o′
+      cleared q = (q .0, q .1, q .2 ∙ ap (λ n. replicate n 0) e)
+
+      -- 70 to 72
+      pub at-row : (stop ≡ 0 → ⊥) → {w′ t′ o′ : List ℕ} {r : Replay} → (r ≡ variants.Stopped (record { number = stop; told = min row 0xFFFFFFFF })) × Cleared words text out′ w′ t′ o′
           → (a : Answer) → Holds a x words text → ReplayIs (replayOf a trace words text output) w′ t′ o′ r
-      at-short f {w′} {t′} {o′} {r} q a h = go (leb used 0xFFFFFFFF) refl
-        where
-          cleared : Cleared words text output w′ t′ o′
-          cleared = (q .1 .0, q .1 .1, q .1 .2 ∙ ap (λ n. replicate n 0) e)
+      at-row y q a h = refused-is a trace words text output stop row (lines-are a h ∙ all a h .1 y) (q .0, cleared (q .1))
 
-          go : (b : Bool) → leb used 0xFFFFFFFF ≡ b → ReplayIs (replayOf a trace words text output) w′ t′ o′ r
-          go true l = let m = wrote a h .0 (leb-true used 0xFFFFFFFF l) .0 in short-is a trace words text output (lines a h .all) (lines a h .are) (omega arith) (omega arith) (q .0, cleared)
-          go false l =
-              let k = leb-false used 0xFFFFFFFF l in
-              let m = wrote a h .1 k in
-              short-is a trace words text output (lines a h .all) (lines a h .are) (omega arith) (omega arith) (q .0, cleared)
+      module _ (y : stop ≡ 0) where
+        module _ (a : Answer) (h : Holds a x words text) where
+          found : AllAre (template a h .parts) trace output out′ row used
+          found = all a h .0 y
 
-      pub at-end : used ≤ min (length out′) 0xFFFFFFFF → {m n : ℕ} → m ≡ min told 0xFFFFFFFF → n ≡ min used 0xFFFFFFFF
-          → (a : Answer) → Holds a x words text → ReplayIs (replayOf a trace words text output) words text out′ (variants.Replayed (record { reading = x; rows = m; bytes = n }))
-      at-end f i j a h =
-          let m = wrote a h .0 (omega arith) in
-          let b = m .0 in
-          let c = lines a h .many in
-          let d = each-line (parts a h .parts) 0 (rowsOf trace) (lines a h .all) (parts a h .lines) in
-          fits-is a trace words text output (lines a h .all) (lines a h .are) (omega arith) x (h .numbered) (omega arith) (omega arith) (m .1)
+          made-so : linesOf (templateOf a) trace ≡ made (found .lines)
+          made-so = lines-are a h ∙ found .are
+
+        -- 73
+        pub at-short : min (length out′) 0xFFFFFFFF < used → {w′ t′ o′ : List ℕ} {r : Replay}
+            → (r ≡ variants.Stopped (record { number = 73; told = min used 0xFFFFFFFF })) × Cleared words text out′ w′ t′ o′
+            → (a : Answer) → Holds a x words text → ReplayIs (replayOf a trace words text output) w′ t′ o′ r
+        at-short f {w′} {t′} {o′} {r} q a h = go (leb used 0xFFFFFFFF) refl
+          where
+            go : (b : Bool) → leb used 0xFFFFFFFF ≡ b → ReplayIs (replayOf a trace words text output) w′ t′ o′ r
+            go true l =
+                let m = found a h .wrote .0 (leb-true used 0xFFFFFFFF l) .0 in
+                short-is a trace words text output (found a h .lines) (made-so a h) (omega arith) (omega arith) (q .0, cleared (q .1))
+            go false l =
+                let k = leb-false used 0xFFFFFFFF l in
+                let m = found a h .wrote .1 k in
+                short-is a trace words text output (found a h .lines) (made-so a h) (omega arith) (omega arith) (q .0, cleared (q .1))
+
+        pub at-end : used ≤ min (length out′) 0xFFFFFFFF → {m n : ℕ} → m ≡ min row 0xFFFFFFFF → n ≡ min used 0xFFFFFFFF
+            → (a : Answer) → Holds a x words text → ReplayIs (replayOf a trace words text output) words text out′ (variants.Replayed (record { reading = x; rows = m; bytes = n }))
+        at-end f i j a h =
+            let m = found a h .wrote .0 (omega arith) in
+            let b = m .0 in
+            let c = found a h .many in
+            let d = each-line (template a h .parts) 0 (rowsOf trace) (found a h .lines) (found a h .are) in
+            fits-is a trace words text output (found a h .lines) (made-so a h) (omega arith) x (h .numbered) (omega arith) (omega arith) (m .1)
 
 -- FROM FLAT NUMBERS
 module _ (look : Naming) (script ns trace words text output W T : List ℕ) where

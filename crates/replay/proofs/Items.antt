@@ -17,9 +17,8 @@ use Rattle.definition.proofs.moves.CharLaws.{cases}
 use Rattle.definition_replay.proofs.replay.ReplayFirst.{items-none}
 use Rattle.formats.specs.declared.Form as formats
 use Rattle.formats.specs.Parts.{FormIs}
-use Rattle.traces.specs.Cells.{saysRows}
 use Rattle.replay.specs.declared.Place.{Place}
-use Rattle.replay.specs.Walk.{Stand, PlaceIs, fieldPart, numberIn, fieldsMade}
+use Rattle.replay.specs.Walk.{Stand, PlaceIs, fieldPart, numberIn, fieldsMade, saysCount}
 
 -- WHAT AN ITEM IS, whatever its number
 pub data ItemView (kind mode : ℕ) (nested : Bool) (own spec : List ℕ) : Type 0 where
@@ -156,7 +155,7 @@ module _ (words : List ℕ) (count : ℕ) (text : List ℕ) where
   template-start = record { walks = λ rs s. record { rest = rs; stand = s; same = refl }; before-end = omega arith; within = omega arith; few = omega arith }
 
   abbrev Says : (number told : ℕ) → Type 0
-  Says number told = ((rs : List Record) → Stand words count (length text) 0 0 rs → saysRows number told ≡ fieldsMade 0 (partsFrom text 0 (itemsFrom 0 rs))) × (told ≤ count)
+  Says number told = ((rs : List Record) → Stand words count (length text) 0 0 rs → saysCount number told ≡ fieldsMade 0 (partsFrom text 0 (itemsFrom 0 rs))) × (told ≤ count)
 
   module _ (i at k : ℕ) (w : Template-at i at k) where
     nothing-left : (rest : List Record) → i + length rest ≡ count → count ≤ i → made k ≡ fieldsMade k (partsFrom text k (itemsFrom 0 rest))

@@ -1,15 +1,14 @@
 -- What is written of an item, of a row and of all rows.
 use Prim.Native.Nat.{ℕ, _+_, _≤_, _<_}
 use mathlib.Core.Path.{_≡_}
-use mathlib.Core.Bool.{true}
-use mathlib.Core.List.{List, [], _∷_}
-use mathlib.Core.Option.{some}
+use mathlib.Core.Bool.{Bool, true, false}
+use mathlib.Core.List.{List}
 use lib.ListN.{length, drop}
 use Rattle.definition.specs.Records.{Record}
 use Rattle.definition_replay.specs.Integers.{Integer}
 use Rattle.definition_replay.specs.Trace.{taken, rowOf, rowsOf}
-use Rattle.definition_replay.specs.Replay.{made, Part, itemsFrom, partsFrom, fieldCount, rowLine, inRange, allInRange, linesFrom, concat}
-use Rattle.traces.specs.Cells.{Cell, more, last, cellOf}
+use Rattle.definition_replay.specs.Replay.{made, stopped, Part, itemsFrom, partsFrom, fieldCount, rowLine, allInRange, linesFrom, concat}
+use Rattle.traces.specs.Cells.{saysBehind, endedWith, cellOf, fitCell, checkOf}
 use Rattle.formats.specs.Parts.{writtenBy}
 use Rattle.buffers.specs.Over.{over}
 use Rattle.replay.specs.Walk.{Stand}
@@ -18,32 +17,41 @@ use Rattle.replay.specs.Walk.{Stand}
 abbrev pub Writes : (bytes out : List ℕ) (used : ℕ) (out′ : List ℕ) (used′ : ℕ) → Type 0
 Writes bytes out used out′ used′ = (used′ ≡ used + length bytes) × (out′ ≡ over out used bytes)
 
--- a column's number, and what follows it: a comma if there are more columns, else the row's end
-abbrev pub followedBy : List Integer → Integer → List ℕ → Cell
-followedBy [] v t = last v t
-followedBy (w ∷ vs) v t = more v t
+-- a field: the column is read and written by the spec, if a row's column may stand there
+pub record FieldIs (spec trace : List ℕ) (ends at : ℕ) (out : List ℕ) (used : ℕ) (out′ : List ℕ) (used′ ends′ next : ℕ) : Type 0 where
+  pub value : Integer
+  pub cell : ends ≡ 1 → endedWith value (saysBehind trace ends′ next) ≡ fitCell (cellOf (drop at trace))
+  pub writes : ends ≡ 1 → Writes (writtenBy spec value) out used out′ used′
+  pub shut : (ends ≡ 1 → ⊥) → ends′ ≡ 0
+  pub goes : (ends′ ≡ 0 → ⊥) → at < next
 
--- THE COLUMNS of a row from here on, and what follows the row
-abbrev pub Cells : List ℕ → List Integer → List ℕ → Type 0
-Cells s [] u = s ≡ u
-Cells s (v ∷ vs) u = (t : List ℕ) × (cellOf s ≡ followedBy vs v t) × Cells t vs u
+-- a row that is not refused, and its line
+pub record RowIs (ps : List Part) (trace : List ℕ) (row : ℕ) (out : List ℕ) (used : ℕ) (out′ : List ℕ) (used′ next : ℕ) : Type 0 where
+  pub values : List Integer
+  pub reads : rowOf (drop row trace) ≡ taken values (drop next trace)
+  pub counts : length values ≡ fieldCount ps
+  pub fits : allInRange values ≡ true
+  pub writes : Writes (rowLine ps values) out used out′ used′
 
--- a field's number: the column is read, and written by the spec
-abbrev pub FieldIs : (spec trace : List ℕ) (c : ℕ) (out : List ℕ) (used : ℕ) (out′ : List ℕ) (used′ next : ℕ) → Type 0
-FieldIs spec trace c out used out′ used′ next =
-    (v : Integer) (vs : List Integer) (t : List ℕ) → cellOf (drop c trace) ≡ followedBy vs v t → inRange v ≡ true
-    → Writes (writtenBy spec v) out used out′ used′ × (drop next trace ≡ t)
+-- a row's line by the template's parts, or none as it is refused
+abbrev pub LineIs : (words : List ℕ) (count : ℕ) (text trace : List ℕ) (row : ℕ) (out : List ℕ) (used : ℕ) (out′ : List ℕ) (used′ next : ℕ) (fine : Bool) → Type 0
+LineIs words count text trace row out used out′ used′ next fine =
+    (rs : List Record) (ps : List Part) → Stand words count (length text) 0 0 rs → partsFrom text 0 (itemsFrom 0 rs) ≡ made ps
+    → (fine ≡ true → RowIs ps trace row out used out′ used′ next) × (fine ≡ false → checkOf (fieldCount ps) (rowOf (drop row trace)) ≡ 0 → ⊥)
 
--- a row's line by the template's parts
-abbrev pub LineIs : (words : List ℕ) (count : ℕ) (text trace : List ℕ) (from : ℕ) (out : List ℕ) (used : ℕ) (out′ : List ℕ) (used′ next : ℕ) → Type 0
-LineIs words count text trace from out used out′ used′ next =
-    (rs : List Record) (ps : List Part) (vs : List Integer) (u : List ℕ) → Stand words count (length text) 0 0 rs
-    → partsFrom text 0 (itemsFrom 0 rs) ≡ made ps → rowOf (drop from trace) ≡ taken vs u → length vs ≡ fieldCount ps → allInRange vs ≡ true
-    → Writes (rowLine ps vs) out used out′ used′ × (drop next trace ≡ u)
+-- lines that were written, unless they are more than numbers tell
+abbrev pub Wrote : (ls : List (List ℕ)) (out out′ : List ℕ) (used : ℕ) → Type 0
+Wrote ls out out′ used = (used ≤ 0xFFFFFFFF → Writes (concat ls) out 0 out′ used) × (0xFFFFFFFF < used → 0xFFFFFFFF < length (concat ls))
 
--- all lines, unless they are more than numbers tell
-abbrev pub LinesAre : (words : List ℕ) (count : ℕ) (text trace : List ℕ) (rows : ℕ) (out out′ : List ℕ) (used : ℕ) → Type 0
-LinesAre words count text trace rows out out′ used =
-    (rs : List Record) (ps : List Part) (ls : List (List ℕ)) → Stand words count (length text) 0 0 rs
-    → partsFrom text 0 (itemsFrom 0 rs) ≡ made ps → linesFrom ps 0 (rowsOf trace) ≡ made ls → length ls ≡ rows
-    → (used ≤ 0xFFFFFFFF → Writes (concat ls) out 0 out′ used) × (0xFFFFFFFF < used → 0xFFFFFFFF < length (concat ls))
+-- all lines
+pub record AllAre (ps : List Part) (trace out out′ : List ℕ) (rows used : ℕ) : Type 0 where
+  pub lines : List (List ℕ)
+  pub are : linesFrom ps 0 (rowsOf trace) ≡ made lines
+  pub many : length lines ≡ rows
+  pub wrote : Wrote lines out out′ used
+
+-- all lines, or the first row that is refused
+abbrev pub LinesAre : (words : List ℕ) (count : ℕ) (text trace : List ℕ) (fields : ℕ) (out out′ : List ℕ) (number row used : ℕ) → Type 0
+LinesAre words count text trace fields out out′ number row used =
+    (rs : List Record) (ps : List Part) → Stand words count (length text) 0 0 rs → partsFrom text 0 (itemsFrom 0 rs) ≡ made ps → fieldCount ps ≡ fields
+    → (number ≡ 0 → AllAre ps trace out out′ row used) × ((number ≡ 0 → ⊥) → linesFrom ps 0 (rowsOf trace) ≡ stopped number row)

@@ -19,7 +19,7 @@ use Rattle.definition_replay.proofs.spec.SpecLaws.{is-some, front-behind}
 use Rattle.definition_replay.proofs.spec.SpecSteps.{first-there, first-not, first-end}
 use Rattle.definition_replay.proofs.trace.TraceByNumber.{integer as made, numberOf}
 use Rattle.definition_replay.specs.SpecNumbers.{toldOf}
-use Rattle.traces.specs.Cells.{saysBehind, wrong, endedWith, cellOf, clip, clipCell, integer, endedBy, saysCell}
+use Rattle.traces.specs.Cells.{saysBehind, wrong, endedWith, cellOf, clip, clipCell, fitCell, integer, endedBy, saysCell}
 
 -- WHAT STANDS BEHIND
 module _ (s : List ℕ) (at : ℕ) where
@@ -281,6 +281,10 @@ module _ (s : List ℕ) (at : ℕ) {from start told next : ℕ}
                 )
 
 -- past the end there is none
-pub column-past : (s : List ℕ) (at : ℕ) → length s < at → (saysCell s 0 false 0 (length s) ≡ clipCell (cellOf (drop at s))) × ((_≡_ {A = ℕ} 0 0 → ⊥) → at < length s) × (length s ≤ length s)
-unfolding cellOf numberOf nothing front past endedWith clipCell
-column-past s at h = let l : length s ≤ at = omega arith in (rw (drop-of-length-le s l), (λ n. absurd (n refl)), omega arith)
+pub cell-past : (s : List ℕ) (at : ℕ) → length s < at → cellOf (drop at s) ≡ wrong
+unfolding cellOf numberOf nothing front past
+cell-past s at h = let l : length s ≤ at = omega arith in rw (drop-of-length-le s l)
+
+pub column-past : (s : List ℕ) (at : ℕ) → length s < at → (saysCell s 0 false 0 (length s) ≡ fitCell (cellOf (drop at s))) × ((_≡_ {A = ℕ} 0 0 → ⊥) → at < length s) × (length s ≤ length s)
+unfolding endedWith fitCell
+column-past s at h = (rw (cell-past s at h), (λ n. absurd (n refl)), omega arith)

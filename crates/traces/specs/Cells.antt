@@ -2,13 +2,13 @@
 use Prim.Native.Nat.{ℕ, zero, suc, _+_, _-_, min}
 use mathlib.Core.Bool.{Bool, true, false, _&&_, not}
 use mathlib.Core.List.{List, [], _∷_}
-use mathlib.Core.Option.{Option, none, some}
 use lib.Dec.{eqb}
 use lib.ListN.{length, drop}
+use Rattle.definition.specs.Numbers.{rowMalformed, wrongColumns, outOfRange}
 use Rattle.definition.specs.Chars.{if_then_else_}
 use Rattle.definition_replay.specs.Integers.{Integer}
 use Rattle.definition_replay.specs.Trace.{Taken, taken, broken, Behind, comma, ends, other, behindColumn}
-use Rattle.definition_replay.specs.Replay.{Made, made, stopped, inRange, allInRange}
+use Rattle.definition_replay.specs.Replay.{inRange, allInRange}
 use Rattle.definition_replay.proofs.trace.TraceByNumber.{numberOf}
 
 -- what the code says of what stands behind a column
@@ -48,39 +48,26 @@ endedBy negative size b = endedWith (integer negative size) b
 abbrev pub saysCell : List ℕ → (ends : ℕ) (negative : Bool) (size next : ℕ) → Cell
 saysCell s e negative size next = endedWith (integer negative size) (saysBehind s e next)
 
--- WHAT IS FOUND OF A ROW with so many fields: a refusal's number, or nothing and what follows the row
-pub data Checked : Type 0 where
-  refused : (number : ℕ) → Checked
-  fine : (rest : List ℕ) → Checked
+-- a column whose number is not one of 32 bits is none
+unfoldable pub fitCell : Cell → Cell
+fitCell wrong = wrong
+fitCell (more v u) = if inRange v then more v u else wrong
+fitCell (last v u) = if inRange v then last v u else wrong
 
-unfoldable pub verdictOf : (fields count : ℕ) (fits : Bool) (rest : List ℕ) → Checked
-verdictOf fields count fits u = if not (eqb count fields) then refused 71 else if not fits then refused 72 else fine u
+-- WHAT REFUSES A ROW with so many fields; 0 for nothing
+unfoldable pub verdictOf : (fields count : ℕ) (fits : Bool) → ℕ
+verdictOf fields count fits = if not (eqb count fields) then wrongColumns else if not fits then outOfRange else 0
 
-unfoldable pub checkOf : (fields : ℕ) → Taken (List Integer) → Checked
-checkOf fields broken = refused 70
-checkOf fields (taken vs u) = verdictOf fields (length vs) (allInRange vs) u
+unfoldable pub checkOf : (fields : ℕ) → Taken (List Integer) → ℕ
+checkOf fields broken = rowMalformed
+checkOf fields (taken vs u) = verdictOf fields (length vs) (allInRange vs)
 
 -- column by column, so many before and all of them in range or not; n bounds them
-unfoldable pub scanN : (n fields count : ℕ) (fits : Bool) → List ℕ → Checked
-scanN zero fields count fits s = refused 70
+unfoldable pub scanN : (n fields count : ℕ) (fits : Bool) → List ℕ → ℕ
+scanN zero fields count fits s = rowMalformed
 scanN (suc n) fields count fits s =
     elim (cellOf s) [
-      | wrong ↦ refused 70
+      | wrong ↦ rowMalformed
       | more v u ↦ scanN n fields (count + 1) (fits && inRange v) u
-      | last v u ↦ verdictOf fields (count + 1) (fits && inRange v) u
+      | last v u ↦ verdictOf fields (count + 1) (fits && inRange v)
     ]
-
--- what the code says of a row
-abbrev pub saysRow : List ℕ → (number next : ℕ) → Checked
-saysRow s number next = if eqb number 0 then fine (drop next s) else refused number
-
--- ROWS with so many fields, from number i on: how many numbers there are then, or the first refusal
-unfoldable pub checkedFrom : (fields i : ℕ) → List (Option (List Integer)) → Made ℕ
-checkedFrom fields i [] = made i
-checkedFrom fields i (none ∷ rs) = stopped 70 i
-checkedFrom fields i (some vs ∷ rs) =
-    elim (eqb (length vs) fields) [ false ↦ stopped 71 i | true ↦ elim (allInRange vs) [ false ↦ stopped 72 i | true ↦ checkedFrom fields (i + 1) rs ] ]
-
--- what the code says of rows
-abbrev pub saysRows : (number row : ℕ) → Made ℕ
-saysRows number row = if eqb number 0 then made row else stopped number row

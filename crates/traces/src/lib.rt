@@ -1,14 +1,13 @@
 // A trace by RFC 4180: rows of columns that are decimal integers.
 ghost use mathlib.Core.Path.{_≡_};
 ghost use mathlib.Core.Bool.{_&&_, not};
-ghost use mathlib.Core.List.{List};
-ghost use Prim.Native.Nat.{ℕ, _+_, _-_, _<_, _≤_};
+ghost use Prim.Native.Nat.{_+_, _-_, _<_, _≤_};
 ghost use lib.Dec.{eqb};
 ghost use lib.ListN.{length, drop};
 ghost use Rattle.definition_replay.specs.Spec.{first, past};
-ghost use Rattle.definition_replay.specs.Trace.{behindColumn, rowOf, rowsOf};
+ghost use Rattle.definition_replay.specs.Trace.{behindColumn, rowOf};
 ghost use Rattle.definition_replay.specs.Replay.{inRange};
-ghost use Rattle.traces.specs.Cells.{saysBehind, cellOf, clipCell, integer, saysCell, endedBy, saysRow, verdictOf, checkOf, saysRows, checkedFrom};
+ghost use Rattle.traces.specs.Cells.{saysBehind, cellOf, clipCell, fitCell, integer, saysCell, endedBy, verdictOf, checkOf};
 
 // What stands behind a column: 0 for what may not, 1 for a comma, 2 for the row's end; and where it ends.
 pub(crate) struct Mark {
@@ -22,12 +21,6 @@ pub struct Column {
     pub negative: bool,
     pub size: u32,
     pub next: usize,
-}
-
-// A row: 0, or the number of a refusal; and where the next row begins.
-pub(crate) struct Row {
-    number: u32,
-    next: usize,
 }
 
 const ROW_MALFORMED: u32 = 70;
@@ -157,9 +150,19 @@ fn column_at(s: &[u8], at: usize) -> Column
     column_end(s, past, minus, size)
 }
 
-// The column at an index; none past the end.
+// Whether an integer is one of 32 bits.
+fn in_range(negative: bool, size: u32) -> bool
+    ensures { λ r. ⌜ r ≡ inRange (integer negative size) ⌝ }
+{
+    if negative {
+        return size <= 0x80000000;
+    }
+    size <= 0x7FFFFFFF
+}
+
+// The column at an index, whose number is one of 32 bits; none past the end.
 pub fn read_column(s: &[u8], at: usize) -> Column
-    ensures { λ r. ⌜ (saysCell (now (s .entry)) (r .ends) (r .negative) (r .size) (r .next) ≡ clipCell (cellOf (drop at (now (s .entry))))) × ((r .ends ≡ 0 → ⊥) → at < r .next) × (r .next ≤ length (now (s .entry))) ⌝ }
+    ensures { λ r. ⌜ (saysCell (now (s .entry)) (r .ends) (r .negative) (r .size) (r .next) ≡ fitCell (cellOf (drop at (now (s .entry))))) × ((r .ends ≡ 0 → ⊥) → at < r .next) × (r .next ≤ length (now (s .entry))) ⌝ }
 {
     if s.len() < at {
         return Column {
@@ -169,17 +172,17 @@ pub fn read_column(s: &[u8], at: usize) -> Column
             next: s.len(),
         };
     }
-    column_at(s, at)
-}
-
-// Whether an integer is one of 32 bits.
-fn in_range(negative: bool, size: u32) -> bool
-    ensures { λ r. ⌜ r ≡ inRange (integer negative size) ⌝ }
-{
-    if negative {
-        return size <= 0x80000000;
+    let column = column_at(s, at);
+    let fits = in_range(column.negative, column.size);
+    if !fits {
+        return Column {
+            ends: 0,
+            negative: false,
+            size: 0,
+            next: at,
+        };
     }
-    size <= 0x7FFFFFFF
+    column
 }
 
 // Whether both hold.
@@ -192,32 +195,22 @@ fn both(a: bool, b: bool) -> bool
     false
 }
 
-// What is said of a row that has so many columns and ends before an index.
-fn verdict(fields: usize, count: usize, fits: bool, next: usize) -> Row
-    ensures { λ r. ⌜ ((s : List ℕ) → saysRow s (r .number) (r .next) ≡ verdictOf fields count fits (drop next s)) × (r .next ≡ next) ⌝ }
+// What refuses a row that has so many columns, all of them in range or not; 0 for nothing.
+fn verdict(fields: usize, count: usize, fits: bool) -> u32
+    ensures { λ r. ⌜ r ≡ verdictOf fields count fits ⌝ }
 {
     if count != fields {
-        return Row {
-            number: WRONG_COLUMNS,
-            next: next,
-        };
+        return WRONG_COLUMNS;
     }
     if !fits {
-        return Row {
-            number: OUT_OF_RANGE,
-            next: next,
-        };
+        return OUT_OF_RANGE;
     }
-    Row {
-        number: 0,
-        next: next,
-    }
+    0
 }
 
-// Checks the row at an index: so many columns, each an integer of 32 bits.
-fn check_row(s: &[u8], at: usize, fields: usize) -> Row
-    requires { ⌜ at ≤ length (now s) ⌝ }
-    ensures { λ r. ⌜ (saysRow (now (s .entry)) (r .number) (r .next) ≡ checkOf fields (rowOf (drop at (now (s .entry))))) × (at ≤ r .next) × (r .number ≡ 0 → at < r .next) × (r .next ≤ length (now (s .entry))) ⌝ }
+// What refuses the row at an index: so many columns are wanted, each an integer of 32 bits; 0 for nothing.
+pub fn check_row(s: &[u8], at: usize, fields: usize) -> u32
+    ensures { λ r. ⌜ r ≡ checkOf fields (rowOf (drop at (now (s .entry)))) ⌝ }
 {
     let mut i = at;
     let mut count: usize = 0;
@@ -225,50 +218,17 @@ fn check_row(s: &[u8], at: usize, fields: usize) -> Row
     while i <= s.len() {
         let column = column_at(s, i);
         if column.ends == 0 {
-            return Row {
-                number: ROW_MALFORMED,
-                next: at,
-            };
+            return ROW_MALFORMED;
         }
         let fit = in_range(column.negative, column.size);
         let all = both(fits, fit);
         let more = count + 1;
-        let next = column.next;
         if column.ends != 1 {
-            return verdict(fields, more, all, next);
+            return verdict(fields, more, all);
         }
         count = more;
         fits = all;
-        i = next;
+        i = column.next;
     }
-    Row {
-        number: ROW_MALFORMED,
-        next: at,
-    }
-}
-
-// The rows of a trace: 0 and how many there are; or the number of a refusal and the row that is refused, from 0.
-pub struct Rows {
-    pub number: u32,
-    pub row: usize,
-}
-
-// Checks every row of a trace, up to the first that is refused.
-pub fn check_trace(s: &[u8], fields: usize) -> Rows
-    ensures { λ r. ⌜ saysRows (r .number) (r .row) ≡ checkedFrom fields 0 (rowsOf (now (s .entry))) ⌝ }
-{
-    let mut i: usize = 0;
-    let mut k: usize = 0;
-    while i < s.len() {
-        let row = check_row(s, i, fields);
-        if row.number != 0 {
-            return Rows {
-                number: row.number,
-                row: k,
-            };
-        }
-        k = k + 1;
-        i = row.next;
-    }
-    Rows { number: 0, row: k }
+    ROW_MALFORMED
 }

@@ -1,6 +1,8 @@
 -- `traces::read_column` meets its contract. Assumes nothing.
 use borrow.Author.Needs.{needs}
+use native.Mathlib.Omega.{arith}
 use Rattle.traces.proofs.Reading.{column-past}
+use Rattle.traces.proofs.Scanning.{column-fits, column-misfits}
 use Rattle.traces.proofs.read_column.Statement.{statement}
 use Rattle.traces.proofs.read_column.Tie as tie
 
@@ -10,4 +12,10 @@ read-column-spec =
     (tie.spec
     (λ c. column-past _ _ (c .if1 .taken))  -- returns
     (λ c κs. search needs)  -- column-at-requires
-    (λ c. search needs))  -- returns-2
+    (λ c κs. search needs)  -- in-range-requires
+    (λ c.
+    let r = c .before .before .column-at .result in
+    column-misfits _ _ (r .ends) (r .negative) (r .size) (r .next) (c .before .before .column-at .ensures) (c .before .in-range .ensures) (search needs) (c .if2 .taken))  -- returns-2
+    (λ c.
+    let r = c .before .before .column-at .result in
+    column-fits _ _ (r .ends) (r .negative) (r .size) (r .next) (c .before .before .column-at .ensures) (c .before .in-range .ensures) (c .if2 .left)))  -- returns-3
