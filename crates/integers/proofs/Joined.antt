@@ -1,5 +1,5 @@
 -- The text of an integer from its pieces. Assumes nothing.
-use mathlib.Core.Path.{_≡_, refl, sym, _∙_, ap, ap₂}
+use mathlib.Core.Path.{_≡_, refl, sym, _∙_, ap, ap₂, subst}
 use mathlib.Core.Bool.{Bool, true, false, _&&_, _||_, not}
 use mathlib.Core.List.{List, [], _∷_, _++_, reverse}
 use Prim.Native.Nat.{ℕ, zero, suc, _+_, _-_, _*_, _/_, _≤_, _<_}
@@ -53,6 +53,20 @@ module _ (out : List ℕ) (at : ℕ) {t : List ℕ} where
 pub piece-both : (out : List ℕ) (at : ℕ) (s t : List ℕ) {mid now : List ℕ} {next result : ℕ} → next ≡ at + length s → mid ≡ over out at s
     → result ≡ next + length t → now ≡ over mid next t → (result ≡ at + length (s ++ t)) × (now ≡ over out at (s ++ t))
 piece-both out at s t n m r w = let l = length-append s t in (omega arith, rw (w, n, m) (over-append out at s t))
+
+-- a fill of one byte
+one-byte : (l : List ℕ) → length l ≡ 1 → l ≡ getD l 0 0 ∷ []
+one-byte [] e = absurd (omega arith)
+one-byte (b ∷ []) e = refl
+one-byte (b ∷ c ∷ l) e = absurd (omega arith)
+
+module _ (fill : List ℕ) (h : length fill ≡ 1) (used count : ℕ) where
+  pub one-room : used + length (copies count fill) ≤ 0x4000000000000000 → used + length (copies count (getD fill 0 0 ∷ [])) ≤ 0x4000000000000000
+  one-room l = subst (λ t. used + length (copies count t) ≤ 0x4000000000000000) (one-byte fill h) l
+
+  pub one-added : (out : List ℕ) {r : ℕ} {out′ : List ℕ} → (r ≡ used + length (copies count (getD fill 0 0 ∷ []))) × (out′ ≡ over out used (copies count (getD fill 0 0 ∷ [])))
+      → (r ≡ used + length (copies count fill)) × (out′ ≡ over out used (copies count fill))
+  one-added out w = let e = sym (one-byte fill h) in (w .0 ∙ ap (λ t. used + length (copies count t)) e, w .1 ∙ ap (λ t. over out used (copies count t)) e)
 
 pub not-true : (b : Bool) → not b ≡ true → b ≡ false
 not-true true e = cc

@@ -1,5 +1,5 @@
 -- Figures written the units first, one at a time. Assumes nothing.
-use mathlib.Core.Path.{_≡_, refl, sym, _∙_, ap}
+use mathlib.Core.Path.{_≡_, refl, sym, _∙_, ap, subst}
 use mathlib.Core.Bool.{Bool, true, false}
 use mathlib.Core.List.{List, [], _∷_, _++_, append-nil, append-assoc, reverse, reverse-append}
 use Prim.Native.Nat.{ℕ, zero, suc, _+_, _-_, _/_, _%_, _≤_, _<_}
@@ -126,6 +126,31 @@ module _ (base n : ℕ) (big : 1 < base) (grouping size come kind : ℕ) (out : 
   pub loop-end : {now : List ℕ} → n < base → fig ≡ figure kind n → result ≡ at + length (oneMore grouping come fig) → now ≡ over out at (oneMore grouping come fig)
       → (result ≡ at + length (restOf grouping size come kind (digits base n))) × (now ≡ over out at (restOf grouping size come kind (digits base n)))
   loop-end h f r w = let e = figures-last base n big grouping size come kind out at h in (rw (r, e, f), rw (w, e, f))
+
+-- without separators it is all one how many are to come
+plain-any : (size come come′ kind : ℕ) (ds : List ℕ) → restOf 0 size come kind ds ≡ restOf 0 1 come′ kind ds
+unfolding restOf
+plain-any size come come′ kind ds = refl
+
+one-plain : (come fig : ℕ) → fig ∷ [] ≡ oneMore 0 come fig
+unfolding oneMore
+one-plain come fig = refl
+
+module _ (base n : ℕ) (big : 1 < base) (kind : ℕ) (out : List ℕ) (at fig : ℕ) where
+  one-long : at + 1 ≡ at + length (oneMore 0 1 fig)
+  one-long = ap (λ t. at + length t) (one-plain 1 fig)
+
+  pub plain-step : {now : List ℕ} → base ≤ n → fig ≡ figure kind (n % base) → now ≡ over out at (fig ∷ [])
+      → over now (at + 1) (restOf 0 1 1 kind (digits base (n / base))) ≡ over out at (restOf 0 1 1 kind (digits base n))
+  plain-step {now} h f w =
+      ap (over now (at + 1)) (plain-any 1 1 (comeAfter 1 1) kind (digits base (n / base))) ∙ loop-step base n big 0 1 1 kind out at h f refl one-long (w ∙ ap (over out at) (one-plain 1 fig))
+
+  pub plain-count : base ≤ n → fig ≡ figure kind (n % base) → at + 1 + length (restOf 0 1 1 kind (digits base (n / base))) ≡ at + length (restOf 0 1 1 kind (digits base n))
+  plain-count h f = ap (λ t. at + 1 + length t) (plain-any 1 1 (comeAfter 1 1) kind (digits base (n / base))) ∙ loop-count base n big 0 1 1 kind out at h f refl one-long
+
+  pub plain-end : {now : List ℕ} → n < base → fig ≡ figure kind n → now ≡ over out at (fig ∷ [])
+      → (at + 1 ≡ at + length (restOf 0 1 1 kind (digits base n))) × (now ≡ over out at (restOf 0 1 1 kind (digits base n)))
+  plain-end h f w = loop-end base n big 0 1 1 kind out at h f one-long (w ∙ ap (over out at) (one-plain 1 fig))
 
 -- ZEROS
 pub more-some : (grouping come fig : ℕ) → 1 ≤ length (oneMore grouping come fig)
@@ -360,3 +385,22 @@ reversed-next out at units left less result d h k l r w =
 pub reversed-none : (out : List ℕ) (at : ℕ) (units : List ℕ) (left : ℕ) → left ≤ 0 → out ≡ over out at (reverse (take left units))
 reversed-none out at units zero h = sym (over-nil out at)
 reversed-none out at units (suc left) h = absurd (omega arith)
+
+zeros-plain : (n least size at come come′ : ℕ) → zerosN n least 0 size at come ≡ zerosN n least 0 size at come′
+unfolding zerosN oneMore
+zeros-plain zero least size at come come′ = refl
+zeros-plain (suc n) least size at come come′ =
+    cases (leb least at) (λ e. rw (e, zerosN)) (λ e. rw (e, zerosN) (ap (λ t. 48 ∷ t) (zeros-plain n least size (at + 1) (comeAfter size come) (comeAfter size come′))))
+
+pub numeral-plain : (kind grouping least number : ℕ) (out : List ℕ) → grouping ≡ 0 → {base size bytes r : ℕ} {out′ out″ : List ℕ} → base ≡ baseOf kind → size ≡ groupOf base
+    → bytes ≡ length (restOf 0 1 1 kind (digits base number)) → out′ ≡ over out 0 (restOf 0 1 1 kind (digits base number))
+    → r ≡ bytes + length (zerosN least least grouping size bytes size) → out″ ≡ over out′ bytes (zerosN least least grouping size bytes size)
+    → (r ≡ length (numeralUnits kind grouping least number)) × (out″ ≡ over out 0 (numeralUnits kind grouping least number))
+numeral-plain kind grouping least number out z {base} {size} {bytes} {r} {out′} {out″} b g n o m q =
+    numeral-from kind grouping least number out b g (n ∙ ap length same) refl (o ∙ ap (over out 0) same) (m ∙ ap (λ t. bytes + length t) rest) (q ∙ ap (over out′ bytes) rest)
+  where
+    same : restOf 0 1 1 kind (digits base number) ≡ restOf grouping size size kind (digits base number)
+    same = sym (plain-any size size 1 kind (digits base number)) ∙ ap (λ k. restOf k size size kind (digits base number)) (sym z)
+
+    rest : zerosN least least grouping size bytes size ≡ zerosN least least grouping size bytes (comesAfter size size (digits base number))
+    rest = subst (λ k. zerosN least least k size bytes size ≡ zerosN least least k size bytes (comesAfter size size (digits base number))) (sym z) (zeros-plain least least size bytes size (comesAfter size size (digits base number)))

@@ -1,14 +1,14 @@
 // Integers by a format specification: figures are written the units first.
 ghost use mathlib.Core.Path.{_≡_};
-ghost use Prim.Native.Nat.{_+_, _-_, _<_, _≤_};
-ghost use mathlib.Core.List.{reverse};
+ghost use Prim.Native.Nat.{_+_, _-_, _/_, _%_, _<_, _≤_};
+ghost use mathlib.Core.List.{[], _∷_, reverse};
 ghost use lib.ListN.{length, take, drop};
 ghost use Rattle.definition_replay.specs.Spec.{isDigit, front, behind};
 ghost use Rattle.definition_replay.specs.Integers.{digits, baseOf, figure, copies, signOf, leftOf, innerOf, written};
 ghost use Rattle.buffers.specs.Over.{over};
 ghost use Rattle.integers.specs.Written.{oneMore, comeAfter, comesAfter, restOf, zerosN, groupOf, numeralUnits, prefixFrom, headFrom, padsFrom, leastFrom, formed, integer, fitting, writtenIn};
 ghost use Rattle.definition_replay.specs.SpecNumbers.{toldOf};
-ghost use Rattle.integers.specs.Told.{moreTold};
+ghost use Rattle.integers.specs.Told.{moreValue, toldAt};
 
 // Figures that were written: their bytes, and how many are to come before the next separator.
 pub(crate) struct Run {
@@ -60,6 +60,35 @@ fn come_after(size: usize, come: usize) -> usize
     come - 1
 }
 
+// A number's last digit in a base, and the number before it.
+pub(crate) struct Split {
+    rest: u32,
+    digit: u8,
+}
+
+// Takes the last digit of a number in a base; a division by a constant is a cheap one.
+fn last_digit(n: u32, base: u32) -> Split
+    requires { ⌜ (1 < base) × (base ≤ 16) ⌝ }
+    ensures { λ r. ⌜ (r .rest ≡ n / base) × (r .digit ≡ n % base) ⌝ }
+{
+    if base == 10 {
+        return Split {
+            rest: n / 10,
+            digit: (n % 10) as u8,
+        };
+    }
+    if base == 16 {
+        return Split {
+            rest: n / 16,
+            digit: (n % 16) as u8,
+        };
+    }
+    Split {
+        rest: n / base,
+        digit: (n % base) as u8,
+    }
+}
+
 // Writes the figures of a number in a base, the units first, from the front on.
 fn figures(out: &mut [u8], number: u32, base: u32, kind: u8, grouping: u8, size: usize) -> Run
     requires { ⌜ (1 < base) × (base ≤ 16) × (1 ≤ size) ⌝ }
@@ -69,11 +98,11 @@ fn figures(out: &mut [u8], number: u32, base: u32, kind: u8, grouping: u8, size:
     let mut at: usize = 0;
     let mut come = size;
     while base <= n {
-        let digit = (n % base) as u8;
-        let fig = figure_of(kind, digit);
+        let parts = last_digit(n, base);
+        let fig = figure_of(kind, parts.digit);
         at = put_figure(out, at, grouping, come, fig);
         come = come_after(size, come);
-        n = n / base;
+        n = parts.rest;
     }
     let last = n as u8;
     let fig = figure_of(kind, last);
@@ -83,6 +112,26 @@ fn figures(out: &mut [u8], number: u32, base: u32, kind: u8, grouping: u8, size:
         bytes: bytes,
         come: next,
     }
+}
+
+// Writes the figures of a number in a base without separators, the units first, from the front on; says how many they are.
+fn plain_figures(out: &mut [u8], number: u32, base: u32, kind: u8) -> usize
+    requires { ⌜ (1 < base) × (base ≤ 16) ⌝ }
+    ensures { λ r. ⌜ (r ≡ length (restOf 0 1 1 kind (digits base number))) × (r ≤ 0x200000000) × (now (out .exit) ≡ over (now (out .entry)) 0 (restOf 0 1 1 kind (digits base number))) ⌝ }
+{
+    let mut n = number;
+    let mut at: usize = 0;
+    while base <= n {
+        let parts = last_digit(n, base);
+        let fig = figure_of(kind, parts.digit);
+        buffers::put(out, at, fig);
+        n = parts.rest;
+        at = at + 1;
+    }
+    let last = n as u8;
+    let fig = figure_of(kind, last);
+    buffers::put(out, at, fig);
+    at + 1
 }
 
 // Writes zeros from an index on until that many bytes stand there; says where they end.
@@ -141,14 +190,33 @@ fn numeral(out: &mut [u8], number: u32, kind: u8, grouping: u8, least: usize) ->
 {
     let base = base_of(kind);
     let size = group_size(base);
+    if grouping == 0 {
+        let plain = plain_figures(out, number, base, kind);
+        return zeros(out, plain, size, grouping, size, least);
+    }
     let run = figures(out, number, base, kind, grouping, size);
     let bytes = run.bytes;
     let come = run.come;
     zeros(out, bytes, come, grouping, size, least)
 }
 
-// Writes so many copies of a fill from the used length on; says where they end.
-fn add_copies(out: &mut [u8], used: usize, count: usize, fill: &[u8]) -> usize
+// Writes so many copies of a byte from the used length on; says where they end.
+fn add_bytes(out: &mut [u8], used: usize, count: usize, byte: u8) -> usize
+    requires { ⌜ used + length (copies count (byte ∷ [])) ≤ 0x4000000000000000 ⌝ }
+    ensures { λ r. ⌜ (r ≡ used + length (copies count (byte ∷ []))) × (now (out .exit) ≡ over (now (out .entry)) used (copies count (byte ∷ []))) ⌝ }
+{
+    let mut at = used;
+    let mut left = count;
+    while 0 < left {
+        buffers::put(out, at, byte);
+        at = at + 1;
+        left = left - 1;
+    }
+    at
+}
+
+// Writes so many copies of some bytes from the used length on; says where they end.
+fn add_runs(out: &mut [u8], used: usize, count: usize, fill: &[u8]) -> usize
     requires { ⌜ used + length (copies count (now fill)) ≤ 0x4000000000000000 ⌝ }
     ensures { λ r. ⌜ (r ≡ used + length (copies count (now (fill .entry)))) × (now (out .exit) ≡ over (now (out .entry)) used (copies count (now (fill .entry)))) ⌝ }
 {
@@ -160,6 +228,18 @@ fn add_copies(out: &mut [u8], used: usize, count: usize, fill: &[u8]) -> usize
         left = left - 1;
     }
     at
+}
+
+// Writes so many copies of a fill from the used length on; says where they end.
+fn add_copies(out: &mut [u8], used: usize, count: usize, fill: &[u8]) -> usize
+    requires { ⌜ used + length (copies count (now fill)) ≤ 0x4000000000000000 ⌝ }
+    ensures { λ r. ⌜ (r ≡ used + length (copies count (now (fill .entry)))) × (now (out .exit) ≡ over (now (out .entry)) used (copies count (now (fill .entry)))) ⌝ }
+{
+    if fill.len() == 1 {
+        let byte = fill[0];
+        return add_bytes(out, used, count, byte);
+    }
+    add_runs(out, used, count, fill)
 }
 
 // Writes the first bytes of some from the used length on, the last one first; says where they end.
@@ -359,46 +439,51 @@ pub struct Number {
     pub next: usize,
 }
 
-// What is told after a digit more.
-fn more_told(told: u32, b: u8) -> u32
-    requires { ⌜ (48 ≤ b) × (b ≤ 57) ⌝ }
-    ensures { λ r. ⌜ r ≡ moreTold told b ⌝ }
+// A value after a digit more, at most 4,294,967,294.
+fn more_value(value: u64, b: u8) -> u64
+    requires { ⌜ (value ≤ 0xFFFFFFFE) × (48 ≤ b) × (b ≤ 57) ⌝ }
+    ensures { λ r. ⌜ r ≡ moreValue value b ⌝ }
 {
-    if told == 0 {
-        return (b - 48) as u32 + 1;
+    let t = value * 10 + (b - 48) as u64;
+    if 0xFFFFFFFE < t {
+        return 0xFFFFFFFE;
     }
-    let t = (told as u64 - 1) * 10 + (b - 48) as u64 + 1;
-    if 0xFFFFFFFF <= t {
-        return 0xFFFFFFFF;
+    t
+}
+
+// What is told of digits of a value from one index up to another.
+fn tell(value: u64, at: usize, next: usize) -> Number
+    requires { ⌜ value ≤ 0xFFFFFFFE ⌝ }
+    ensures { λ r. ⌜ (r .told ≡ toldAt value at next) × (r .next ≡ next) ⌝ }
+{
+    if next == at {
+        return Number {
+            told: 0,
+            next: next,
+        };
     }
-    t as u32
+    Number {
+        told: (value + 1) as u32,
+        next: next,
+    }
 }
 
 // Reads the digits at an index.
 pub fn read_digits(s: &[u8], at: usize) -> Number
     ensures { λ r. ⌜ (r .told ≡ toldOf (front isDigit (drop at (now (s .entry))))) × (drop (r .next) (now (s .entry)) ≡ behind isDigit (drop at (now (s .entry)))) × (at ≤ r .next) × (at ≤ length (now (s .entry)) → r .next ≤ length (now (s .entry))) ⌝ }
 {
-    let mut told: u32 = 0;
+    let mut value: u64 = 0;
     let mut i = at;
     while i < s.len() {
         let b = s[i];
         if b < 48 {
-            return Number {
-                told: told,
-                next: i,
-            };
+            return tell(value, at, i);
         }
         if 57 < b {
-            return Number {
-                told: told,
-                next: i,
-            };
+            return tell(value, at, i);
         }
-        told = more_told(told, b);
+        value = more_value(value, b);
         i = i + 1;
     }
-    Number {
-        told: told,
-        next: i,
-    }
+    tell(value, at, i)
 }
