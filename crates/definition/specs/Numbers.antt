@@ -106,6 +106,16 @@ noLiteral = 52
 abbrev pub tooLittleListRoom : ℕ
 tooLittleListRoom = 53
 
+-- of two revisions compared
+abbrev pub firstIllFormed : ℕ
+firstIllFormed = 57
+
+abbrev pub secondIllFormed : ℕ
+secondIllFormed = 58
+
+abbrev pub tooLittleMiddleRoom : ℕ
+tooLittleMiddleRoom = 59
+
 -- of a lent file of names and its index
 abbrev pub lineMalformed : ℕ
 lineMalformed = 60

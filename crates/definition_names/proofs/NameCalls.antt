@@ -106,7 +106,7 @@ module _ (file index script ns words text : List ℕ) where
   call = namedNumbers file index script ns words text
 
   -- where the check passes it is the reading that searches; else there is no acceptance
-  by-check : (P : Call → Type 0) → (P (readNumbers (searched file index) script ns words text)) → ((r : Refusal) → NamedRefusal r → P (called (refuses r) words text)) → P call
+  pub by-check : (P : Call → Type 0) → (P (readNumbers (searched file index) script ns words text)) → ((r : Refusal) → NamedRefusal r → P (called (refuses r) words text)) → P call
   unfolding namedNumbers numbersBy namedInto roomed refusal
   by-check P reads refused = go (check file index) refl (sixes ns) refl
     where

@@ -1,0 +1,3 @@
+pub mod WholeChars
+pub mod CharsAt
+pub mod TextsRead

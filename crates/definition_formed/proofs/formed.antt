@@ -1,0 +1,4 @@
+pub mod FormedLaws
+pub mod AsideLaws
+pub mod LentAgain
+pub mod ReadFormed
