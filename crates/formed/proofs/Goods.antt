@@ -6,18 +6,18 @@ use Prim.Native.Nat.{ℕ, zero, suc, _+_, _-_, _*_, _≤_, _<_, min}
 use native.Mathlib.Nat.{add-zero, sub-zero}
 use native.Mathlib.Omega.{arith}
 use lib.Dec.{eqb, leb}
-use lib.ListN.{length, getD, take, drop, length-take, length-drop}
+use lib.ListN.{length, getD, take, drop, length-drop}
 use lib.Seq.{getD-drop, drop-drop, length-take-le}
 use borrow.Author.Tests.{eq-eqb, ne-eqb, le-leb, lt-leb, leb-true}
-use Rattle.definition.specs.Chars.{if_then_else_, part, wellFormed}
-use Rattle.definition.specs.Records.{Record, plain, joined, bytesOnly}
-use Rattle.definition.specs.Words.{word, owing, roleAt, recordsFrom, sortFrom, answerFrom, heldFrom, lie, isConversion, fits, allFit, hasSpec, ordered, gapless, noBytes, oneOf, sorted, recordsFormed}
-use Rattle.definition_formed.specs.Formed.{Lent, lent, unplaced, lentAnswer, isUtf8, textsUtf8, isFormed}
+use Rattle.definition.specs.Chars.{part, wellFormed}
+use Rattle.definition.specs.Records.{Record}
+use Rattle.definition.specs.Words.{owing, roleAt, recordsFrom, sortFrom, answerFrom, heldFrom, lie, isConversion, fits, allFit, hasSpec, ordered, gapless, noBytes, oneOf, sorted, recordsFormed}
+use Rattle.definition_formed.specs.Formed.{lent, unplaced, lentAnswer, isUtf8, textsUtf8, isFormed}
 use Rattle.definition.proofs.moves.CharLaws.{cases}
 use Rattle.definition_formed.proofs.formed.FormedLaws.{both, is-formed}
 use Rattle.formed.specs.declared.Head.{Head}
 use Rattle.formed.specs.Heads.{headAt}
-use Rattle.formed.specs.Good.{recordsAt, followsIn, goodHead, headOf, goodFrom}
+use Rattle.formed.specs.Good.{recordsAt, followsIn, goodHead, goodFrom}
 use Rattle.formed.proofs.Parts.{part-within}
 
 -- WHERE A RECORD MAY STAND

@@ -2,7 +2,7 @@
 ghost use mathlib.Core.Path.{_≡_};
 ghost use mathlib.Core.Bool.{false};
 ghost use Prim.Native.Nat.{_+_, _*_, _≤_, min};
-ghost use lib.ListN.{length, getD};
+ghost use lib.ListN.{getD};
 ghost use Rattle.definition.specs.Chars.{part};
 ghost use Rattle.definition.specs.Words.{owing, isConversion, fits, hasSpec, noBytes, sorted, sortFrom};
 ghost use Rattle.definition_formed.specs.Formed.{lent, isUtf8, isFormed};

@@ -1,18 +1,17 @@
 -- WHERE A CHARACTER BEGINS in well-formed text: the next one begins there too, and so does every ASCII byte; what lies between are whole characters. Assumes nothing.
 use mathlib.Core.Path.{_≡_, refl, sym, _∙_, ap, ap₂}
-use mathlib.Core.Bool.{Bool, true, false}
-use mathlib.Core.List.{List, [], _∷_, _++_}
-use Prim.Native.Nat.{ℕ, zero, suc, _+_, _-_, _≤_, _<_, max}
+use mathlib.Core.List.{List, [], _++_}
+use Prim.Native.Nat.{ℕ, zero, suc, _+_, _-_, _≤_, _<_}
 use native.Mathlib.Nat.{sub-self, add-zero, add-sub-cancel-left}
 use native.Mathlib.Omega.{arith, by-contra}
-use lib.Dec.{ltb, leb, eqb}
+use lib.Dec.{ltb, eqb}
 use lib.ListN.{length, take, drop, length-append, length-drop, take-append-drop}
 use lib.Seq.{drop-drop, drop-append-seam, take-append-seam, length-take-le}
 use borrow.Author.Tests.{le-leb, lt-leb, ltb-true, ltb-false, eqb-true, eqb-false}
-use Rattle.definition.specs.Chars.{if_then_else_, byte, part, atEnd, width, next, char}
+use Rattle.definition.specs.Chars.{byte, part, width, next, char}
 use Rattle.definition.proofs.moves.CharLaws.{cases, next-past, between}
 use Rattle.definition.proofs.moves.Adds.{part-split}
-use Rattle.definition_formed.proofs.characters.WholeChars.{Whole, Chars, no-char, more, chars-append, chars-one, width-front, width-after}
+use Rattle.definition_formed.proofs.characters.WholeChars.{Chars, no-char, more, chars-append, chars-one, width-front, width-after}
 
 module _ (s : List ℕ) where
   -- a character begins at i, or the text ends there

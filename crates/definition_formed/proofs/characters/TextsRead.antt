@@ -1,5 +1,5 @@
 -- THE TEXTS OF A READING are whole characters, where the body is and names have scalars. Assumes nothing.
-use mathlib.Core.Path.{_≡_, refl, sym, _∙_, ap, ap₂}
+use mathlib.Core.Path.{_≡_, refl, sym, _∙_, ap}
 use mathlib.Core.Bool.{Bool, true, false, _&&_, _||_, not, true≢false}
 use mathlib.Core.List.{List, [], _∷_, _++_}
 use Prim.{Unit, tt}
@@ -12,12 +12,12 @@ use mathlib.Core.Option.{Option, none, some}
 use borrow.Author.Tests.{leb-true, leb-false, ltb-true, ltb-false, eqb-true, eqb-false, lt-ltb}
 use Rattle.definition.specs.Numbers.{isBytes, isFString}
 use Rattle.definition.specs.Chars.{if_then_else_, _is_, byte, part, noCode, atEnd, inside, _to_, code, next, char, before, utf8}
-use Rattle.definition.specs.Escapes.{Naming, Fault, fault, Read, got, refused, Meaning, stands, stays, vanishes, octalDigit, octalFrom, hexDigit, scalar, hexFrom, named, unicodeName, EscapeCase, ended, simple, octal, hex, name, newline, foreign, other, escapeCase, escape, encode, meant}
-use Rattle.definition.specs.Body.{Piece, literal, field, spec, Move, goes, stops, calls, ends, withEscape, StringCase, stringCase, stringMove, stringN, TextCase, textCase, textMove, filled, Bracket, Signs, Field, state, signs, withEquals, withBang, withColon, withClose, fresh, isBlank, add, documented, spaced, formatted, FieldCase, outside, fieldCase, caseOf, conversionMove, openMove, matching, closeMove, quoteMove, fieldMove, direct, conversionOf, fieldPieces, selfDocumenting, finished, specified, plainRun, firstEnd, textN, fieldN, specN, enough, alone, readBody}
-use Rattle.definition.proofs.moves.CharLaws.{cases, either, next-past, next-from, inside-true, inside-yes, next-ascii, first-passes}
+use Rattle.definition.specs.Escapes.{Naming, Read, got, refused, Meaning, stands, stays, vanishes, octalDigit, octalFrom, hexDigit, scalar, hexFrom, named, unicodeName, EscapeCase, ended, simple, octal, hex, name, newline, foreign, other, escapeCase, escape, encode, meant}
+use Rattle.definition.specs.Body.{Piece, literal, field, spec, Move, goes, stops, calls, ends, withEscape, StringCase, stringCase, stringMove, stringN, TextCase, textCase, textMove, filled, Signs, Field, state, withClose, fresh, isBlank, add, documented, spaced, formatted, FieldCase, outside, fieldCase, caseOf, conversionMove, openMove, matching, closeMove, quoteMove, fieldMove, conversionOf, fieldPieces, selfDocumenting, finished, specified, plainRun, firstEnd, textN, fieldN, specN, enough, alone, readBody}
+use Rattle.definition.proofs.moves.CharLaws.{cases, either, next-from, inside-true, inside-yes, next-ascii, first-passes}
 use Rattle.definition.proofs.moves.Adds.{part-split}
 use Rattle.definition.proofs.characters.Utf8.{Scalar, below, above}
-use Rattle.definition_formed.proofs.characters.WholeChars.{Whole, Chars, no-char, more, chars-append, chars-one, utf8-whole}
+use Rattle.definition_formed.proofs.characters.WholeChars.{Chars, no-char, chars-append, chars-one, utf8-whole}
 use Rattle.definition_formed.proofs.characters.CharsAt.{At, Step, at-step, Between, to-ascii}
 
 -- what a lookup gives is a scalar

@@ -1,16 +1,15 @@
 -- TEXTS OF WHOLE CHARACTERS are UTF-8. Assumes nothing.
 use mathlib.Core.Path.{_≡_, refl, sym, _∙_, ap, ap₂}
-use mathlib.Core.Bool.{Bool, true, false, _&&_, _||_}
+use mathlib.Core.Bool.{true, _&&_}
 use mathlib.Core.List.{List, [], _∷_, _++_, append-assoc, append-nil}
 use mathlib.Core.Option.{Option, none, some}
-use Prim.Native.Nat.{ℕ, zero, suc, _+_, _-_, _*_, _/_, _%_, _≤_, _<_}
-use native.Mathlib.Nat.{zero-add, add-zero}
+use Prim.Native.Nat.{ℕ, zero, suc, _+_, _-_, _≤_, _<_}
 use native.Mathlib.Omega.{arith}
-use lib.Dec.{ltb, leb, eqb}
-use lib.ListN.{length, getD, take, drop, length-append, length-drop, take-append-drop, drop-of-length-le, List·getD-append}
+use lib.Dec.{ltb}
+use lib.ListN.{length, take, drop, length-append, length-drop, take-append-drop, drop-of-length-le, List·getD-append}
 use lib.Seq.{getD-append-add, length-take-le, drop-drop}
-use borrow.Author.Tests.{leb-true, le-leb, lt-leb, lt-ltb, le-ltb, ltb-true, ltb-false}
-use Rattle.definition.specs.Chars.{if_then_else_, byte, Range, inside, table37, following, follow, width, formedFrom, wellFormed, utf8}
+use borrow.Author.Tests.{leb-true, le-leb}
+use Rattle.definition.specs.Chars.{byte, Range, inside, table37, following, follow, width, formedFrom, wellFormed, utf8}
 use Rattle.definition_formed.specs.Formed.{isUtf8}
 use Rattle.definition.proofs.moves.CharLaws.{cases, width-end, width-in}
 use Rattle.definition.proofs.characters.Utf8.{Scalar, scalar-width}

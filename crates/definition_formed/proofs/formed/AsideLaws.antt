@@ -1,17 +1,16 @@
 -- WHAT IS SET ASIDE does not count: ranges, places, u marks, and the numbers beside outcome, sort, count and length. Assumes nothing.
-use mathlib.Core.Path.{_≡_, refl, sym, _∙_, ap, ap₂}
-use mathlib.Core.Bool.{Bool, true, false, _&&_, _||_, not, Bool·beq}
+use mathlib.Core.Path.{_≡_, refl, _∙_, ap, ap₂}
+use mathlib.Core.Bool.{Bool, false, _&&_, _||_, not, Bool·beq}
 use mathlib.Core.List.{List, [], _∷_, map}
 use Prim.Native.Nat.{ℕ, zero, suc, _+_, _-_, _*_}
-use native.Mathlib.Omega.{arith}
 use lib.Dec.{eqb, leb}
 use lib.ListN.{length, take, drop}
-use borrow.Author.Tests.{eqb-true, eqb-false, eq-eqb, ne-eqb}
-use Rattle.definition.specs.Chars.{if_then_else_, part, same}
+use borrow.Author.Tests.{eqb-true, eqb-false}
+use Rattle.definition.specs.Chars.{part}
 use Rattle.definition.specs.Records.{Record, Sort, plain, joined, bytesOnly}
-use Rattle.definition.specs.Words.{word, owing, roleAt, recordsFrom, sortFrom, answerFrom, heldFrom, lie, isConversion, fits, allFit, hasSpec, ordered, gapless, noBytes, oneOf, sorted, recordsFormed}
+use Rattle.definition.specs.Words.{word, owing, recordsFrom, sortFrom, answerFrom, heldFrom, lie, fits, allFit, hasSpec, ordered, gapless, noBytes, oneOf, sorted, recordsFormed}
 use Rattle.definition_formed.specs.Formed.{Lent, unplaced, lentAnswer, isUtf8, textsUtf8, isFormed}
-use Rattle.definition_formed.specs.Aside.{Agree, AgreeAll, LentAlike}
+use Rattle.definition_formed.specs.Aside.{AgreeAll, LentAlike}
 use Rattle.definition.proofs.moves.CharLaws.{cases}
 
 -- ASIDE: records that agree but for role, range, place and u mark

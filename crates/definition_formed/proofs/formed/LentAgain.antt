@@ -1,20 +1,19 @@
 -- WHAT A READING LEAVES is well formed exactly if its texts are UTF-8: all else that is asked every reading has. Assumes nothing.
-use mathlib.Core.Path.{_≡_, refl, sym, _∙_, ap, ap₂}
-use mathlib.Core.Bool.{Bool, true, false, _&&_, _||_, not, Bool·beq, and-true}
+use mathlib.Core.Path.{_≡_, refl, ap}
+use mathlib.Core.Bool.{Bool, true, false, _&&_, _||_, not, Bool·beq}
 use mathlib.Core.List.{List, [], _∷_, map}
-use Prim.Native.Nat.{ℕ, zero, suc, _+_}
-use native.Mathlib.Omega.{arith}
+use Prim.Native.Nat.{ℕ, _+_}
 use lib.Dec.{eqb, leb}
 use lib.ListN.{length}
-use Rattle.definition.specs.Chars.{if_then_else_, part}
+use Rattle.definition.specs.Chars.{part}
 use Rattle.definition.specs.Escapes.{Naming}
 use Rattle.definition.specs.Records.{Record, Sort, plain, joined, bytesOnly, Answer}
 use Rattle.definition.specs.Entry.{Literal}
-use Rattle.definition.specs.Reading.{Outcome, accepts, sortNumber, numbers, Call, readInto, readNumbers}
-use Rattle.definition.specs.Words.{word, owing, heldFrom, lie, isConversion, fits, allFit, hasSpec, ordered, gapless, noBytes, oneOf, sorted, recordsFormed, together, whole, apart, recordsWellFormed}
+use Rattle.definition.specs.Reading.{accepts, sortNumber, numbers, Call, readInto}
+use Rattle.definition.specs.Words.{owing, heldFrom, fits, allFit, hasSpec, ordered, gapless, noBytes, oneOf, sorted, recordsFormed, together, whole, apart, recordsWellFormed}
 use Rattle.definition_formed.specs.Formed.{Lent, unplaced, lentAnswer, isUtf8, textsUtf8, isFormed}
 use Rattle.definition.proofs.moves.CharLaws.{cases}
-use Rattle.definition.proofs.formed.Held.{Held, into-held, numbers-held}
+use Rattle.definition.proofs.formed.Held.{Held, into-held}
 use Rattle.definition_formed.proofs.formed.FormedLaws.{both}
 
 -- what a call leaves, lent again
@@ -104,10 +103,6 @@ held-again c h x e =
     let k = h x e in
     let w : heldFrom (numbers (accepts x)) (c .words) (c .text) ≡ x = rw e at (k .0) in
     rw (e, w, sort-known (x .sort), k .2, rules-kept x (k .1)) (unplaced-utf8 (x .text) (x .records))
-
--- of flat numbers, and of descriptors
-pub numbers-again : (look : Naming) (script ns words text : List ℕ) → LentAgain (readNumbers look script ns words text)
-numbers-again look script ns words text = held-again (readNumbers look script ns words text) (numbers-held look script ns words text)
 
 pub into-again : (look : Naming) (script : List ℕ) (ls : List Literal) (words text : List ℕ) → LentAgain (readInto look script ls words text)
 into-again look script ls words text = held-again (readInto look script ls words text) (into-held look script ls words text)

@@ -1,7 +1,7 @@
 -- EVERY READING'S TEXTS ARE UTF-8, so what it leaves is well formed when it is lent again. Assumes nothing.
 use mathlib.Core.Path.{_≡_, refl, sym, _∙_, ap}
 use mathlib.Core.Bool.{Bool, true, false, _&&_, _||_, true≢false}
-use mathlib.Core.List.{List, [], _∷_, _++_, map, append-assoc, append-nil}
+use mathlib.Core.List.{List, [], _∷_, _++_, map, append-assoc}
 use mathlib.Core.Option.{Option, none, some}
 use Prim.{Unit, tt}
 use Prim.Native.String.{String}
@@ -13,16 +13,16 @@ use lib.ListN.{length, length-append}
 use lib.Seq.{take-append-seam, drop-append-seam}
 use borrow.Author.Tests.{eq-eqb, ltb-true, ltb-false, leb-true}
 use Rattle.definition.specs.Numbers.{isFString, isBytes, notUtf8, notSixes}
-use Rattle.definition.specs.Chars.{if_then_else_, ascii, part, noCode, wellFormed, same}
-use Rattle.definition.specs.Escapes.{Naming, Read, got, refused, held, lookup, heldNames}
+use Rattle.definition.specs.Chars.{ascii, part, noCode, wellFormed, same}
+use Rattle.definition.specs.Escapes.{Naming, got, held, lookup, heldNames}
 use Rattle.definition.specs.Body.{Piece, literal, field, spec, readBody}
-use Rattle.definition.specs.Records.{Role, top, raw, inner, touching, Item, item, itemOf, Record, glue, merge, bothItems, merged, texts, recordAt, laid, cover, Answer, answerOf}
-use Rattle.definition.specs.Entry.{Literal, sixes, placeOf, body, Refusal, refusal, firstBad, formed, illFormed, allUtf8, entry}
+use Rattle.definition.specs.Records.{Role, top, raw, inner, touching, Item, item, itemOf, glue, merge, bothItems, merged, texts, recordAt, laid, cover, Answer, answerOf}
+use Rattle.definition.specs.Entry.{Literal, sixes, placeOf, body, Refusal, refusal, firstBad, formed, illFormed, allUtf8}
 use Rattle.definition.specs.Reading.{Outcome, accepts, refuses, read, readLiteral, readFrom, Call, called, readInto, readNumbers, numbersBy}
-use Rattle.definition_formed.specs.Formed.{Lent, isUtf8, textsUtf8, isFormed}
+use Rattle.definition_formed.specs.Formed.{isUtf8, textsUtf8, isFormed}
 use Rattle.definition.proofs.moves.CharLaws.{cases, either}
 use Rattle.definition.proofs.join.EntrySplit.{Each, passes}
-use Rattle.definition.proofs.formed.Accepted.{From, accepted, Holds, each-holds, literal-holds, f-no-bytes, alone-piece}
+use Rattle.definition.proofs.formed.Accepted.{accepted, Holds, each-holds, literal-holds, f-no-bytes, alone-piece}
 use Rattle.definition.proofs.outcomes.Room.{roomed-accepts}
 use Rattle.definition.proofs.characters.Utf8.{Scalar, below, above}
 use Rattle.definition_names.specs.Names.{isScalar, searched}
@@ -30,9 +30,9 @@ use Rattle.definition_names.specs.NamedReading.{namedNumbers}
 use Rattle.definition_names.proofs.NamesShown.{Coded, coded, uncoded, searched-coded}
 use Rattle.definition_names.proofs.NameCalls.{by-check}
 use Rattle.definition_formed.proofs.characters.WholeChars.{Chars, no-char, chars-append, chars-utf8, utf8-chars}
-use Rattle.definition_formed.proofs.characters.TextsRead.{Scalars, PieceFine, AllFine, Pieces, body-fine}
+use Rattle.definition_formed.proofs.characters.TextsRead.{Scalars, AllFine, body-fine}
 use Rattle.definition_formed.proofs.formed.FormedLaws.{both}
-use Rattle.definition_formed.proofs.formed.LentAgain.{lentOf, LentAgain, numbers-again, into-again}
+use Rattle.definition_formed.proofs.formed.LentAgain.{lentOf, into-again}
 
 -- an item's text: bytes are kind 4, all else is characters
 abbrev RoleFine : Role → ℕ → List ℕ → Type 0

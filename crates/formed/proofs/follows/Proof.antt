@@ -1,5 +1,4 @@
 -- `formed::follows` meets its contract. Assumes nothing.
-use borrow.Author.Needs.{needs}
 use Rattle.formed.proofs.Goods.{follows-spec as as-spec, follows-due, follows-any, follows-bytes}
 use Rattle.formed.proofs.follows.Statement.{statement}
 use Rattle.formed.proofs.follows.Tie as tie

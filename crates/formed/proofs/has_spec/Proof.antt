@@ -1,5 +1,4 @@
 -- `formed::has_spec` meets its contract. Assumes nothing.
-use borrow.Author.Needs.{needs}
 use borrow.Author.Tests.{eq-eqb, ne-eqb}
 use Rattle.formed.proofs.has_spec.Statement.{statement}
 use Rattle.formed.proofs.has_spec.Tie as tie

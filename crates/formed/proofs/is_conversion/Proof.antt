@@ -1,5 +1,4 @@
 -- `formed::is_conversion` meets its contract. Assumes nothing.
-use borrow.Author.Needs.{needs}
 use borrow.Author.Tests.{ne-eqb}
 use Rattle.formed.proofs.is_conversion.Statement.{statement}
 use Rattle.formed.proofs.is_conversion.Tie as tie

@@ -1,6 +1,6 @@
 -- `formed::no_bytes` meets its contract. Assumes nothing.
 use borrow.Author.Needs.{needs}
-use mathlib.Core.Path.{_≡_, refl, ap}
+use mathlib.Core.Path.{refl, ap}
 use Prim.Native.Nat.{_-_}
 use Rattle.formed.proofs.Goods.{NoneYet, none-here, none-next, none-all}
 use Rattle.formed.proofs.no_bytes.Statement.{statement}

@@ -1,0 +1,2 @@
+pub mod Revisions
+pub mod IsCompared

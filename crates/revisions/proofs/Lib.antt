@@ -1,0 +1,4 @@
+pub mod Walking
+pub mod Running
+pub mod Calls
+pub mod One
