@@ -1,5 +1,5 @@
 -- Two calls that leave the same twelve numbers, words and text have one outcome; and so have two that leave the same list, the same rows of a
--- script, or the same lines of a trace.
+-- script, the same lines of a trace, or the same comparison.
 -- Assumes nothing.
 use mathlib.Core.Path.{_≡_, refl, sym, _∙_, ap}
 use mathlib.Core.List.{List, [], _∷_, _++_}
@@ -15,8 +15,11 @@ use Rattle.definition_scripts.proofs.literals.ListOne.{list-one}
 use Rattle.definition_scripts.proofs.listing.ListingOne.{fields-one}
 use Rattle.definition_replay.specs.Replay.{replayNumbers, replayNumbersOf}
 use Rattle.definition_replay.proofs.replay.ReplayOne.{replay-one}
+use Rattle.definition_formed.specs.Formed.{Lent}
+use Rattle.definition_revisions.specs.Revisions.{compareInto, compareNumbers}
+use Rattle.definition_revisions.proofs.laws.Told.{compare-one}
 use Rattle.twelve.specs.Twelve.{twelve}
-use Rattle.stumpgarret.specs.Calls.{CallIs, ListIs, FieldsIs, ReplayIs}
+use Rattle.stumpgarret.specs.Calls.{CallIs, ListIs, FieldsIs, ReplayIs, CompareIs}
 
 zeros-word : (n k : ℕ) → word (replicate n 0) k ≡ 0
 zeros-word zero k = refl
@@ -76,3 +79,11 @@ replays-one look look′ script ns trace words text output script′ ns′ trace
       sym (c .text-left) ∙ c′ .text-left,
       sym (c .output-left) ∙ c′ .output-left,
     )
+
+pub comparisons-one : (x y x′ y′ : Lent) (buffer buffer′ answer left : List ℕ) → CompareIs (compareInto x y buffer) answer left → CompareIs (compareInto x′ y′ buffer′) answer left
+    → compareInto x y buffer .outcome ≡ compareInto x′ y′ buffer′ .outcome
+comparisons-one x y x′ y′ buffer buffer′ answer left c c′ =
+    compare-one x y x′ y′ buffer buffer′
+    (λ k. sym (twelve-word (compareNumbers (compareInto x y buffer .outcome)) k)
+    ∙ ap (λ l. word l k) (sym (c .numbered) ∙ c′ .numbered)
+    ∙ twelve-word (compareNumbers (compareInto x′ y′ buffer′ .outcome)) k)

@@ -8,6 +8,7 @@ use Rattle.definition_scripts.specs.Literals.{ListCall, listNumbers}
 use Rattle.definition_scripts.specs.Listing.{FieldsCall, fieldsNumbers}
 use Rattle.definition_names.specs.Names.{BuildCall, indexNumbers}
 use Rattle.definition_replay.specs.Replay.{ReplayCall, replayNumbersOf}
+use Rattle.definition_revisions.specs.Revisions.{CompareCall, compareNumbers}
 use Rattle.twelve.specs.Twelve.{twelve}
 
 -- a call of the definition: the twelve numbers, and both buffers afterwards
@@ -42,3 +43,8 @@ pub record ReplayIs (call : ReplayCall) (answer words text output : List ℕ) : 
   pub words-left : words ≡ call .words
   pub text-left : text ≡ call .text
   pub output-left : output ≡ call .output
+
+-- the same of a call that compares two answers
+pub record CompareIs (call : CompareCall) (answer list : List ℕ) : Type 0 where
+  pub numbered : answer ≡ twelve (compareNumbers (call .outcome))
+  pub list-left : list ≡ call .list

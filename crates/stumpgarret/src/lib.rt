@@ -3,6 +3,7 @@ use listing::list_fields;
 use listing::list_named;
 use literals::list_literals;
 use replay::replay_trace;
+use revisions::compare;
 use strings::parse_named;
 use strings::parse_searched;
 use strings::parse_signs;
@@ -17,8 +18,10 @@ ghost use Rattle.definition_names.specs.Names.{check, buildInto, indexNumbers, 
 ghost use Rattle.definition_names.specs.NamedReading.{namedNumbers, fieldsNamedInto};
 ghost use Rattle.definition_replay.specs.SpecNumbers.{specNumbers};
 ghost use Rattle.definition_replay.specs.Replay.{replayNumbers};
+ghost use Rattle.definition_formed.specs.Formed.{lent};
+ghost use Rattle.definition_revisions.specs.Revisions.{compareInto};
 ghost use Rattle.twelve.specs.Twelve.{twelve};
-ghost use Rattle.stumpgarret.specs.Calls.{CallIs, SignsIs, ListIs, FieldsIs, IndexIs, ReplayIs};
+ghost use Rattle.stumpgarret.specs.Calls.{CallIs, SignsIs, ListIs, FieldsIs, IndexIs, ReplayIs, CompareIs};
 
 // Reads the literals whose numbers are listed, six for each, from a script into both buffers, and answers in twelve numbers.
 #[no_mangle]
@@ -152,4 +155,22 @@ pub extern "C" fn stumpgarret_spec(spec: &[u8], answer: &mut [u32; 12])
     ensures { λ _. ⌜ now (answer .exit) ≡ specNumbers (now (spec .entry)) ⌝ }
 {
     *answer = formats::tell(spec);
+}
+
+// Compares two answers that were read, each lent as its words, its text and the twelve numbers of its reading, lists what lies between by item number, and answers
+// in twelve numbers.
+#[no_mangle]
+pub extern "C" fn stumpgarret_compare(
+    words: &[u32],
+    text: &[u8],
+    reading: &[u32; 12],
+    others: &[u32],
+    other: &[u8],
+    figures: &[u32; 12],
+    list: &mut [u32],
+    answer: &mut [u32; 12],
+)
+    ensures { λ _. ⌜ CompareIs (compareInto (lent (now (reading .entry)) (now (words .entry)) (now (text .entry))) (lent (now (figures .entry)) (now (others .entry)) (now (other .entry))) (now (list .entry))) (now (answer .exit)) (now (list .exit)) ⌝ }
+{
+    *answer = twelve::of_comparison(compare(reading, words, text, figures, others, other, list));
 }

@@ -5,15 +5,20 @@ use names::Answer;
 use replay::Replay;
 use strings::Outcome;
 ghost use mathlib.Core.Path.{_≡_};
+ghost use Prim.Native.Nat.{_-_};
+ghost use Rattle.definition_revisions.specs.Revisions.{compareNumbers};
 ghost use Rattle.strings.specs.Strings.{says};
 ghost use Rattle.literals.specs.Answers as listing;
 ghost use Rattle.listing.specs.Answers as fields;
 ghost use Rattle.replay.specs.Answers as replays;
+ghost use Rattle.revisions.specs.Answers as comparisons;
 ghost use Rattle.twelve.specs.Twelve.{twelve, indexSays};
 
 const SCRIPT_TOO_LONG: u32 = 49;
 
 const TOO_LITTLE_LIST_ROOM: u32 = 53;
+
+const NO_MIDDLE_ROOM: u32 = 59;
 
 // An outcome's numbers, and zeros up to twelve.
 pub fn of_reading(o: Outcome) -> [u32; 12]
@@ -105,5 +110,43 @@ pub fn of_replay(x: Replay) -> [u32; 12]
         ],
         Replay::Unread(r) => of_reading(Outcome::Refused(r)),
         Replay::Stopped(s) => [s.number, 0, 0, 0, 0, 0, 0, 0, 0, s.told, 0, 0],
+    }
+}
+
+// How many of so many items lie between front and back.
+fn between(items: u32, front: u32, back: u32) -> u32
+    ensures { λ r. ⌜ r ≡ items - front - back ⌝ }
+{
+    if items < front {
+        return 0;
+    }
+    let rest = items - front;
+    if rest < back {
+        return 0;
+    }
+    rest - back
+}
+
+// A comparison's numbers, and zeros up to twelve.
+pub fn of_comparison(x: revisions::Answer) -> [u32; 12]
+    ensures { λ r. ⌜ r ≡ twelve (compareNumbers (comparisons.says x)) ⌝ }
+{
+    match x {
+        revisions::Answer::Compares(c) => [
+            0,
+            c.front,
+            c.back,
+            c.first,
+            c.second,
+            between(c.first, c.front, c.back),
+            between(c.second, c.front, c.back),
+            0,
+            0,
+            0,
+            0,
+            0,
+        ],
+        revisions::Answer::Refused(number) => [number, 0, 0, 0, 0, 0, 0, 0, 0, 0, 0, 0],
+        revisions::Answer::Short(needed) => [NO_MIDDLE_ROOM, 0, 0, 0, 0, 0, 0, 0, 0, needed, 0, 0],
     }
 }

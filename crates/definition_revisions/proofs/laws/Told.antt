@@ -111,34 +111,32 @@ compare-told x y buffer =
     (λ e. rw e (ill-first e))
 
 -- ONE OUTCOME: calls that return the same numbers have one
-other-numbers : {P : Type 0} (m n : ℕ) (ms ns : List ℕ) → (m ≡ n → ⊥) → m ∷ ms ≡ n ∷ ns → P
-other-numbers m n ms ns h e = let z : m ≡ n = cc in absurd (h z)
-
-pub one-comparison : (c d : Comparison) → compareNumbers (compares c) ≡ compareNumbers (compares d) → c ≡ d
-unfolding compareNumbers
-one-comparison c d e = λ i. record { front = getD (e i) 1 0; back = getD (e i) 2 0; first = getD (e i) 3 0; second = getD (e i) 4 0 }
+abbrev SameNumbers : Comparing → Comparing → Type 0
+SameNumbers o o′ = (k : ℕ) → word (compareNumbers o) k ≡ word (compareNumbers o′) k
 
 module _ {x y x′ y′ : Lent} {b b′ : List ℕ} where
-  pub one-told : (o o′ : Comparing) → Told x y b o → Told x′ y′ b′ o′ → compareNumbers o ≡ compareNumbers o′ → o ≡ o′
+  one-told : (o o′ : Comparing) → Told x y b o → Told x′ y′ b′ o′ → SameNumbers o o′ → o ≡ o′
   unfolding compareNumbers
   one-told o o′ (ill-first e) (ill-first e′) h = refl
   one-told o o′ (ill-second e f) (ill-second e′ f′) h = refl
-  one-told o o′ (no-room e f g) (no-room e′ f′ g′) h = λ i. short (getD (h i) 9 0)
-  one-told o o′ (all-well e f g) (all-well e′ f′ g′) h = ap compares (one-comparison (comparison (itemsOf x) (itemsOf y)) (comparison (itemsOf x′) (itemsOf y′)) h)
-  one-told o o′ (ill-first e) (ill-second e′ f′) h = other-numbers _ _ _ _ (λ z. omega arith) h
-  one-told o o′ (ill-first e) (no-room e′ f′ g′) h = other-numbers _ _ _ _ (λ z. omega arith) h
-  one-told o o′ (ill-first e) (all-well e′ f′ g′) h = other-numbers _ _ _ _ (λ z. omega arith) h
-  one-told o o′ (ill-second e f) (ill-first e′) h = other-numbers _ _ _ _ (λ z. omega arith) h
-  one-told o o′ (ill-second e f) (no-room e′ f′ g′) h = other-numbers _ _ _ _ (λ z. omega arith) h
-  one-told o o′ (ill-second e f) (all-well e′ f′ g′) h = other-numbers _ _ _ _ (λ z. omega arith) h
-  one-told o o′ (no-room e f g) (ill-first e′) h = other-numbers _ _ _ _ (λ z. omega arith) h
-  one-told o o′ (no-room e f g) (ill-second e′ f′) h = other-numbers _ _ _ _ (λ z. omega arith) h
-  one-told o o′ (no-room e f g) (all-well e′ f′ g′) h = other-numbers _ _ _ _ (λ z. omega arith) h
-  one-told o o′ (all-well e f g) (ill-first e′) h = other-numbers _ _ _ _ (λ z. omega arith) h
-  one-told o o′ (all-well e f g) (ill-second e′ f′) h = other-numbers _ _ _ _ (λ z. omega arith) h
-  one-told o o′ (all-well e f g) (no-room e′ f′ g′) h = other-numbers _ _ _ _ (λ z. omega arith) h
+  one-told o o′ (no-room e f g) (no-room e′ f′ g′) h = ap short (h 9)
+  one-told o o′ (all-well e f g) (all-well e′ f′ g′) h = λ i. compares (record { front = h 1 i; back = h 2 i; first = h 3 i; second = h 4 i })
+  one-told o o′ (ill-first e) (ill-second e′ f′) h = let z = h 0 in absurd (omega arith)
+  one-told o o′ (ill-first e) (no-room e′ f′ g′) h = let z = h 0 in absurd (omega arith)
+  one-told o o′ (ill-first e) (all-well e′ f′ g′) h = let z = h 0 in absurd (omega arith)
+  one-told o o′ (ill-second e f) (ill-first e′) h = let z = h 0 in absurd (omega arith)
+  one-told o o′ (ill-second e f) (no-room e′ f′ g′) h = let z = h 0 in absurd (omega arith)
+  one-told o o′ (ill-second e f) (all-well e′ f′ g′) h = let z = h 0 in absurd (omega arith)
+  one-told o o′ (no-room e f g) (ill-first e′) h = let z = h 0 in absurd (omega arith)
+  one-told o o′ (no-room e f g) (ill-second e′ f′) h = let z = h 0 in absurd (omega arith)
+  one-told o o′ (no-room e f g) (all-well e′ f′ g′) h = let z = h 0 in absurd (omega arith)
+  one-told o o′ (all-well e f g) (ill-first e′) h = let z = h 0 in absurd (omega arith)
+  one-told o o′ (all-well e f g) (ill-second e′ f′) h = let z = h 0 in absurd (omega arith)
+  one-told o o′ (all-well e f g) (no-room e′ f′ g′) h = let z = h 0 in absurd (omega arith)
 
-pub compare-one : (x y x′ y′ : Lent) (b b′ : List ℕ) → compareNumbers (compareInto x y b .outcome) ≡ compareNumbers (compareInto x′ y′ b′ .outcome) → compareInto x y b .outcome ≡ compareInto x′ y′ b′ .outcome
+pub compare-one : (x y x′ y′ : Lent) (b b′ : List ℕ)
+    → ((k : ℕ) → word (compareNumbers (compareInto x y b .outcome)) k ≡ word (compareNumbers (compareInto x′ y′ b′ .outcome)) k)
+    → compareInto x y b .outcome ≡ compareInto x′ y′ b′ .outcome
 compare-one x y x′ y′ b b′ h = one-told (compareInto x y b .outcome) (compareInto x′ y′ b′ .outcome) (compare-told x y b) (compare-told x′ y′ b′) h
 
 -- WHAT EVERY COMPARISON LEAVES IN THE LIST BUFFER: zeros after a refusal, and behind both middles what was there
