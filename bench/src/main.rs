@@ -10,6 +10,7 @@
 #[allow(dead_code)]
 #[path = "../../bindings/rust/src/call.rs"]
 mod call;
+mod compare;
 mod inputs;
 mod listing;
 mod names;
@@ -72,6 +73,7 @@ fn main() {
     }
     listing::measure(&std::fs::read(scripts).expect("the scripts can be read"));
     replay::measure(&std::fs::read(trace).expect("the trace can be read"));
+    compare::measure();
     if let Some(names) = argument(5) {
         names::measure(&std::fs::read(names).expect("the file of names can be read"));
     }

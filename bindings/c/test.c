@@ -1138,6 +1138,108 @@ static void refuses_replays(void)
     }
 }
 
+/* What one reading left: its words, its text and its numbers. */
+struct revision {
+    uint32_t words[WORDS], numbers[STUMPGARRET_ANSWER_NUMBERS];
+    uint8_t text[TEXT];
+};
+
+static struct revision read_alone(const char *script, uint32_t kind, uint32_t prefix)
+{
+    struct revision left;
+    uint32_t length = (uint32_t)strlen(script);
+    const uint32_t literal[] = {kind, 0, prefix + 1, length - prefix - 2, 0, length};
+    memset(&left, FILL, sizeof left);
+    stumpgarret_read((const uint8_t *)script, length, literal, COUNT(literal), left.words, WORDS,
+                     left.text, TEXT, left.numbers);
+    return left;
+}
+
+static uint32_t list[WORDS];
+
+/* Compares two readings with so much room: these twelve numbers, the list, and nothing else changed. */
+static void compare_with(const struct revision *a, const struct revision *b, size_t room,
+                         const uint32_t *numbers, size_t count, const uint32_t *middles)
+{
+    memset(list, FILL, sizeof list);
+    memset(answer, FILL, sizeof answer);
+    stumpgarret_compare(a->words, WORDS, a->text, TEXT, a->numbers, b->words, WORDS, b->text, TEXT,
+                        b->numbers, list, room, answer);
+    numbers_are("answer", answer, numbers, count);
+    filled("byte of the answer", answer, count * sizeof *answer, sizeof answer, 0);
+    size_t written = answer[STUMPGARRET_COMPARE_FIRST_MIDDLE] + answer[STUMPGARRET_COMPARE_SECOND_MIDDLE];
+    if (answer[STUMPGARRET_ANSWER_NUMBER]) {
+        filled("byte of the list", list, 0, room * sizeof *list, 0);
+        written = room;
+    } else {
+        numbers_are("list", list, middles, written);
+    }
+    filled("byte of the list", list, written * sizeof *list, sizeof list, FILL);
+}
+
+static void compares(void)
+{
+    struct revision old = read_alone("f'VDD {mv:>6,} mV {code:#06x}'", STUMPGARRET_FSTRING, 1);
+    struct revision edited = read_alone("f'VDD {mv:>8,}{unit!r} {code:#06x}'", STUMPGARRET_FSTRING, 1);
+    static const uint32_t numbers[] = {STUMPGARRET_ACCEPTED, 1, 1, 4, 5, 2, 3};
+    static const uint32_t middles[] = {1, 2, 1, 2, 3};
+    compare_with(&old, &edited, 5, numbers, COUNT(numbers), middles);
+    compare_with(&old, &edited, WORDS, numbers, COUNT(numbers), middles);
+    static const uint32_t other_way[] = {STUMPGARRET_ACCEPTED, 1, 1, 5, 4, 3, 2};
+    static const uint32_t other_middles[] = {1, 2, 3, 1, 2};
+    compare_with(&edited, &old, WORDS, other_way, COUNT(other_way), other_middles);
+    static const uint32_t same[] = {STUMPGARRET_ACCEPTED, 4, 0, 4, 4, 0, 0};
+    compare_with(&old, &old, 0, same, COUNT(same), NULL);
+
+    /* the sort does not count, a bytes record is no literal, and it need not be UTF-8 */
+    struct revision plain = read_alone("'ab'", STUMPGARRET_STRING, 0);
+    struct revision joined = read_alone("f'ab'", STUMPGARRET_FSTRING, 1);
+    struct revision bytes = read_alone("b'\\xff'", STUMPGARRET_BYTES, 1);
+    static const uint32_t one[] = {STUMPGARRET_ACCEPTED, 1, 0, 1, 1, 0, 0};
+    compare_with(&plain, &joined, 0, one, COUNT(one), NULL);
+    compare_with(&bytes, &bytes, 0, one, COUNT(one), NULL);
+    static const uint32_t none[] = {STUMPGARRET_ACCEPTED, 0, 0, 1, 1, 1, 1};
+    static const uint32_t first_of_each[] = {0, 0};
+    compare_with(&plain, &bytes, 2, none, COUNT(none), first_of_each);
+
+    /* 57 before 58 before 59 */
+    static const uint32_t first_ill[] = {STUMPGARRET_FIRST_ILL_FORMED};
+    static const uint32_t second_ill[] = {STUMPGARRET_SECOND_ILL_FORMED};
+    struct revision ill = old;
+    ill.words[STUMPGARRET_RECORD_PARTS] = 1;
+    compare_with(&ill, &ill, WORDS, first_ill, 1, NULL);
+    compare_with(&old, &ill, 0, second_ill, 1, NULL);
+    ill = old;
+    ill.numbers[STUMPGARRET_ANSWER_NUMBER] = STUMPGARRET_SINGLE_RBRACE;
+    compare_with(&ill, &old, 3, first_ill, 1, NULL);
+    ill = old;
+    ill.text[0] = 0xFF;
+    compare_with(&old, &ill, 3, second_ill, 1, NULL);
+    for (uint32_t room = 0; room < 5; room++) {
+        static const uint32_t needed[] = {
+            STUMPGARRET_TOO_LITTLE_MIDDLE_ROOM, 0, 0, 0, 0, 0, 0, 0, 0, 5,
+        };
+        compare_with(&old, &edited, room, needed, COUNT(needed), NULL);
+    }
+    if (answer[STUMPGARRET_COMPARE_NEEDED] != 5)
+        fail("number", STUMPGARRET_COMPARE_NEEDED, answer[STUMPGARRET_COMPARE_NEEDED], 5);
+
+    /* ranges, places and u marks do not count */
+    struct revision moved = old;
+    moved.words[STUMPGARRET_RECORD_MARK] = 1;
+    moved.words[STUMPGARRET_RECORD_PLACE] = 9;
+    moved.words[STUMPGARRET_RECORD_WORDS + STUMPGARRET_RECORD_START] = 7;
+    compare_with(&old, &moved, 0, same, COUNT(same), NULL);
+    compare_with(&old, &edited, 5, numbers, COUNT(numbers), middles);
+    const uint32_t by_name[] = {
+        answer[STUMPGARRET_ANSWER_NUMBER],        answer[STUMPGARRET_COMPARE_FRONT],
+        answer[STUMPGARRET_COMPARE_BACK],         answer[STUMPGARRET_COMPARE_FIRST],
+        answer[STUMPGARRET_COMPARE_SECOND],       answer[STUMPGARRET_COMPARE_FIRST_MIDDLE],
+        answer[STUMPGARRET_COMPARE_SECOND_MIDDLE],
+    };
+    numbers_are("named number", by_name, numbers, COUNT(by_name));
+}
+
 int main(void)
 {
     reads_two();
@@ -1163,6 +1265,7 @@ int main(void)
     tells_specs();
     replays();
     refuses_replays();
+    compares();
     printf("bindings/c: %d checks passed\n", checks);
     return 0;
 }

@@ -1,7 +1,8 @@
 /* Lists every formatted field of a whole Python script; reads runs of its string literals to records:
    texts, formatted fields, format specs; tells where the signs of each field stand; lists the
    literals of a script from an offset on; takes the names of characters from a file that is lent;
-   reads format specs; and replays recorded readings through a template.
+   reads format specs; replays recorded readings through a template; and compares two revisions of
+   such a run.
    For C99 and C++11 on x86-64 Linux:
 
        cc -I bindings/include program.c target/staticlib/libstumpgarret.a
@@ -165,6 +166,12 @@ enum stumpgarret_refusal {
                                             literal starts */
     STUMPGARRET_NO_LITERAL = 52,        /* at the offset, which is the place */
     STUMPGARRET_TOO_LITTLE_LIST_ROOM = 53, /* see STUMPGARRET_LIST_NEEDED */
+
+    /* Of stumpgarret_compare, in this order, with all else of the answer 0 but what 59 needs. */
+    STUMPGARRET_FIRST_ILL_FORMED = 57,  /* the first answer is none of an accepted reading's: by its
+                                           numbers, the record rules, or a text that is not UTF-8 */
+    STUMPGARRET_SECOND_ILL_FORMED = 58, /* the second one is not */
+    STUMPGARRET_TOO_LITTLE_MIDDLE_ROOM = 59, /* see STUMPGARRET_COMPARE_NEEDED */
 
     /* Of the calls that are lent a file of names, with no literal, no place and no details. 60 is told
        of the whole file, then 61, then 62 or 63. */
@@ -486,6 +493,50 @@ void stumpgarret_replay(const uint8_t *script, size_t script_length,
                         uint8_t *text, size_t text_length,
                         uint8_t *output, size_t output_length,
                         uint32_t answer[STUMPGARRET_ANSWER_NUMBERS]);
+
+/* The answer of stumpgarret_compare. */
+enum stumpgarret_compare_answer {
+    STUMPGARRET_COMPARE_FRONT = 1,     /* how many items are equal in front */
+    STUMPGARRET_COMPARE_BACK,          /* and of the others how many behind */
+    STUMPGARRET_COMPARE_FIRST,         /* how many items the first answer has */
+    STUMPGARRET_COMPARE_SECOND,        /* and the second */
+    STUMPGARRET_COMPARE_FIRST_MIDDLE,  /* how many of the first lie between */
+    STUMPGARRET_COMPARE_SECOND_MIDDLE, /* and of the second */
+
+    STUMPGARRET_COMPARE_NEEDED = 9     /* of 59 how many numbers the list needs; at most 4,294,967,295 */
+};
+
+/* Compares two answers that were read: the longest equal run of items in front, then the longest of
+   what remains at the back, and what lies between in each. A literal or bytes record at the top level
+   is an item, and a field with its spec and parts is one. Two items are equal if their kinds, texts,
+   conversions and parts are, whatever their places, ranges, u marks and sorts.
+
+   Each answer is lent as its words, its text and the twelve numbers of its reading, of which those at
+   0, 1, 5 and 6 are looked at: accepted, sort, records, text length. The buffers may be longer than the
+   answer. What stumpgarret_read and its kin accepted is always taken; any other answer, such as one
+   that was edited, is held against the rules: 57 or 58 if it breaks them. These are, as the records
+   above are described: buffers that hold so many records and text bytes; a sort of three, with one
+   LITERAL record if plain, one BYTES record if bytes, and none of these if joined; known kinds and
+   conversions; a SPEC with no text behind each field that has PARTS 1, and nowhere else; each spec's
+   parts behind it; texts without gaps, up to the text length; each text of UTF-8, but for bytes.
+
+   The list gets the item numbers, from 0, of the first answer's middle and then of the second's. Room
+   for a number for each record of both is always enough.
+
+   Afterwards: on acceptance the numbers stand in front in `list`, and what follows them is unchanged.
+   On refusal every number of it is 0. `answer` always gets twelve numbers.
+
+   The caller sees to the same as for stumpgarret_read: `list` and `answer` overlap neither each other
+   nor anything else that is passed; what is only read may overlap, and may be one answer twice. Any
+   words, bytes, numbers and lengths get an answer. */
+void stumpgarret_compare(const uint32_t *words, size_t words_length,
+                         const uint8_t *text, size_t text_length,
+                         const uint32_t reading[STUMPGARRET_ANSWER_NUMBERS],
+                         const uint32_t *other_words, size_t other_words_length,
+                         const uint8_t *other_text, size_t other_text_length,
+                         const uint32_t other_reading[STUMPGARRET_ANSWER_NUMBERS],
+                         uint32_t *list, size_t list_length,
+                         uint32_t answer[STUMPGARRET_ANSWER_NUMBERS]);
 
 #ifdef __cplusplus
 }

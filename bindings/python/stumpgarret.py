@@ -3,15 +3,16 @@
 
     python3 stumpgarret.py [fields] [--why] [--json] [--html FILE] [--names FILE] [--check] SCRIPT...
     python3 stumpgarret.py replay [--lf] SCRIPT:LINE[:COLUMN] TRACE
+    python3 stumpgarret.py compare OLD[:LINE[:COLUMN]] NEW[:LINE[:COLUMN]]
 
-`python3 stumpgarret.py --help` and `python3 stumpgarret.py replay --help` say what is printed, and what the exit status
-means. Any Python from 3.7 on will do.
+`python3 stumpgarret.py --help`, `python3 stumpgarret.py replay --help` and `python3 stumpgarret.py compare --help` say what
+is printed, and what the exit status means. Any Python from 3.7 on will do.
 
 In a program, `fields` gives the same list, or raises `Incomplete`; `list_script` gives what is refused as well.
 `rows` is the library's call behind both: every row of a whole script, by places. `read` reads one run of literals, and
 `literals` lists the adjacent literals of a script from an offset on. `Names` is a file of the names of characters, for
 those in `\\N{..}`: without one the library has fourteen. `replay` puts the rows of a recorded trace into the fields of a
-template, and `Spec` has the parts of a format spec.
+template, and `Spec` has the parts of a format spec. `compare` tells where two answers of `read` differ.
 
     >>> import stumpgarret
     >>> for field in stumpgarret.fields("print(f'{mv / 12.5:.0f} {n!r}')", "bench.py"):
@@ -219,6 +220,21 @@ class Answer:
     chars: int
 
 
+@dataclass(frozen=True)
+class Comparison:
+    """How two answers differ: so many items are equal in front, of the others so many behind, and `first` and `second` are the
+    numbers, from 0, of the items between on each side. An item is what stands in `records` of an `Answer`."""
+
+    front: int
+    back: int
+    first: range
+    second: range
+
+    @property
+    def equal(self) -> bool:
+        return not (self.first or self.second)
+
+
 # Each refusal's number, its name, and what it means where the name does not say so; {0} and {1} are the details, and
 # {unclosed} is what `UNCLOSED` says of the first.
 REFUSALS = {
@@ -249,6 +265,9 @@ REFUSALS = {
     51: ("newline in a literal of one quote", ""),
     52: ("no literal at the offset", ""),
     53: ("list buffer too short", ""),
+    57: ("first answer not well formed", "its sort, kinds, conversions, parts or texts are none that a reading gives"),
+    58: ("second answer not well formed", "its sort, kinds, conversions, parts or texts are none that a reading gives"),
+    59: ("middle buffer too short", "the list needs {told} numbers"),
     60: ("line malformed", "a line of the file of names is malformed or not ended, or a name's code is no scalar value"),
     61: ("name twice", "a name stands twice in the file of names"),
     62: ("index buffer too short", "the index has no room, or the file of names has 2^32 bytes or more"),
@@ -274,6 +293,7 @@ IN_A_BODY = range(10, 29)
 NEVER_CLOSED = 50, 51
 READ_OTHERWISE = 75
 OF_A_LIST = *range(49, 54), READ_OTHERWISE
+OF_A_COMPARISON = range(57, 60)
 OF_NAMES = range(60, 64)
 NO_LINE_ROOM = 73
 OF_A_REPLAY = range(68, 74)
@@ -291,7 +311,7 @@ UNCLOSED = {
 
 
 class Refusal(Exception):
-    """The library refused a run, a file of names, or a trace: a number of `REFUSALS` and its name, the index of the literal
+    """The library refused a run, a file of names, a trace, or a comparison: a number of `REFUSALS` and its name, the index of the literal
     from 0, the place, two details, the place's line and column in the literal's body, both from 0, the place just after
     the bracket that is closed by another, how many characters were read, and what is told of a replay: the field or the
     row, from 0, or the bytes that are needed. What has no literal, place, details, line, column, bracket, characters or
@@ -332,7 +352,7 @@ class Refusal(Exception):
         return line + self.line, self.column + (1 if self.line else column)
 
     def __str__(self) -> str:
-        if self.number in OF_NAMES:
+        if self.number in OF_NAMES or self.number in OF_A_COMPARISON:
             return f"refused: {self.meaning}"
         if self.number in OF_A_REPLAY:
             at = f" at {TELLS[self.number]} {self.told}" if self.number in TELLS else ""
@@ -529,6 +549,56 @@ def replay(script: bytes | str, literals: Iterable[Literal], trace: bytes | str)
     return Replay(answer[9], output[: answer[10]])
 
 
+def compare(first: Answer, second: Answer) -> Comparison:
+    """Where two answers differ: the longest equal run of items in front, then the longest behind it at the end, and what lies
+    between. Items are equal if their kinds, texts, conversions and specs are, whatever their places, ranges and u marks.
+
+    Raises `Refusal` 57 or 58 for an answer that is none of `read`'s and breaks the rules of records.
+
+    >>> old, new = (read(line, literals(line, 0).literals) for line in ("f'{mv:>6,} mV'", "f'{mv:>8,} mV'"))
+    >>> compare(old, new)
+    Comparison(front=0, back=1, first=range(0, 1), second=range(0, 1))
+    """
+    sides = [_lent_answer(first), _lent_answer(second)]
+    lent = [part for words, text, reading in sides for part in (words, len(words), text, len(text), reading)]
+    numbers = (ctypes.c_uint32 * sum(len(words) // WORDS_OF_A_RECORD for words, _, _ in sides))()
+    answer = (ctypes.c_uint32 * 12)()
+    _function("compare")(*lent, numbers, len(numbers), answer)
+    if answer[0]:
+        raise _refusal(list(answer))
+    _, front, back, of_first, of_second, *_ = answer
+    return Comparison(front, back, range(front, of_first - back), range(front, of_second - back))
+
+
+def _lent_answer(answer: Answer) -> tuple[ctypes.Array, bytes, ctypes.Array]:
+    """Words, text and numbers of an answer, as they are lent to be compared; what does not count is 0."""
+    if not isinstance(answer, Answer):
+        raise TypeError(f"an Answer is wanted, not {_type(answer)}")
+    words, text = array.array("I"), bytearray()
+    for record in answer.records:
+        _lend(record, words, text)
+    reading = [0, answer.sort, 0, 0, 0, len(words) // WORDS_OF_A_RECORD, len(text), 0, 0, 0, 0, 0]
+    return (ctypes.c_uint32 * len(words)).from_buffer_copy(words), bytes(text), (ctypes.c_uint32 * 12)(*reading)
+
+
+def _lend(record: Text | Field | Bytes, words: array.array, text: bytearray) -> None:
+    """Adds the words and the text of a record, and of its spec."""
+    if isinstance(record, Text):
+        kind, own, conversion, spec = 1, _bytes(record.text, "a text"), None, None
+    elif isinstance(record, Field):
+        kind, own, conversion, spec = 2, _bytes(record.expression, "an expression"), record.conversion, record.spec
+    elif isinstance(record, Bytes):
+        kind, own, conversion, spec = 4, _undecoded(record.value, "a value"), None, None
+    else:
+        raise TypeError(f"a Text, a Field or Bytes is wanted, not {_type(record)}")
+    words.extend([kind, len(text), len(own), 0, 0, ord(conversion) if conversion else 0, int(spec is not None), 0])
+    text += own
+    if spec is not None:
+        words.extend([3, len(text), 0, 0, 0, 0, len(spec), 0])
+        for part in spec:
+            _lend(part, words, text)
+
+
 def _refusal(answer: list[int]) -> Refusal:
     number, literal, place, a, b, opened, line, column, chars, told, *_ = answer
     return Refusal(number, literal, place, (a, b), line, column, opened, chars, told)
@@ -722,6 +792,7 @@ CALLS = {
     ),
     "fields_named": [TEXT, LENGTH, TEXT, LENGTH, NUMBERS, LENGTH, NUMBERS, LENGTH, NUMBERS],
     "spec": [TEXT, LENGTH, NUMBERS],
+    "compare": [NUMBERS, LENGTH, TEXT, LENGTH, NUMBERS] * 2 + [NUMBERS, LENGTH, NUMBERS],
     "replay": [TEXT, LENGTH, NUMBERS, LENGTH, TEXT, LENGTH, NUMBERS, LENGTH, TEXT, LENGTH, TEXT, LENGTH, NUMBERS],
 }
 
@@ -1077,6 +1148,10 @@ def main(arguments: list[str] | None = None) -> int:
         import stumpgarret_replay
 
         return stumpgarret_replay.main(arguments[1:])
+    if arguments[:1] == ["compare"]:
+        import stumpgarret_compare
+
+        return stumpgarret_compare.main(arguments[1:])
     given = _arguments(arguments[1:] if arguments[:1] == ["fields"] else arguments)
     for stream in (sys.stdout, sys.stderr):
         if isinstance(stream, io.TextIOWrapper):
@@ -1096,7 +1171,8 @@ def _arguments(arguments: list[str]) -> argparse.Namespace:
     parser = argparse.ArgumentParser(
         prog="stumpgarret",
         usage="%(prog)s [fields] [--why] [--json] [--html FILE] [--names FILE] [--check] SCRIPT...\n"
-        "       %(prog)s replay [--lf] SCRIPT:LINE[:COLUMN] TRACE   (%(prog)s replay --help)",
+        "       %(prog)s replay [--lf] SCRIPT:LINE[:COLUMN] TRACE   (%(prog)s replay --help)\n"
+        "       %(prog)s compare OLD[:LINE[:COLUMN]] NEW[:LINE[:COLUMN]]   (%(prog)s compare --help)",
         description=DESCRIPTION,
         epilog=EPILOG,
         formatter_class=argparse.RawDescriptionHelpFormatter,

@@ -81,6 +81,10 @@ class Server:
     def spec(self, spec, spec_length, answer):
         self.ask(struct.pack("<4I", 2**32 - 9, spec_length, 0, 0) + spec[:spec_length], answer)
 
+    def compare(self, words, _1, text, _2, reading, others, _3, other, _4, figures, numbers, _5, answer):
+        lent = [(ctypes.c_uint32 * 24)(*reading, *figures), words, text, others, other, numbers]
+        self.ask(struct.pack("<7I", 2**32 - 10, *map(len, lent)) + b"".join(map(bytes, lent)), answer, numbers)
+
     def ask_named(self, verb, lent, *written):
         self.ask(struct.pack("<7I", verb, *map(len, lent)) + b"".join(map(bytes, lent)), *written)
 

@@ -267,7 +267,7 @@ class Install(Copy):
 
     def test_files(self):
         self.assertEqual((self.status, self.err, self.unchanged), (0, "", True))
-        modules = ["stumpgarret.py", "stumpgarret_page.py", "stumpgarret_replay.py", "libstumpgarret.so"]
+        modules = ["stumpgarret.py", "stumpgarret_compare.py", "stumpgarret_page.py", "stumpgarret_replay.py", "libstumpgarret.so"]
         files = ["bin/stumpgarret", *(f"lib/stumpgarret/{name}" for name in modules), "lib/libstumpgarret.a"]
         files += ["include/stumpgarret.h", "share/doc/stumpgarret/NOTICE", self.wheel.relative_to(self.prefix)]
         said = self.out.splitlines()

@@ -14,6 +14,7 @@ from stumpgarret import Answer, Bytes, Field, Kind, Literal, Reason, Refusal, Si
 expected = load("crates/try_readings/expected.py")
 expected.fill_cases()
 NO_ROOM = 30, 31
+OF_OTHER_CALLS = {*stumpgarret.OF_A_LIST, *stumpgarret.OF_A_COMPARISON, *stumpgarret.OF_NAMES, *stumpgarret.OF_A_REPLAY}
 
 
 def script_of(pieces):
@@ -80,7 +81,7 @@ class Rows(unittest.TestCase):
             with self.subTest(numbers=numbers[:12]):
                 met.add(answer[0])
                 self.compare(script_of(pieces), literals, answer, words, text)
-        self.assertEqual(met, {0, *stumpgarret.REFUSALS} - {2, *NO_ROOM, *stumpgarret.OF_A_LIST, *stumpgarret.OF_NAMES, *stumpgarret.OF_A_REPLAY})
+        self.assertEqual(met, {0, *stumpgarret.REFUSALS} - {2, *NO_ROOM, *OF_OTHER_CALLS})
 
     def compare(self, script, literals, answer, words, text):
         if answer[0] == 0:
@@ -95,8 +96,7 @@ class Rows(unittest.TestCase):
         self.assertEqual(numbers, answer)
 
     def test_numbers(self):
-        others = {*stumpgarret.OF_A_LIST, *stumpgarret.OF_NAMES, *stumpgarret.OF_A_REPLAY}
-        self.assertEqual(set(stumpgarret.REFUSALS) - others, expected.NUMBERS)
+        self.assertEqual(set(stumpgarret.REFUSALS) - OF_OTHER_CALLS, expected.NUMBERS)
 
 
 class Answers(unittest.TestCase):
@@ -173,7 +173,7 @@ class Answers(unittest.TestCase):
     def test_every_refusal_has_words(self):
         for number in stumpgarret.REFUSALS:
             at = " in literal 0 at 3.*"
-            if number in (*stumpgarret.OF_NAMES, *stumpgarret.OF_A_REPLAY):
+            if number in OF_OTHER_CALLS - {*stumpgarret.OF_A_LIST}:
                 at = f" at {stumpgarret.TELLS[number]} 0" if number in stumpgarret.TELLS else ""
             self.assertRegex(str(Refusal(number, 0, 3, (40, 41))), f"^refused{at}: {number} [^{{}}]+")
         self.assertRegex(str(Refusal(99, 0, 3, (0, 0))), ": 99 unknown to this module$")

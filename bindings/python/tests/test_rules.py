@@ -18,10 +18,11 @@ SPAN = re.compile(r"`([^`]+)`")
 CITED = re.compile(r"RULES (\d+(?:\.\d+)?)")
 FROM, ROOM, AT = re.compile(r"from (\d+)"), re.compile(r"room for (\d+) (?:numbers|bytes)"), re.compile(r"at (\d+)")
 LENT = re.compile(r"script '(.*)' list \[(.*)\](?: room (\d+) words, (\d+) bytes)?", re.DOTALL)
+LENT_ANSWER = re.compile(r"sort (\d+) words \[(.*)\] text '(.*)'", re.DOTALL)
 LENT_FILE = re.compile(r"file '(.*)' index \[(.*)\]", re.DOTALL)
 MARK = re.compile(r"<(?:(LF|CR|TAB|NUL)|([0-9A-F]{2})|U\+([0-9A-F]{4,6})|(\d+) times (.+?))>")
 CHARACTERS = {"LF": "\n", "CR": "\r", "TAB": "\t", "NUL": "\0"}
-FIRST_CHAPTER, REFUSALS, LAST_CHAPTER = 1, 11, 12
+FIRST_CHAPTER, REFUSALS, LAST_CHAPTER = 1, 11, 13
 NOT_OURS = ".git", "target"
 ROOM_FOR_ALL = 8192
 FILL = 7
@@ -113,6 +114,16 @@ def replay(script, listed, trace, room=ROOM_FOR_ALL):
     return list(answer), output.raw
 
 
+def compare(first, second, room=ROOM_FOR_ALL):
+    """Of two answers, each as its numbers, words and text."""
+    numbers, answer = numbers_of(room), numbers_of(12)
+    given = []
+    for reading, words, text in (first, second):
+        given += [(ctypes.c_uint32 * len(words))(*words), len(words), text, len(text), (ctypes.c_uint32 * 12)(*reading)]
+    stumpgarret._function("compare")(*given, numbers, room, answer)
+    return list(answer), list(numbers)
+
+
 def literals_of(script):
     """The numbers of literals that stand side by side, and nothing else with them."""
     answer, numbers = list_literals(script)
@@ -133,8 +144,8 @@ def in_words(numbers):
 
 
 def numbers_shown(answer, count):
-    """The first so many; the others must be 0. Of 53 the tenth is shown too."""
-    count = 10 if answer[0] == 53 else count
+    """The first so many; the others must be 0. Of 53 and 59 the tenth is shown too."""
+    count = 10 if answer[0] in (53, 59) else count
     if any(answer[count:]):
         raise ValueError(f"more numbers than are shown: {answer}")
     return in_words(answer[:count])
@@ -283,6 +294,31 @@ def written(answer, output):
     return refusal(answer) if answer[0] else output[: answer[10]].decode() or "nothing"
 
 
+def asked_compare(shown):
+    def ask(cell, spans):
+        return shown(*compare(*map(lent_answer, spans), room_of(SPAN.sub("", cell))))
+
+    return ask
+
+
+def lent_answer(span):
+    """What a source reads as, refused or not; or an answer that is given by its sort, words and text."""
+    given = LENT_ANSWER.fullmatch(span)
+    if not given:
+        script = plain(span)
+        return read(script, literals_of(script))
+    words, text = [int(word) for word in given[2].split()], plain(given[3])
+    return [0, int(given[1]), 0, 0, 0, len(words) // 8, len(text), 0, 0, 0, 0, 0], words, text
+
+
+def items(answer, numbers):
+    if answer[0]:
+        return f"refused: {answer[0]} of the {'second' if answer[0] == 58 else 'first'}"
+    of_first, of_second = answer[5:7]
+    first, second = numbers[:of_first], numbers[of_first : of_first + of_second]
+    return "front {}; back {}; first {}; second {}".format(*answer[1:3], *(in_words(side) or "none" for side in (first, second)))
+
+
 def room_of(cell):
     room = ROOM.search(cell)
     return int(room[1]) if room else ROOM_FOR_ALL
@@ -333,6 +369,8 @@ TABLES = {
     ("Spec", "Numbers"): lambda cell, spans: numbers_shown(tell_spec(plain(spans[0])), 12),
     ("Replay", "Lines"): asked_replay(written),
     ("Replay", "Numbers"): asked_replay(lambda answer, output: numbers_shown(answer, 11)),
+    ("Compare", "Items"): asked_compare(items),
+    ("Compare", "Numbers"): asked_compare(lambda answer, numbers: numbers_shown(answer, 7)),
     ("Body", "Line"): lambda cell, spans: lines(plain(spans[0])).rstrip("\n"),
 }
 ASKING = {headings[0] for headings in TABLES}

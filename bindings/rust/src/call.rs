@@ -98,6 +98,21 @@ extern "C" {
         output_length: usize,
         answer: *mut u32,
     );
+    fn stumpgarret_compare(
+        words: *const u32,
+        words_length: usize,
+        text: *const u8,
+        text_length: usize,
+        reading: *const u32,
+        other_words: *const u32,
+        other_words_length: usize,
+        other_text: *const u8,
+        other_text_length: usize,
+        other_reading: *const u32,
+        list: *mut u32,
+        list_length: usize,
+        answer: *mut u32,
+    );
 }
 
 pub(crate) fn read(
@@ -290,6 +305,32 @@ pub(crate) fn replay(
             text.len(),
             output.as_mut_ptr(),
             output.len(),
+            answer.as_mut_ptr(),
+        );
+    }
+    answer
+}
+
+/// An answer that is lent: its words, its text and the twelve numbers of its reading.
+pub(crate) type Lent<'a> = (&'a [u32], &'a [u8], [u32; ANSWER]);
+
+pub(crate) fn compare(first: Lent<'_>, second: Lent<'_>, list: &mut [u32]) -> [u32; ANSWER] {
+    let mut answer = [0; ANSWER];
+    // SAFETY: as above; the numbers of a reading are twelve.
+    unsafe {
+        stumpgarret_compare(
+            first.0.as_ptr(),
+            first.0.len(),
+            first.1.as_ptr(),
+            first.1.len(),
+            first.2.as_ptr(),
+            second.0.as_ptr(),
+            second.0.len(),
+            second.1.as_ptr(),
+            second.1.len(),
+            second.2.as_ptr(),
+            list.as_mut_ptr(),
+            list.len(),
             answer.as_mut_ptr(),
         );
     }

@@ -75,12 +75,15 @@
 //! [`replay`] puts the rows of a recorded trace into the fields of a template, a line for each, and
 //! [`Spec::parse`] tells the parts of a format spec.
 //!
+//! [`Answer::compare`] tells where two revisions of a run differ, item by item.
+//!
 //! Of the names of characters in `\N{..}` the library itself has fourteen. [`Names`] is a file with all
 //! of them, which [`fields_named`], [`parse_strings_named`], [`read_into_named`] and
 //! [`read_at_named`] take.
 
 mod answer;
 mod call;
+mod compare;
 mod listing;
 mod literal;
 mod names;
@@ -90,6 +93,7 @@ mod run;
 mod signs;
 
 pub use answer::{Answer, ConversionFlag, Field, Record, Records, Sort, Spec};
+pub use compare::Comparison;
 pub use listing::{fields, fields_named, Listed, ListedField, ListedRefusal, Listing, Row, Rows};
 pub use literal::{Literal, StringKind};
 pub use names::Names;

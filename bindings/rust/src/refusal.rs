@@ -2,7 +2,7 @@ use crate::call;
 use std::error::Error;
 use std::fmt;
 
-/// Why literals, a script, a file of names, a format spec or a trace were refused. Where rustpython-parser has such an error,
+/// Why literals, a script, a file of names, a format spec, a trace or a comparison were refused. Where rustpython-parser has such an error,
 /// the name is its.
 #[derive(Clone, Debug, PartialEq, Eq, Hash)]
 #[non_exhaustive]
@@ -65,6 +65,14 @@ pub enum Reason {
     /// The list buffer lent is too small; six numbers describe a literal. What the list needs is
     /// given.
     TooLittleListRoom {
+        numbers: usize,
+    },
+    /// The first of two answers compared is not well formed, which no [`Answer`](crate::Answer) is.
+    FirstIllFormed,
+    /// The second of two answers compared is not.
+    SecondIllFormed,
+    /// The list lent for what lies between is too small. What it needs is given.
+    TooLittleMiddleRoom {
         numbers: usize,
     },
     /// A line of a file of names is malformed or not ended, or a name's code is no scalar value: a
@@ -146,6 +154,11 @@ impl fmt::Display for Reason {
             Self::NewlineInLiteral => "a newline stands in a literal of one quote",
             Self::NoLiteral => "no literal stands there",
             Self::TooLittleListRoom { numbers } => {
+                return write!(f, "the list buffer is too small: {} numbers are needed", numbers)
+            }
+            Self::FirstIllFormed => "the first answer is not well formed",
+            Self::SecondIllFormed => "the second answer is not well formed",
+            Self::TooLittleMiddleRoom { numbers } => {
                 return write!(f, "the list buffer is too small: {} numbers are needed", numbers)
             }
             Self::LineMalformed => {
@@ -347,6 +360,9 @@ pub(crate) fn reason(number: u32, [a, b]: [u32; 2], needed: u32) -> Option<Reaso
         51 => Reason::NewlineInLiteral,
         52 => Reason::NoLiteral,
         53 => Reason::TooLittleListRoom { numbers: needed as usize },
+        57 => Reason::FirstIllFormed,
+        58 => Reason::SecondIllFormed,
+        59 => Reason::TooLittleMiddleRoom { numbers: needed as usize },
         60 => Reason::LineMalformed,
         61 => Reason::NameTwice,
         62 => Reason::TooLittleIndexRoom,
@@ -365,7 +381,7 @@ pub(crate) fn reason(number: u32, [a, b]: [u32; 2], needed: u32) -> Option<Reaso
 impl fmt::Display for Refusal {
     fn fmt(&self, f: &mut fmt::Formatter<'_>) -> fmt::Result {
         let Refusal { number, reason, literal, place, opened, line, column, .. } = self;
-        if (60..=73).contains(number) {
+        if (57..=73).contains(number) {
             return write!(f, "{} (refusal {})", reason, number);
         }
         write!(f, "{} (refusal {}, literal {}, place {}", reason, number, literal, place)?;

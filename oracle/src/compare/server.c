@@ -31,6 +31,11 @@
    Request for the parts of a format spec: u32 FFFFFFF7, u32 spec bytes, u32 0, u32 0, the spec.
    Answer: 12 u32.
 
+   Request for two answers compared: u32 FFFFFFF6, u32 24, u32 words and u32 text bytes of the first,
+   the same of the second, u32 numbers lent for the list; then the twelve numbers of both readings, and
+   all of these.
+   Answer: 12 u32, the list after the call.
+
    Requests may come together; what was answered goes out before more is waited for. */
 #include "../pipe.h"
 #include "stumpgarret.h"
@@ -39,7 +44,7 @@ enum { GUARD = 16, FILL = 0x5A };
 static const uint32_t LITERALS = UINT32_MAX, FIELDS = UINT32_MAX - 1, ROWS = UINT32_MAX;
 static const uint32_t BUILD = UINT32_MAX - 2, CHECK = UINT32_MAX - 3,
                       SEARCHED = UINT32_MAX - 5, FIELDS_NAMED = UINT32_MAX - 6;
-static const uint32_t REPLAY = UINT32_MAX - 7, SPEC = UINT32_MAX - 8;
+static const uint32_t REPLAY = UINT32_MAX - 7, SPEC = UINT32_MAX - 8, COMPARE = UINT32_MAX - 9;
 
 static void *lend(size_t size)
 {
@@ -251,6 +256,45 @@ static void answer_spec(const uint32_t head[4])
     give_back(spec, size, "the spec");
 }
 
+/* What is lent to a comparison, in the order in which it comes. */
+enum { READINGS, FIRST_WORDS, FIRST_TEXT, SECOND_WORDS, SECOND_TEXT, MIDDLES, COMPARE_LENT };
+
+static void answer_compare(const uint32_t head[4])
+{
+    static const char *const names[COMPARE_LENT] = {"the numbers",      "the first words",
+                                                    "the first text",   "the second words",
+                                                    "the second text",  "the list"};
+    uint32_t count[COMPARE_LENT];
+    memcpy(count, head + 1, 3 * sizeof *count);
+    take(count + 3, 3 * sizeof *count);
+    if (count[READINGS] != 24)
+        fail(4, "the numbers of two readings are 24");
+    size_t size[COMPARE_LENT];
+    void *lent[COMPARE_LENT], *before[COMPARE_LENT];
+    for (int i = 0; i < COMPARE_LENT; i++) {
+        size[i] = (i == FIRST_TEXT || i == SECOND_TEXT ? 1 : 4) * (size_t)count[i];
+        lent[i] = lend(size[i]);
+        before[i] = lend(size[i]);
+        take(lent[i], size[i]);
+        memcpy(before[i], lent[i], size[i]);
+    }
+    uint32_t *answer = lend(48);
+    memset(answer, 0xFF, 48);
+    stumpgarret_compare(lent[FIRST_WORDS], count[FIRST_WORDS], lent[FIRST_TEXT], count[FIRST_TEXT],
+                        lent[READINGS], lent[SECOND_WORDS], count[SECOND_WORDS], lent[SECOND_TEXT],
+                        count[SECOND_TEXT], (uint32_t *)lent[READINGS] + 12, lent[MIDDLES],
+                        count[MIDDLES], answer);
+    put(answer, 48);
+    put(lent[MIDDLES], size[MIDDLES]);
+    give_back(answer, 48, "the answer");
+    for (int i = 0; i < COMPARE_LENT; i++) {
+        if (i < MIDDLES)
+            unchanged(lent[i], before[i], size[i], names[i]);
+        give_back(before[i], size[i], "a copy");
+        give_back(lent[i], size[i], names[i]);
+    }
+}
+
 int main(void)
 {
     setvbuf(stdout, NULL, _IOFBF, 1 << 20);
@@ -265,6 +309,8 @@ int main(void)
             answer_replay(size);
         else if (size[0] == SPEC)
             answer_spec(size);
+        else if (size[0] == COMPARE)
+            answer_compare(size);
         else if (size[3] == ROWS)
             answer_rows(size);
         else

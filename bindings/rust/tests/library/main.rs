@@ -1,5 +1,6 @@
 //! Real readings through the library.
 mod common;
+mod compare;
 mod fields;
 mod literals;
 mod names;
