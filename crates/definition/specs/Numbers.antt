@@ -106,6 +106,16 @@ noLiteral = 52
 abbrev pub tooLittleListRoom : ℕ
 tooLittleListRoom = 53
 
+-- of a body written back
+abbrev pub notWritable : ℕ
+notWritable = 54
+
+abbrev pub notReadBack : ℕ
+notReadBack = 55
+
+abbrev pub tooLittleBodyRoom : ℕ
+tooLittleBodyRoom = 56
+
 -- of two revisions compared
 abbrev pub firstIllFormed : ℕ
 firstIllFormed = 57

@@ -83,6 +83,13 @@ answered script ls (refuses r) = refuses (moved (r .literal) (allChars script (t
 unfoldable pub read : Naming → List ℕ → List Literal → Outcome Answer
 read look script ls = elim (entry script ls) [ some r ↦ refuses r | none ↦ answered script ls (readFrom look script 0 ls) ]
 
+-- A BODY READ ALONE, as the one literal of a list, of kind 1
+abbrev pub aloneAs : List ℕ → Literal
+aloneAs s = record { kind = 1; triple = 0; offset = 0; size = length s; start = 0; end = length s + 3 }
+
+unfoldable pub readAlone : Naming → List ℕ → Outcome Answer
+readAlone look s = read look s (aloneAs s ∷ [])
+
 -- x, unless a check refuses
 unfoldable pub outcomeOf : {A : Type 0} → A → Option Refusal → Outcome A
 outcomeOf x none = accepts x

@@ -11,10 +11,10 @@ use borrow.Author.Tests.{ltb-true, ltb-false}
 use Rattle.definition.specs.Chars.{same, noCode}
 use Rattle.definition_names.specs.Names.{isScalar, Entry, named, has, lookupIn, lookupOf, lookupFile, twice, byName, at, indexOf, nameOf, codeAt, entryOf, scalarAt, searched}
 use Rattle.definition_names.specs.IsIndex.{bit, count, Perm, isStart, IsIndex, StandsFor, ofLine, ofNone}
-use Rattle.definition.proofs.moves.CharLaws.{cases}
+use Rattle.definition.proofs.moves.CharLaws.{cases, same-true}
 use Rattle.definition_names.proofs.NameOrder.{never}
 use Rattle.definition_names.proofs.NameLists.{same?, count-here, count-later, count-none, count-at, stands}
-use Rattle.definition_names.proofs.NameIndex.{All, all-first, all-rest, all-map, same-true, Faithful, twice-false, distinct-twice, perm-byName, index-rises, index-unique, rising-distinct}
+use Rattle.definition_names.proofs.NameIndex.{All, all-first, all-rest, all-map, Faithful, twice-false, distinct-twice, perm-byName, index-rises, index-unique, rising-distinct}
 use Rattle.definition_names.proofs.NameLookup.{byName-length, distinct-inj, lookup-has, lookup-none}
 use Rattle.definition_names.proofs.NameSearch.{EntryIs, entry-is}
 use Rattle.definition_names.proofs.NameWalk.{Says, all-sound}

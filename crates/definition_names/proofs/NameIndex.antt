@@ -12,28 +12,9 @@ use borrow.Author.Tests.{eqb-true, eq-eqb, ltb-true, ltb-false}
 use Rattle.definition.specs.Chars.{same}
 use Rattle.definition_names.specs.Names.{atMost, nameOf, Entry, at, insert, byName, indexOf, has, twice}
 use Rattle.definition_names.specs.IsIndex.{inOrder, count, Perm, Rising}
-use Rattle.definition.proofs.moves.CharLaws.{cases}
+use Rattle.definition.proofs.moves.CharLaws.{cases, same-true, same-eq}
 use Rattle.definition_names.proofs.NameOrder.{never, trans, antisym, refl-most, order-total, order-refl}
 use Rattle.definition_names.proofs.NameLists.{same?, count-here, count-later, stands, more-first, swap-first, pigeons, rising-once, unique}
-
--- texts that are the same
-pub same-true : (xs ys : List ℕ) → same xs ys ≡ true → xs ≡ ys
-unfolding same
-same-true [] [] t = refl
-same-true [] (y ∷ ys) t = never refl t
-same-true (x ∷ xs) [] t = never refl t
-same-true (x ∷ xs) (y ∷ ys) t =
-    cases (eqb x y)
-    (λ u. let e : x ≡ y = eqb-true x y u in let r : xs ≡ ys = same-true xs ys (rw u at t) in rw (e, r))
-    (λ u. never refl (rw u at t))
-
-pub same-refl : (xs : List ℕ) → same xs xs ≡ true
-unfolding same
-same-refl [] = refl
-same-refl (x ∷ xs) = rw (eq-eqb x x refl) (same-refl xs)
-
-pub same-eq : (xs ys : List ℕ) → xs ≡ ys → same xs ys ≡ true
-same-eq xs ys e = rw e (same-refl ys)
 
 -- a property of every entry
 unfoldable pub All : (Entry → Type 0) → List Entry → Type 0

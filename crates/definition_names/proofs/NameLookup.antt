@@ -10,10 +10,10 @@ use lib.ListN.{length, getD}
 use Rattle.definition.specs.Chars.{same, noCode}
 use Rattle.definition_names.specs.Names.{atMost, nameOf, Entry, at, insert, byName, lookupIn, codeAt}
 use Rattle.definition_names.specs.IsIndex.{inOrder, count, Perm}
-use Rattle.definition.proofs.moves.CharLaws.{cases}
+use Rattle.definition.proofs.moves.CharLaws.{cases, same-true, same-eq}
 use Rattle.definition_names.proofs.NameOrder.{order-same}
 use Rattle.definition_names.proofs.NameLists.{same?, count-here, count-later, count-none, count-at}
-use Rattle.definition_names.proofs.NameIndex.{All, all-none, all-cons, all-first, all-rest, NotIn, Distinct, Faithful, same-true, same-eq}
+use Rattle.definition_names.proofs.NameIndex.{All, all-none, all-cons, all-first, all-rest, NotIn, Distinct, Faithful}
 
 -- as many entries
 insert-length : (e : Entry) (es : List Entry) → length (insert e es) ≡ suc (length es)

@@ -11,10 +11,9 @@ use borrow.Author.Tests.{lt-ltb, le-ltb, ltb-true, ltb-false}
 use Rattle.definition.specs.Chars.{same}
 use Rattle.definition_names.specs.Names.{atMost, nameOf, boundN, bound, entryOf}
 use Rattle.definition_names.specs.IsIndex.{Rising, inOrder}
-use Rattle.definition.proofs.moves.CharLaws.{cases}
+use Rattle.definition.proofs.moves.CharLaws.{cases, same-true, same-eq}
 use Rattle.definition_names.proofs.NameOrder.{never, trans, antisym, refl-most, order-total, order-refl}
 use Rattle.definition_names.proofs.NameLists.{same?}
-use Rattle.definition_names.proofs.NameIndex.{same-true, same-eq}
 
 module _ (file index name : List ℕ) where
   abbrev half : ℕ → ℕ → ℕ

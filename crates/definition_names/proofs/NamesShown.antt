@@ -12,8 +12,7 @@ use Rattle.definition.specs.Entry.{Refusal}
 use Rattle.definition.specs.Reading.{Outcome, accepts, refuses}
 use Rattle.definition_names.specs.Names.{isScalar, Entry, named, has, lookupOf, lookupFile, twice, indexOf, indexed, tooLong, inRoom, against, build, check, codeAt, entryOf, scalarAt, searched}
 use Rattle.definition_names.specs.IsIndex.{IsIndex, StandsFor}
-use Rattle.definition.proofs.moves.CharLaws.{cases}
-use Rattle.definition_names.proofs.NameIndex.{same-true, same-refl}
+use Rattle.definition.proofs.moves.CharLaws.{cases, same-true, same-refl}
 use Rattle.definition_names.proofs.NameChecked.{scalars, index-is, index-only, searched-right, has-code, has-none, name-stands}
 
 never : {P A : Type 0} (r : Refusal) (x : A) → _≡_ {A = Outcome A} (refuses r) (accepts x) → P

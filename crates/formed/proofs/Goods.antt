@@ -109,7 +109,7 @@ module _ (text : List ℕ) (due : Bool) (owed at : ℕ) (h : Head) where
         good-text n k = rw (sym e ∙ t, sym e′ ∙ u, eq-eqb (h .offset) at n, ne-eqb (h .kind) 4 k) refl
 
 -- RECORD BY RECORD
-pub rec : (w : List ℕ) (i owed : ℕ) → Record
+unfoldable pub rec : (w : List ℕ) (i owed : ℕ) → Record
 rec w i owed =
     record {
       role = roleAt owed (getD w (i * 8) 0);

@@ -15,10 +15,9 @@ use Rattle.definition.specs.Entry.{refusal}
 use Rattle.definition.specs.Reading.{Outcome, accepts, refuses, zeros}
 use Rattle.definition_names.specs.Names.{Entry, named, twice, indexOf, refuse, indexed, inRoom, against, build, check, indexAfter, buildInto, firstField, nameOf, bound, entryOf, scalarAt, searched}
 use Rattle.definition_names.specs.IsIndex.{count}
-use Rattle.definition.proofs.moves.CharLaws.{cases}
+use Rattle.definition.proofs.moves.CharLaws.{cases, same-true, same-eq}
 use Rattle.definition_names.proofs.NameLists.{same?, count-later, count-none}
 use Rattle.definition_names.proofs.NameFields.{stop-at, go-on, upTo-none}
-use Rattle.definition_names.proofs.NameIndex.{same-true, same-eq}
 use Rattle.definition_names.proofs.NameChecked.{index-size}
 use Rattle.definition_names.proofs.NamedShown.{check-plain}
 use Rattle.names.specs.Answers.{countOf, Sized, OrderedIs, CheckedIs, DistinctIs, answerOf, CallIs}

@@ -13,7 +13,7 @@ use borrow.Author.Tests.{eq-eqb, ne-eqb}
 use Rattle.definition.specs.Chars.{part, same}
 use Rattle.definition.specs.Words.{owing}
 use Rattle.definition_revisions.specs.Revisions.{Shape, onto, itemsFrom, sameShape, sameItem}
-use Rattle.definition_names.proofs.NameIndex.{same-true}
+use Rattle.definition.proofs.moves.CharLaws.{same-true}
 use Rattle.definition_revisions.proofs.laws.Runs.{item-true, shape-true}
 use Rattle.definition_revisions.proofs.laws.Items.{opened, ontoAll, items-turn, onto-append, onto-first}
 use Rattle.formed.specs.declared.Head.{Head}

@@ -9,6 +9,7 @@ use Rattle.definition_scripts.specs.Listing.{FieldsCall, fieldsNumbers}
 use Rattle.definition_names.specs.Names.{BuildCall, indexNumbers}
 use Rattle.definition_replay.specs.Replay.{ReplayCall, replayNumbersOf}
 use Rattle.definition_revisions.specs.Revisions.{CompareCall, compareNumbers}
+use Rattle.definition_written.specs.Written.{WrittenCall, writtenNumbers}
 use Rattle.twelve.specs.Twelve.{twelve}
 
 -- a call of the definition: the twelve numbers, and both buffers afterwards
@@ -48,3 +49,8 @@ pub record ReplayIs (call : ReplayCall) (answer words text output : List ℕ) : 
 pub record CompareIs (call : CompareCall) (answer list : List ℕ) : Type 0 where
   pub numbered : answer ≡ twelve (compareNumbers (call .outcome))
   pub list-left : list ≡ call .list
+
+-- the same of a call that writes a body
+pub record WriteIs (call : WrittenCall) (answer body : List ℕ) : Type 0 where
+  pub numbered : answer ≡ twelve (writtenNumbers (call .result))
+  pub body-left : body ≡ call .body

@@ -20,8 +20,9 @@ ghost use Rattle.definition_replay.specs.SpecNumbers.{specNumbers};
 ghost use Rattle.definition_replay.specs.Replay.{replayNumbers};
 ghost use Rattle.definition_formed.specs.Formed.{lent};
 ghost use Rattle.definition_revisions.specs.Revisions.{compareInto};
+ghost use Rattle.definition_written.specs.Written.{writtenInto};
 ghost use Rattle.twelve.specs.Twelve.{twelve};
-ghost use Rattle.stumpgarret.specs.Calls.{CallIs, SignsIs, ListIs, FieldsIs, IndexIs, ReplayIs, CompareIs};
+ghost use Rattle.stumpgarret.specs.Calls.{CallIs, SignsIs, ListIs, FieldsIs, IndexIs, ReplayIs, CompareIs, WriteIs};
 
 // Reads the literals whose numbers are listed, six for each, from a script into both buffers, and answers in twelve numbers.
 #[no_mangle]
@@ -173,4 +174,18 @@ pub extern "C" fn stumpgarret_compare(
     ensures { λ _. ⌜ CompareIs (compareInto (lent (now (reading .entry)) (now (words .entry)) (now (text .entry))) (lent (now (figures .entry)) (now (others .entry)) (now (other .entry))) (now (list .entry))) (now (answer .exit)) (now (list .exit)) ⌝ }
 {
     *answer = twelve::of_comparison(compare(reading, words, text, figures, others, other, list));
+}
+
+// Writes the body of a joined answer, which is lent as its words, its text and the twelve numbers of its reading, and answers in twelve numbers.
+#[no_mangle]
+pub extern "C" fn stumpgarret_write(
+    words: &[u32],
+    text: &[u8],
+    reading: &[u32; 12],
+    body: &mut [u8],
+    answer: &mut [u32; 12],
+)
+    ensures { λ _. ⌜ WriteIs (writtenInto heldNames (lent (now (reading .entry)) (now (words .entry)) (now (text .entry))) (now (body .entry))) (now (answer .exit)) (now (body .exit)) ⌝ }
+{
+    *answer = twelve::of_writing(written::write(reading, words, text, body));
 }

@@ -4,6 +4,7 @@ use literals::Listing;
 use names::Answer;
 use replay::Replay;
 use strings::Outcome;
+use written::Writing;
 ghost use mathlib.Core.Path.{_≡_};
 ghost use Prim.Native.Nat.{_-_};
 ghost use Rattle.definition_revisions.specs.Revisions.{compareNumbers};
@@ -12,6 +13,7 @@ ghost use Rattle.literals.specs.Answers as listing;
 ghost use Rattle.listing.specs.Answers as fields;
 ghost use Rattle.replay.specs.Answers as replays;
 ghost use Rattle.revisions.specs.Answers as comparisons;
+ghost use Rattle.written.specs.Answers as writings;
 ghost use Rattle.twelve.specs.Twelve.{twelve, indexSays};
 
 const SCRIPT_TOO_LONG: u32 = 49;
@@ -148,5 +150,15 @@ pub fn of_comparison(x: revisions::Answer) -> [u32; 12]
         ],
         revisions::Answer::Refused(number) => [number, 0, 0, 0, 0, 0, 0, 0, 0, 0, 0, 0],
         revisions::Answer::Short(needed) => [NO_MIDDLE_ROOM, 0, 0, 0, 0, 0, 0, 0, 0, needed, 0, 0],
+    }
+}
+
+// A writing's numbers, and zeros up to twelve.
+pub fn of_writing(x: Writing) -> [u32; 12]
+    ensures { λ r. ⌜ r ≡ twelve (writings.says x) ⌝ }
+{
+    match x {
+        Writing::Wrote(bytes) => [0, bytes, 0, 0, 0, 0, 0, 0, 0, 0, 0, 0],
+        Writing::Stopped(s) => [s.number, 0, 0, 0, 0, 0, 0, 0, 0, s.needed, 0, 0],
     }
 }

@@ -36,19 +36,19 @@ flat d (bare e c i g p) ps = field d e c 0 i g ∷ flat d p ps
 flat d (full e c i g q p) ps = field d e c 1 i g ∷ spec (count q) ∷ flat (suc d) q (flat d p ps)
 
 -- one tree after another
-abbrev chain : Parts → Parts → Parts
+abbrev pub chain : Parts → Parts → Parts
 chain done r = r
 chain (run t p) r = run t (chain p r)
 chain (bare e c i g p) r = bare e c i g (chain p r)
 chain (full e c i g q p) r = full e c i g q (chain p r)
 
-flat-append : (d : ℕ) (p : Parts) (ps qs : List Piece) → flat d p ps ++ qs ≡ flat d p (ps ++ qs)
+pub flat-append : (d : ℕ) (p : Parts) (ps qs : List Piece) → flat d p ps ++ qs ≡ flat d p (ps ++ qs)
 flat-append d done ps qs = refl
 flat-append d (run t p) ps qs = ap (λ l. literal d t ∷ l) (flat-append d p ps qs)
 flat-append d (bare e c i g p) ps qs = ap (λ l. field d e c 0 i g ∷ l) (flat-append d p ps qs)
 flat-append d (full e c i g q p) ps qs = ap (λ l. field d e c 1 i g ∷ spec (count q) ∷ l) (flat-append (suc d) q (flat d p ps) qs ∙ ap (flat (suc d) q) (flat-append d p ps qs))
 
-flat-chain : (d : ℕ) (p r : Parts) (ps : List Piece) → flat d (chain p r) ps ≡ flat d p (flat d r ps)
+pub flat-chain : (d : ℕ) (p r : Parts) (ps : List Piece) → flat d (chain p r) ps ≡ flat d p (flat d r ps)
 flat-chain d done r ps = refl
 flat-chain d (run t p) r ps = ap (λ l. literal d t ∷ l) (flat-chain d p r ps)
 flat-chain d (bare e c i g p) r ps = ap (λ l. field d e c 0 i g ∷ l) (flat-chain d p r ps)
@@ -62,7 +62,7 @@ direct-deeper d d′ (run t p) ps h = rw (ne-eqb d′ d (λ e. omega arith)) (om
 direct-deeper d d′ (bare e c i g p) ps h = rw (ne-eqb d′ d (λ e. omega arith)) (omega (arith, direct-deeper d d′ p ps h))
 direct-deeper d d′ (full e c i g q p) ps h = rw (ne-eqb d′ d (λ e. omega arith)) (omega (arith, direct-deeper d (suc d′) q (flat d′ p ps) (omega arith), direct-deeper d d′ p ps h))
 
-direct-flat : (d : ℕ) (p : Parts) (ps : List Piece) → direct d (flat d p ps) ≡ count p + direct d ps
+pub direct-flat : (d : ℕ) (p : Parts) (ps : List Piece) → direct d (flat d p ps) ≡ count p + direct d ps
 unfolding direct
 direct-flat d done ps = omega arith
 direct-flat d (run t p) ps = rw (eq-eqb d d refl) (omega (arith, direct-flat d p ps))
@@ -96,11 +96,11 @@ module _ (P : List ℕ → ℕ → Type 0) where
   TreeIn d none = Unit {0}
   TreeIn d (some ps) = Tree d ps
 
-  tree-append : (d : ℕ) (ps qs : List Piece) → Tree d ps → Tree d qs → Tree d (ps ++ qs)
+  pub tree-append : (d : ℕ) (ps qs : List Piece) → Tree d ps → Tree d qs → Tree d (ps ++ qs)
   tree-append d ps qs (p, e, h) (q, f, k) =
       (chain p q, ap₂ _++_ e f ∙ flat-append d p [] (flat d q []) ∙ sym (flat-chain d p q []), all-chain d p q h k)
 
-  tree-filled : (d : ℕ) (t : List ℕ) → Tree d (filled d t)
+  pub tree-filled : (d : ℕ) (t : List ℕ) → Tree d (filled d t)
   unfolding filled
   tree-filled d [] = (done, refl, tt)
   tree-filled d (b ∷ t) = (run (b ∷ t) done, refl, tt)
@@ -116,7 +116,7 @@ deep-case : (kind : ℕ) (s : List ℕ) (depth i : ℕ) → leb tooDeep depth �
 unfolding textCase
 deep-case kind s depth i e = rw e
 
-deep-stops : (look : Naming) → (kind : ℕ) (s : List ℕ) (depth i : ℕ) (text : List ℕ) → leb tooDeep depth ≡ true → textMove look kind s depth i text ≡ stops (fault expressionNestedTooDeeply i)
+pub deep-stops : (look : Naming) → (kind : ℕ) (s : List ℕ) (depth i : ℕ) (text : List ℕ) → leb tooDeep depth ≡ true → textMove look kind s depth i text ≡ stops (fault expressionNestedTooDeeply i)
 unfolding textMove
 deep-stops look kind s depth i text e = rw (deep-case kind s depth i e, textMove)
 
@@ -124,7 +124,7 @@ deep-stops look kind s depth i text e = rw (deep-case kind s depth i e, textMove
 abbrev pub Closes : (List ℕ → ℕ → Type 0) → Field → Type 0
 Closes P (state e b o c d w g) = b ≡ false → (p : Option (List Piece)) → P e (conversionOf d c p)
 
-closes-formatted : (P : List ℕ → ℕ → Type 0) (j : ℕ) (f : Field) → Closes P f → Closes P (formatted j f)
+pub closes-formatted : (P : List ℕ → ℕ → Type 0) (j : ℕ) (f : Field) → Closes P f → Closes P (formatted j f)
 unfolding formatted
 closes-formatted P j (state e b o c d w g) h = h
 

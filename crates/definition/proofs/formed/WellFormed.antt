@@ -231,7 +231,7 @@ some-f (l ∷ ls) h = go (isFString (l .kind)) refl h (some-f ls)
     go true e h k = rw (f-no-bytes (l .kind) e) refl
     go false e h k = either (not (isBytes (l .kind))) (anyOf notBytes ls) (k h)
 
-no-bytes-with-f : (ls : List Literal) → anyOf isFString ls ≡ true → anyOf isBytes ls && anyOf notBytes ls ≡ false → anyOf isBytes ls ≡ false
+pub no-bytes-with-f : (ls : List Literal) → anyOf isFString ls ≡ true → anyOf isBytes ls && anyOf notBytes ls ≡ false → anyOf isBytes ls ≡ false
 no-bytes-with-f ls h k = go (anyOf isBytes ls) (anyOf notBytes ls) (some-f ls h) k
   where
     go : (a b : Bool) → b ≡ true → a && b ≡ false → a ≡ false

@@ -63,7 +63,7 @@ total-append (x ∷ xs) ys = ap (λ n. x .size + n) (total-append xs ys) ∙ (sy
 
 -- 4 and 6: the checks that go literal by literal, where a test that passes also passes without a literal before
 module _ (test : ℕ → Literal → Bool) (why : ℕ → Literal → Refusal) (alone : (p : ℕ) (l : Literal) → test p l ≡ false → test 0 l ≡ false) where
-  bad-step : (p i : ℕ) (l : Literal) (ls : List Literal) → firstBad test why p i (l ∷ ls) ≡ none → (test p l ≡ false) × (firstBad test why (l .end) (suc i) ls ≡ none)
+  pub bad-step : (p i : ℕ) (l : Literal) (ls : List Literal) → firstBad test why p i (l ∷ ls) ≡ none → (test p l ≡ false) × (firstBad test why (l .end) (suc i) ls ≡ none)
   unfolding firstBad
   bad-step p i l ls e = go (test p l) refl
     where

@@ -62,11 +62,11 @@ unfolding seeAll blankAfter
 adds-byte c h e = record { sees = e; blanks = λ u. rw (code-ascii (c ∷ u) 0 h, next-ascii (c ∷ u) 0 h) refl }
 
 -- what holds of each character of a text holds of a code that is one of them
-abbrev OfEach : (ℕ → Type 0) → String → Type 0
+abbrev pub OfEach : (ℕ → Type 0) → String → Type 0
 OfEach P []ˢ = Unit {0}
 OfEach P (a ∷ˢ s) = P (codeOf a) × OfEach P s
 
-one-of : (P : ℕ → Type 0) (s : String) (c : ℕ) → OfEach P s → (c is s) ≡ true → P c
+pub one-of : (P : ℕ → Type 0) (s : String) (c : ℕ) → OfEach P s → (c is s) ≡ true → P c
 one-of P []ˢ c h e = absurd (false≢true e)
 one-of P (a ∷ˢ []ˢ) c h e = subst P (sym (eqb-true c (codeOf a) e)) (h .0)
 one-of P (a ∷ˢ b ∷ˢ s) c h e =
@@ -122,7 +122,7 @@ unfolding seeAll see
 calm-all o [] h = refl
 calm-all o (b ∷ t) h = let c = h 0 (omega arith) in rw (c .0, c .1, c .2, c .3) (calm-all o t (λ k l. h (suc k) (omega arith)))
 
-high-calm : (b : ℕ) → 0x80 ≤ b → Calm b
+pub high-calm : (b : ℕ) → 0x80 ≤ b → Calm b
 high-calm b h = (
   rw (ne-eqb b 34 (omega arith), ne-eqb b 39 (omega arith)) refl,
   rw (ne-eqb b 40 (omega arith), ne-eqb b 91 (omega arith), ne-eqb b 123 (omega arith)) refl,
@@ -203,7 +203,7 @@ run-see q o (b ∷ t) h =
     cases (eqb b q) (λ e. rw (e, before) (rw e refl))
     (λ e. rw (e, before) (rw e (run-see q o t (let h′ = rw (e, before) at h in omega arith))))
 
-quote-see : {o : List ℕ} (c : ℕ) → (c is "\"'") ≡ true → (c < 0x80) × (see (clear o) c ≡ quoted c o) × (isBlank c ≡ false)
+pub quote-see : {o : List ℕ} (c : ℕ) → (c is "\"'") ≡ true → (c < 0x80) × (see (clear o) c ≡ quoted c o) × (isBlank c ≡ false)
 unfolding see insideAny whiteSpace
 quote-see {o} c =
     one-of (λ c. (c < 0x80) × (see (clear o) c ≡ quoted c o) × (isBlank c ≡ false)) "\"'" c

@@ -7,11 +7,11 @@ use Prim.Native.Nat.{ℕ, zero, suc, _+_, _-_, _≤_, _<_, max}
 use native.Mathlib.Nat.{add-assoc, le-of-suc-le-suc, not-suc-le-zero}
 use native.Mathlib.Numerals.{add-one}
 use native.Mathlib.Omega.{arith, by-contra}
-use borrow.Author.Tests.{ltb-true, ltb-false, leb-true, leb-false, le-leb, lt-leb, eqb-true, eqb-false, ne-eqb}
+use borrow.Author.Tests.{ltb-true, ltb-false, leb-true, leb-false, le-leb, lt-leb, eqb-true, eqb-false, ne-eqb, eq-eqb}
 use lib.Dec.{ltb, leb, eqb, lit≤}
 use lib.ListN.{length, drop, getD, drop-of-length-le, length-drop, List·getD-eq-default}
 use lib.Seq.{drop-cons, getD-drop}
-use Rattle.definition.specs.Chars.{if_then_else_, byte, atEnd, noCode, Range, _to_, inside, insideAny, table37, following, follow, width, decoded, code, next, formedFrom, wellFormed, before}
+use Rattle.definition.specs.Chars.{if_then_else_, byte, atEnd, noCode, Range, _to_, inside, insideAny, table37, following, follow, width, decoded, code, next, formedFrom, wellFormed, before, same}
 
 -- a test is true or false
 pub cases : {P : Type 0} (t : Bool) → (t ≡ true → P) → (t ≡ false → P) → P
@@ -20,6 +20,25 @@ cases false f g = g refl
 
 pub no : {P : Type 0} → false ≡ true → P
 no h = let z : _≡_ {A = ℕ} 0 1 = cc in absurd (omega arith)
+
+-- texts that are the same
+pub same-true : (xs ys : List ℕ) → same xs ys ≡ true → xs ≡ ys
+unfolding same
+same-true [] [] t = refl
+same-true [] (y ∷ ys) t = no t
+same-true (x ∷ xs) [] t = no t
+same-true (x ∷ xs) (y ∷ ys) t =
+    cases (eqb x y)
+    (λ u. let e : x ≡ y = eqb-true x y u in let r : xs ≡ ys = same-true xs ys (rw u at t) in rw (e, r))
+    (λ u. no (rw u at t))
+
+pub same-refl : (xs : List ℕ) → same xs xs ≡ true
+unfolding same
+same-refl [] = refl
+same-refl (x ∷ xs) = rw (eq-eqb x x refl) (same-refl xs)
+
+pub same-eq : (xs ys : List ℕ) → xs ≡ ys → same xs ys ≡ true
+same-eq xs ys e = rw e (same-refl ys)
 
 -- one of two tests is true
 pub either : {P : Type 0} (x y : Bool) → (x || y) ≡ true → (x ≡ true → P) → (y ≡ true → P) → P
@@ -319,7 +338,7 @@ module _ (s t : List ℕ) (i : ℕ) (l : i < length s) (utf8 : Utf8 s) (same : (
   follow-same [] k n e h = refl
   follow-same (r ∷ rs) k n e h = ap₂ (λ b f. inside r b && f) (same k n e (omega arith)) (follow-same rs (k + 1) (n + 1) (omega arith) (omega arith))
 
-  width-same : width s i ≡ width t 0
+  pub width-same : width s i ≡ width t 0
   unfolding width
   width-same = go (width s i) refl
     where

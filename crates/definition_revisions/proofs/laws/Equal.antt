@@ -11,7 +11,7 @@ use Rattle.definition.specs.Chars.{if_then_else_, part}
 use Rattle.definition.specs.Records.{Record}
 use Rattle.definition.specs.Words.{word, recordsFrom, answerFrom, heldFrom}
 use Rattle.definition.proofs.moves.CharLaws.{cases}
-use Rattle.definition_names.proofs.NameIndex.{same-eq}
+use Rattle.definition.proofs.moves.CharLaws.{same-eq}
 use Rattle.definition_formed.specs.Formed.{Lent, unplaced, lentAnswer}
 use Rattle.definition_formed.specs.Aside.{LentAlike}
 use Rattle.definition_formed.proofs.formed.AsideLaws.{Aside, AllAside, none, more, agree-aside}

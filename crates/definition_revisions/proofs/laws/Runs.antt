@@ -13,7 +13,7 @@ use Rattle.definition_revisions.specs.IsCompared.{BeginAlike, EndAlike, 
 use Rattle.definition.proofs.moves.CharLaws.{cases}
 use Rattle.definition_names.proofs.NameOrder.{never}
 use Rattle.definition_formed.proofs.formed.FormedLaws.{both}
-use Rattle.definition_names.proofs.NameIndex.{same-true, same-refl}
+use Rattle.definition.proofs.moves.CharLaws.{same-true, same-refl}
 
 abbrev pub Items : Type 0
 Items = List (List Shape)

@@ -1,0 +1,3 @@
+pub mod computed
+pub mod readback
+pub mod passes

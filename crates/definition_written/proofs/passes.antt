@@ -1,0 +1,5 @@
+pub mod WrittenPass
+pub mod WrittenLaw
+pub mod WrittenRoom
+pub mod WrittenAgain
+pub mod WrittenLeft

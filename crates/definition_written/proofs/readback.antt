@@ -1,0 +1,13 @@
+pub mod BackSteps
+pub mod BackText
+pub mod BackField
+pub mod BackTree
+pub mod BackUtf8
+pub mod BackAnswer
+pub mod BackTrees
+pub mod BackClean
+pub mod BackShape
+pub mod BackOnly
+pub mod BackLaw
+pub mod BackAll
+pub mod BackReading

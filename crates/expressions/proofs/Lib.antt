@@ -1,0 +1,3 @@
+mod CleanLaws
+mod ScanLaws
+mod BlankLaws

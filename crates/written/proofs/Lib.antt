@@ -1,0 +1,6 @@
+mod PutLaws
+mod PassLaws
+mod WriteLaws
+mod PieceLaws
+mod GoingLaws
+mod CallLaws

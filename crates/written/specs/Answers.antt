@@ -1,0 +1,18 @@
+-- What a call answers, and what it leaves in the body.
+use Prim.Native.Nat.{ℕ}
+use mathlib.Core.Path.{_≡_}
+use mathlib.Core.List.{List, [], _∷_, _++_}
+use lib.ListN.{replicate}
+use Rattle.definition_written.specs.Written.{WrittenCall, writtenNumbers}
+use Rattle.written.specs.declared.Writing.{Writing}
+use Rattle.written.specs.declared.Writing.the-variants.{Wrote, Stopped}
+
+-- the numbers of an answer
+abbrev pub says : Writing → List ℕ
+says (Wrote n) = 0 ∷ n ∷ []
+says (Stopped s) = s .number ∷ replicate 8 0 ++ (s .needed ∷ [])
+
+-- a call of the definition: what is answered, and the body afterwards
+pub record WrittenIs (call : WrittenCall) (body′ : List ℕ) (r : Writing) : Type 0 where
+  pub answer : says r ≡ writtenNumbers (call .result)
+  pub body : body′ ≡ call .body

@@ -1,0 +1,4 @@
+pub mod Puts
+pub mod Opens
+pub mod Going
+pub mod Answers
