@@ -18,6 +18,7 @@ mod replay;
 mod reference {
     include!(env!("STUMPGARRET_REFERENCE_RS"));
 }
+mod written;
 
 use inputs::{Case, Input};
 use std::num::NonZeroUsize;
@@ -74,6 +75,7 @@ fn main() {
     listing::measure(&std::fs::read(scripts).expect("the scripts can be read"));
     replay::measure(&std::fs::read(trace).expect("the trace can be read"));
     compare::measure();
+    written::measure(&mut buffers);
     if let Some(names) = argument(5) {
         names::measure(&std::fs::read(names).expect("the file of names can be read"));
     }

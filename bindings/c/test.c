@@ -1240,6 +1240,112 @@ static void compares(void)
     numbers_are("named number", by_name, numbers, COUNT(by_name));
 }
 
+/* Writes what was read, or what the words and the text now say, with so many bytes lent. */
+static void write_with(const uint32_t *reading, size_t words_length, size_t text_length,
+                       size_t body_length)
+{
+    memset(output, FILL, sizeof output);
+    memset(answer, FILL, sizeof answer);
+    stumpgarret_write(words, words_length, text, text_length, reading, output, body_length, answer);
+}
+
+/* A body, and nothing behind it. */
+static void wrote(const char *body, size_t body_length)
+{
+    const uint32_t length = (uint32_t)strlen(body);
+    const uint32_t numbers[STUMPGARRET_ANSWER_NUMBERS] = {0, length};
+    numbers_are("answer of a write", answer, numbers, COUNT(numbers));
+    if (memcmp(output, body, length) != 0)
+        fail("body of", length, output[0], (uint8_t)body[0]);
+    filled("body behind", output, length, body_length, FILL);
+    filled("output behind the body", output, body_length, sizeof output, FILL);
+}
+
+/* A refusal, and zeros. */
+static void write_refused(uint32_t number, uint32_t needed, size_t body_length)
+{
+    const uint32_t numbers[STUMPGARRET_ANSWER_NUMBERS] = {number, 0, 0, 0, 0, 0, 0, 0, 0, needed};
+    numbers_are("refusal of a write", answer, numbers, COUNT(numbers));
+    filled("refused body", output, 0, body_length, 0);
+    filled("output behind a refused body", output, body_length, sizeof output, FILL);
+}
+
+static void writes(void)
+{
+    static const struct {
+        const char *script, *body;
+    } rows[] = {
+        {"f''", ""},
+        {"f'a{x:>5}'", "a{x:>5}"},
+        {"f'{x = }'", "x = {x !r}"},
+        {"f'{{{x}}}\\x5c'", "{{{x}}}\\\\"},
+        {"f'{x:\\n>{w}\\x7b}'", "{x:\\n>{w}\\x7b}"},
+        {"f'{x!=y!r:{z!a}}'", "{x!=y!r:{z!a}}"},
+        {"f'a\\nb'", "a\nb"},
+    };
+    for (size_t i = 0; i < COUNT(rows); i++) {
+        const uint32_t length = (uint32_t)strlen(rows[i].script);
+        const uint32_t literal[] = {STUMPGARRET_FSTRING, 0, 2, length - 3, 0, length};
+        uint32_t reading[STUMPGARRET_ANSWER_NUMBERS];
+        read_with(rows[i].script, literal, COUNT(literal), WORDS, TEXT);
+        memcpy(reading, answer, sizeof reading);
+        write_with(reading, WORDS, TEXT, OUTPUT);
+        wrote(rows[i].body, OUTPUT);
+        write_with(reading, STUMPGARRET_RECORD_WORDS * (size_t)reading[STUMPGARRET_ANSWER_RECORDS],
+                   reading[STUMPGARRET_ANSWER_TEXT_LENGTH], strlen(rows[i].body));
+        wrote(rows[i].body, strlen(rows[i].body));
+    }
+}
+
+static void edits_and_refuses_to_write(void)
+{
+    static const uint32_t literal[] = {STUMPGARRET_FSTRING, 0, 2, 9, 0, 12};
+    uint32_t reading[STUMPGARRET_ANSWER_NUMBERS], changed[STUMPGARRET_ANSWER_NUMBERS];
+    read_with("f'{mv:.0f} '", literal, COUNT(literal), WORDS, TEXT);
+    memcpy(reading, answer, sizeof reading);
+    text[3] = '2'; /* .0f becomes .2f */
+    write_with(reading, WORDS, TEXT, OUTPUT);
+    wrote("{mv:.2f} ", OUTPUT);
+    write_with(reading, WORDS, TEXT, 8);
+    write_refused(STUMPGARRET_TOO_LITTLE_BODY_ROOM, 9, 8);
+
+    /* what is left aside, whatever it holds */
+    words[STUMPGARRET_RECORD_START] = words[STUMPGARRET_RECORD_PLACE] = 77;
+    memcpy(changed, reading, sizeof changed);
+    changed[STUMPGARRET_ANSWER_MARK] = changed[STUMPGARRET_ANSWER_CHARS] = 77;
+    write_with(changed, WORDS, TEXT, OUTPUT);
+    wrote("{mv:.2f} ", OUTPUT);
+
+    /* 54: not as many words or text bytes, another sort, a refusal's numbers, a rule broken */
+    write_with(reading, 31, TEXT, OUTPUT);
+    write_refused(STUMPGARRET_NOT_WRITABLE, 0, OUTPUT);
+    write_with(reading, WORDS, 5, OUTPUT);
+    write_refused(STUMPGARRET_NOT_WRITABLE, 0, OUTPUT);
+    changed[STUMPGARRET_ANSWER_SORT] = STUMPGARRET_PLAIN;
+    write_with(changed, WORDS, TEXT, OUTPUT);
+    write_refused(STUMPGARRET_NOT_WRITABLE, 0, OUTPUT);
+    changed[STUMPGARRET_ANSWER_SORT] = STUMPGARRET_JOINED;
+    changed[STUMPGARRET_ANSWER_NUMBER] = STUMPGARRET_SINGLE_RBRACE;
+    write_with(changed, WORDS, TEXT, OUTPUT);
+    write_refused(STUMPGARRET_NOT_WRITABLE, 0, OUTPUT);
+    words[STUMPGARRET_RECORD_CONVERSION] = 'q';
+    write_with(reading, WORDS, TEXT, OUTPUT);
+    write_refused(STUMPGARRET_NOT_WRITABLE, 0, OUTPUT);
+    words[STUMPGARRET_RECORD_CONVERSION] = 'r';
+    write_with(reading, WORDS, TEXT, OUTPUT);
+    wrote("{mv!r:.2f} ", OUTPUT);
+    text[3] = 0xFF;
+    write_with(reading, WORDS, TEXT, OUTPUT);
+    write_refused(STUMPGARRET_NOT_WRITABLE, 0, OUTPUT);
+
+    /* 55, also where there is no room */
+    text[3] = '}';
+    write_with(reading, WORDS, TEXT, OUTPUT);
+    write_refused(STUMPGARRET_NOT_READ_BACK, 0, OUTPUT);
+    write_with(reading, WORDS, TEXT, 0);
+    write_refused(STUMPGARRET_NOT_READ_BACK, 0, 0);
+}
+
 int main(void)
 {
     reads_two();
@@ -1266,6 +1372,8 @@ int main(void)
     replays();
     refuses_replays();
     compares();
+    writes();
+    edits_and_refuses_to_write();
     printf("bindings/c: %d checks passed\n", checks);
     return 0;
 }

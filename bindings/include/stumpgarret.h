@@ -1,8 +1,8 @@
 /* Lists every formatted field of a whole Python script; reads runs of its string literals to records:
    texts, formatted fields, format specs; tells where the signs of each field stand; lists the
    literals of a script from an offset on; takes the names of characters from a file that is lent;
-   reads format specs; replays recorded readings through a template; and compares two revisions of
-   such a run.
+   reads format specs; replays recorded readings through a template; compares two revisions of such a
+   run; and writes the body of an f-string back from its records.
    For C99 and C++11 on x86-64 Linux:
 
        cc -I bindings/include program.c target/staticlib/libstumpgarret.a
@@ -172,6 +172,13 @@ enum stumpgarret_refusal {
                                            numbers, the record rules, or a text that is not UTF-8 */
     STUMPGARRET_SECOND_ILL_FORMED = 58, /* the second one is not */
     STUMPGARRET_TOO_LITTLE_MIDDLE_ROOM = 59, /* see STUMPGARRET_COMPARE_NEEDED */
+
+    /* Of stumpgarret_write, with no literal, no place, no details and no characters; in this order. */
+    STUMPGARRET_NOT_WRITABLE = 54,      /* the records break the rules of records, ranges, places, u marks
+                                           and touching literals aside; a text is not UTF-8; or the
+                                           sort is not joined */
+    STUMPGARRET_NOT_READ_BACK = 55,     /* the spelling would be read otherwise */
+    STUMPGARRET_TOO_LITTLE_BODY_ROOM = 56, /* see STUMPGARRET_WRITE_NEEDED */
 
     /* Of the calls that are lent a file of names, with no literal, no place and no details. 60 is told
        of the whole file, then 61, then 62 or 63. */
@@ -537,6 +544,42 @@ void stumpgarret_compare(const uint32_t *words, size_t words_length,
                          const uint32_t other_reading[STUMPGARRET_ANSWER_NUMBERS],
                          uint32_t *list, size_t list_length,
                          uint32_t answer[STUMPGARRET_ANSWER_NUMBERS]);
+
+/* The answer of stumpgarret_write. */
+enum stumpgarret_write_answer {
+    STUMPGARRET_WRITE_BYTES = 1,    /* how many bytes were written */
+
+    STUMPGARRET_WRITE_NEEDED = 9    /* of 56: how many bytes the body has */
+};
+
+/* Writes the body of an f-string (kind 1) that reads as the records of a joined answer do, in one fixed
+   spelling. `words` and `text` are as a reading left them or as the caller changed them, and `reading`
+   is the answer that the reading gave: its numbers at STUMPGARRET_ANSWER_NUMBER, _SORT, _RECORDS and
+   _TEXT_LENGTH are looked at. `words` and `text` may be longer than the answer.
+
+   Text at the top level has braces and backslashes doubled. A field is an opening brace, its
+   expression, ! and its conversion, : and its spec, a closing brace. A spec's text stands as it is
+   before the first field in the spec; after it backslashes are doubled and braces are \x7b and \x7d. A
+   line end or a quote stands as it is, so what quotes the body fits is the caller's question.
+
+   Reading the body, with room and no file of names, gives the same kinds, texts, conversions and
+   specs, once empty literals are dropped and touching ones joined on both sides. 55 is given exactly if
+   it would not: a top-level expression begins with a brace; a brace stands in a spec's text before the
+   first field in the spec; an expression is blank, has a :, a ! or an = that would end it, an open
+   quote, a bracket without its match or over 64 of them, or a backslash outside of quotes; a field
+   stands three deep; or the body has more than STUMPGARRET_MOST_BODY_BYTES.
+
+   Four bytes for each text byte and each record are always enough: 56 never comes then. Afterwards: on
+   acceptance the body stands in front in `body`, and what follows is unchanged. On refusal every byte
+   of `body` is 0. `answer` always gets twelve numbers.
+
+   The caller sees to the same as for stumpgarret_read: `body` and `answer` overlap nothing else that is
+   passed. */
+void stumpgarret_write(const uint32_t *words, size_t words_length,
+                       const uint8_t *text, size_t text_length,
+                       const uint32_t reading[STUMPGARRET_ANSWER_NUMBERS],
+                       uint8_t *body, size_t body_length,
+                       uint32_t answer[STUMPGARRET_ANSWER_NUMBERS]);
 
 #ifdef __cplusplus
 }

@@ -12,7 +12,8 @@ In a program, `fields` gives the same list, or raises `Incomplete`; `list_script
 `rows` is the library's call behind both: every row of a whole script, by places. `read` reads one run of literals, and
 `literals` lists the adjacent literals of a script from an offset on. `Names` is a file of the names of characters, for
 those in `\\N{..}`: without one the library has fourteen. `replay` puts the rows of a recorded trace into the fields of a
-template, and `Spec` has the parts of a format spec. `compare` tells where two answers of `read` differ.
+template, and `Spec` has the parts of a format spec. `compare` tells where two answers of `read` differ. `Template` has the
+parts of an f-string, to be changed and written back.
 
     >>> import stumpgarret
     >>> for field in stumpgarret.fields("print(f'{mv / 12.5:.0f} {n!r}')", "bench.py"):
@@ -268,6 +269,17 @@ REFUSALS = {
     57: ("first answer not well formed", "its sort, kinds, conversions, parts or texts are none that a reading gives"),
     58: ("second answer not well formed", "its sort, kinds, conversions, parts or texts are none that a reading gives"),
     59: ("middle buffer too short", "the list needs {told} numbers"),
+    54: (
+        "not to be written",
+        "the records break the record rules, a text is not UTF-8, or the sort is not joined",
+    ),
+    55: (
+        "not read back",
+        "the spelling would be read otherwise: a top-level expression begins with {{, a brace stands in a spec before its "
+        "first nested field, an expression is blank or does not end where it should, a field is three deep, or the body has "
+        "over 1,048,576 bytes",
+    ),
+    56: ("body buffer too short", "the body needs {told} bytes"),
     60: ("line malformed", "a line of the file of names is malformed or not ended, or a name's code is no scalar value"),
     61: ("name twice", "a name stands twice in the file of names"),
     62: ("index buffer too short", "the index has no room, or the file of names has 2^32 bytes or more"),
@@ -295,6 +307,7 @@ READ_OTHERWISE = 75
 OF_A_LIST = *range(49, 54), READ_OTHERWISE
 OF_A_COMPARISON = range(57, 60)
 OF_NAMES = range(60, 64)
+OF_A_WRITING = range(54, 57)
 NO_LINE_ROOM = 73
 OF_A_REPLAY = range(68, 74)
 # What a refusal of a replay tells beside its number.
@@ -352,7 +365,7 @@ class Refusal(Exception):
         return line + self.line, self.column + (1 if self.line else column)
 
     def __str__(self) -> str:
-        if self.number in OF_NAMES or self.number in OF_A_COMPARISON:
+        if self.number in OF_NAMES or self.number in OF_A_COMPARISON or self.number in OF_A_WRITING:
             return f"refused: {self.meaning}"
         if self.number in OF_A_REPLAY:
             at = f" at {TELLS[self.number]} {self.told}" if self.number in TELLS else ""
@@ -391,6 +404,9 @@ FIRST_LITERALS = 16
 FIRST_ROWS = 256
 LEAST_LINE_OF_A_NAME = 20
 LINE_ROOM_PER_BYTE = 4
+BODY_ROOM = 4
+QUOTES = "'", '"', "'''", '"""'
+CONVERSIONS = None, "s", "r", "a"
 
 
 class Names:
@@ -478,6 +494,70 @@ class Spec:
         return cls(
             own_fill, align, sign, bool(z), bool(alternate), bool(zero), width, grouping, precision, type_, bool(rounds)
         )
+
+
+@dataclass
+class TemplateField:
+    """A field of a `Template`: its expression, its conversion, "s", "r", "a" or None, and the parts of its format spec, None
+    without one."""
+
+    expression: str
+    conversion: str | None = None
+    spec: list[str | TemplateField] | None = None
+
+
+@dataclass
+class Template:
+    """The parts of an f-string, texts and fields, which may be changed and written back.
+
+    >>> script = "print(f'{mv / 12.5:.0f} mV')"
+    >>> template = Template.of(read(script, literals(script, 6).literals))
+    >>> for field in template.fields():
+    ...     if field.spec == [".0f"]:
+    ...         field.spec = [".2f"]
+    >>> template.literal()
+    "f'{mv / 12.5:.2f} mV'"
+    """
+
+    parts: list[str | TemplateField]
+
+    @classmethod
+    def of(cls, answer: Answer) -> Template:
+        """What a run of literals with an f-string holds; ValueError for any other run. A self-documenting field is a text
+        and a field, as it reads."""
+        if answer.sort != Sort.JOINED:
+            raise ValueError("an answer with an f-string is wanted")
+        return cls(_owned(answer.records))
+
+    def fields(self) -> Iterator[TemplateField]:
+        """Every field in order, those within specs too."""
+        return _fields_in(self.parts)
+
+    def write(self) -> str:
+        """The body of an f-string that reads so, in one fixed spelling: reading it gives the same texts, expressions,
+        conversions and specs, once empty texts are dropped and touching ones joined. Line ends and quotes stand as they are.
+
+        Raises `Refusal` 55 if the spelling would be read otherwise, 54 for a text that is not UTF-8, ValueError for a
+        conversion that there is none of, and TypeError for a part that is no str and no TemplateField."""
+        words, text = [], bytearray()
+        _put_parts(self.parts, words, text)
+        count = len(words) // WORDS_OF_A_RECORD
+        reading = [0, Sort.JOINED, 0, 0, 0, _number("the count", count), _number("the text", len(text)), *[0] * 5]
+        lent = (ctypes.c_uint32 * len(words))(*words)
+        body = (ctypes.c_char * (BODY_ROOM * (len(text) + count)))()
+        answer = (ctypes.c_uint32 * 12)()
+        _function("write")(lent, len(lent), bytes(text), len(text), (ctypes.c_uint32 * 12)(*reading), body, len(body), answer)
+        if answer[0]:
+            raise _refusal(list(answer))
+        return body[: answer[1]].decode()
+
+    def literal(self) -> str | None:
+        """A whole f-string literal with this body, in the first quotes that fit: one or three, single ones before double
+        ones. None if none does: a body may have quotes of both kinds, and with a carriage return or a NUL none fits, since
+        Python reads the one as a line end and refuses the other. Raises what `write` does."""
+        body = self.write()
+        fitting = (f"f{quotes}{body}{quotes}" for quotes in QUOTES if _fits(quotes, body))
+        return None if "\r" in body or "\0" in body else next(fitting, None)
 
 
 def read(script: bytes | str, literals: Iterable[Literal], names: Names | None = None) -> Answer:
@@ -597,6 +677,57 @@ def _lend(record: Text | Field | Bytes, words: array.array, text: bytearray) -> 
         words.extend([3, len(text), 0, 0, 0, 0, len(spec), 0])
         for part in spec:
             _lend(part, words, text)
+
+
+
+
+def _owned(records: Iterable[Text | Field]) -> list[str | TemplateField]:
+    return [
+        record.text
+        if isinstance(record, Text)
+        else TemplateField(record.expression, record.conversion, None if record.spec is None else _owned(record.spec))
+        for record in records
+    ]
+
+
+def _fields_in(parts: list[str | TemplateField]) -> Iterator[TemplateField]:
+    for part in parts:
+        if isinstance(part, TemplateField):
+            yield part
+            yield from _fields_in(part.spec or [])
+
+
+def _put_parts(parts: list[str | TemplateField], words: list[int], text: bytearray) -> None:
+    """Appends the records of a template's parts, and their text; ranges, places and u marks are 0."""
+    for part in parts:
+        if isinstance(part, str):
+            _put_record(1, part, 0, 0, words, text)
+        elif isinstance(part, TemplateField):
+            if part.conversion not in CONVERSIONS:
+                raise ValueError(f"a conversion is s, r, a or None, not {part.conversion!r}")
+            mode = ord(part.conversion) if part.conversion else 0
+            _put_record(2, part.expression, mode, int(part.spec is not None), words, text)
+            if part.spec is not None:
+                _put_record(3, "", 0, len(part.spec), words, text)
+                _put_parts(part.spec, words, text)
+        else:
+            raise TypeError(f"a str or a TemplateField is wanted, not {_type(part)}")
+
+
+def _put_record(kind: int, own: str, mode: int, parts: int, words: list[int], text: bytearray) -> None:
+    own_text = _bytes(own, "a text")
+    words += [kind, len(text), len(own_text), 0, 0, mode, parts, 0]
+    text += own_text
+
+
+def _fits(quotes: str, body: str) -> bool:
+    """Whether a body in quotes is one literal that has this body."""
+    script, own = _bytes(f"f{quotes}{body}{quotes}"), _bytes(body)
+    whole = Literal(Kind.FSTRING, len(quotes) == 3, 1 + len(quotes), len(own), 0, len(script))
+    try:
+        return literals(script, 0).literals == (whole,)
+    except Refusal:
+        return False
 
 
 def _refusal(answer: list[int]) -> Refusal:
@@ -794,6 +925,7 @@ CALLS = {
     "spec": [TEXT, LENGTH, NUMBERS],
     "compare": [NUMBERS, LENGTH, TEXT, LENGTH, NUMBERS] * 2 + [NUMBERS, LENGTH, NUMBERS],
     "replay": [TEXT, LENGTH, NUMBERS, LENGTH, TEXT, LENGTH, NUMBERS, LENGTH, TEXT, LENGTH, TEXT, LENGTH, NUMBERS],
+    "write": [NUMBERS, LENGTH, TEXT, LENGTH, NUMBERS, TEXT, LENGTH, NUMBERS],
 }
 
 

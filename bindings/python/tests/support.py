@@ -85,6 +85,10 @@ class Server:
         lent = [(ctypes.c_uint32 * 24)(*reading, *figures), words, text, others, other, numbers]
         self.ask(struct.pack("<7I", 2**32 - 10, *map(len, lent)) + b"".join(map(bytes, lent)), answer, numbers)
 
+    def write(self, words, words_length, text, text_length, reading, body, body_length, answer):
+        head = struct.pack("<4I", 2**32 - 11, words_length, text_length, body_length)
+        self.ask(head + bytes(words) + text[:text_length] + bytes(reading) + bytes(body), answer, body)
+
     def ask_named(self, verb, lent, *written):
         self.ask(struct.pack("<7I", verb, *map(len, lent)) + b"".join(map(bytes, lent)), *written)
 

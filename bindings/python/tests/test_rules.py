@@ -17,6 +17,7 @@ DEFINED = re.compile(r"Defined in `(\w+\.antt)`: ((?:`[^`]+`(?:, )?)+)")
 SPAN = re.compile(r"`([^`]+)`")
 CITED = re.compile(r"RULES (\d+(?:\.\d+)?)")
 FROM, ROOM, AT = re.compile(r"from (\d+)"), re.compile(r"room for (\d+) (?:numbers|bytes)"), re.compile(r"at (\d+)")
+CHANGED = re.compile(r"(word|number|byte) (\d+) as (\d+)")
 LENT = re.compile(r"script '(.*)' list \[(.*)\](?: room (\d+) words, (\d+) bytes)?", re.DOTALL)
 LENT_ANSWER = re.compile(r"sort (\d+) words \[(.*)\] text '(.*)'", re.DOTALL)
 LENT_FILE = re.compile(r"file '(.*)' index \[(.*)\]", re.DOTALL)
@@ -122,6 +123,15 @@ def compare(first, second, room=ROOM_FOR_ALL):
         given += [(ctypes.c_uint32 * len(words))(*words), len(words), text, len(text), (ctypes.c_uint32 * 12)(*reading)]
     stumpgarret._function("compare")(*given, numbers, room, answer)
     return list(answer), list(numbers)
+
+
+
+
+def write(words, text, reading, room=ROOM_FOR_ALL):
+    lent_words, numbers, answer = (ctypes.c_uint32 * len(words))(*words), (ctypes.c_uint32 * 12)(*reading), numbers_of(12)
+    body = lent(ctypes.c_char, room)
+    stumpgarret._function("write")(lent_words, len(words), text, len(text), numbers, body, room, answer)
+    return list(answer), body.raw
 
 
 def literals_of(script):
@@ -284,6 +294,26 @@ def asked_replay(shown):
     return ask
 
 
+def asked_write(shown):
+    """What was read, with the words, numbers and text bytes changed that the cell names."""
+
+    def ask(cell, spans):
+        script, said = plain(spans[0]), SPAN.sub("", cell)
+        answer, words, text = read(script, literals_of(script))
+        changed = {"word": words, "number": answer, "byte": bytearray(text)}
+        for what, at, value in CHANGED.findall(said):
+            changed[what][int(at)] = int(value)
+        return shown(*write(words, bytes(changed["byte"]), answer, room_of(said)))
+
+    return ask
+
+
+def body_of(answer, body):
+    if answer[0] == 56:
+        return f"refused: 56 with {answer[9]} bytes needed"
+    return f"refused: {answer[0]} with nothing told" if answer[0] else body[: answer[1]].decode() or "nothing"
+
+
 def written(answer, output):
     if answer[0] in (68, 69):
         return f"refused: {answer[0]} of field {answer[9]}"
@@ -371,6 +401,9 @@ TABLES = {
     ("Replay", "Numbers"): asked_replay(lambda answer, output: numbers_shown(answer, 11)),
     ("Compare", "Items"): asked_compare(items),
     ("Compare", "Numbers"): asked_compare(lambda answer, numbers: numbers_shown(answer, 7)),
+    ("Written", "Body"): asked_write(body_of),
+    ("Written", "Numbers"): asked_write(lambda answer, body: numbers_shown(answer, 10)),
+    ("Written", "Buffer"): asked_write(lambda answer, body: in_words(body)),
     ("Body", "Line"): lambda cell, spans: lines(plain(spans[0])).rstrip("\n"),
 }
 ASKING = {headings[0] for headings in TABLES}

@@ -82,6 +82,16 @@ extern "C" {
         rows_length: usize,
         answer: *mut u32,
     );
+    fn stumpgarret_write(
+        words: *const u32,
+        words_length: usize,
+        text: *const u8,
+        text_length: usize,
+        reading: *const u32,
+        body: *mut u8,
+        body_length: usize,
+        answer: *mut u32,
+    );
     fn stumpgarret_spec(spec: *const u8, spec_length: usize, answer: *mut u32);
     fn stumpgarret_replay(
         script: *const u8,
@@ -331,6 +341,29 @@ pub(crate) fn compare(first: Lent<'_>, second: Lent<'_>, list: &mut [u32]) -> [u
             second.2.as_ptr(),
             list.as_mut_ptr(),
             list.len(),
+            answer.as_mut_ptr(),
+        );
+    }
+    answer
+}
+
+pub(crate) fn write(
+    words: &[u32],
+    text: &[u8],
+    reading: &[u32; ANSWER],
+    body: &mut [u8],
+) -> [u32; ANSWER] {
+    let mut answer = [0; ANSWER];
+    // SAFETY: as above.
+    unsafe {
+        stumpgarret_write(
+            words.as_ptr(),
+            words.len(),
+            text.as_ptr(),
+            text.len(),
+            reading.as_ptr(),
+            body.as_mut_ptr(),
+            body.len(),
             answer.as_mut_ptr(),
         );
     }

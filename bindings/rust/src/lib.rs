@@ -77,6 +77,8 @@
 //!
 //! [`Answer::compare`] tells where two revisions of a run differ, item by item.
 //!
+//! [`Template`] has the parts of an f-string, to be changed and written back.
+//!
 //! Of the names of characters in `\N{..}` the library itself has fourteen. [`Names`] is a file with all
 //! of them, which [`fields_named`], [`parse_strings_named`], [`read_into_named`] and
 //! [`read_at_named`] take.
@@ -91,6 +93,7 @@ mod refusal;
 mod replay;
 mod run;
 mod signs;
+mod template;
 
 pub use answer::{Answer, ConversionFlag, Field, Record, Records, Sort, Spec};
 pub use compare::Comparison;
@@ -101,6 +104,7 @@ pub use refusal::{Reason, Refusal, Unclosed};
 pub use replay::{replay, FormatSpec, Replay};
 pub use run::{literals_at, read_at, read_at_named, Run};
 pub use signs::{field_signs, ConversionReason, FieldSigns};
+pub use template::{Part, Template, TemplateField};
 
 use std::borrow::Cow;
 

@@ -2,7 +2,7 @@ use crate::call;
 use std::error::Error;
 use std::fmt;
 
-/// Why literals, a script, a file of names, a format spec, a trace or a comparison were refused. Where rustpython-parser has such an error,
+/// Why literals, a script, a file of names, a format spec, a trace, a comparison or a template were refused. Where rustpython-parser has such an error,
 /// the name is its.
 #[derive(Clone, Debug, PartialEq, Eq, Hash)]
 #[non_exhaustive]
@@ -74,6 +74,16 @@ pub enum Reason {
     /// The list lent for what lies between is too small. What it needs is given.
     TooLittleMiddleRoom {
         numbers: usize,
+    },
+    /// Records that are none of an f-string, which no template gives.
+    NotWritable,
+    /// The spelling would be read otherwise: a top-level expression begins with a brace, a brace stands
+    /// in a spec before the first field in it, an expression is blank or would end elsewhere, a field is
+    /// three deep, or the body has more than [`MOST_BODY_BYTES`](crate::MOST_BODY_BYTES).
+    NotReadBack,
+    /// The body has so many bytes, more than there is room for, which no template gives.
+    TooLittleBodyRoom {
+        bytes: usize,
     },
     /// A line of a file of names is malformed or not ended, or a name's code is no scalar value: a
     /// surrogate's, or above 10FFFF.
@@ -160,6 +170,11 @@ impl fmt::Display for Reason {
             Self::SecondIllFormed => "the second answer is not well formed",
             Self::TooLittleMiddleRoom { numbers } => {
                 return write!(f, "the list buffer is too small: {} numbers are needed", numbers)
+            }
+            Self::NotWritable => "the records are none of an f-string",
+            Self::NotReadBack => "the f-string would be read otherwise than its parts say",
+            Self::TooLittleBodyRoom { bytes } => {
+                return write!(f, "the body is too long: {} bytes are needed", bytes)
             }
             Self::LineMalformed => {
                 "a line of the file of names is malformed, or a name's code is no scalar value"
@@ -322,6 +337,11 @@ impl Refusal {
         refusal
     }
 
+    /// Of a template with a number over 32 bits: no body is so long.
+    pub(crate) fn not_read_back() -> Refusal {
+        Refusal::new([55, 0, 0, 0, 0, 0, 0, 0, 0, 0, 0, 0])
+    }
+
     pub(crate) fn unknown() -> Refusal {
         let reason = Reason::UnknownAnswer;
         Refusal { number: 0, reason, literal: 0, place: 0, opened: 0, line: 0, column: 0, chars: 0 }
@@ -363,6 +383,9 @@ pub(crate) fn reason(number: u32, [a, b]: [u32; 2], needed: u32) -> Option<Reaso
         57 => Reason::FirstIllFormed,
         58 => Reason::SecondIllFormed,
         59 => Reason::TooLittleMiddleRoom { numbers: needed as usize },
+        54 => Reason::NotWritable,
+        55 => Reason::NotReadBack,
+        56 => Reason::TooLittleBodyRoom { bytes: needed as usize },
         60 => Reason::LineMalformed,
         61 => Reason::NameTwice,
         62 => Reason::TooLittleIndexRoom,
@@ -381,7 +404,7 @@ pub(crate) fn reason(number: u32, [a, b]: [u32; 2], needed: u32) -> Option<Reaso
 impl fmt::Display for Refusal {
     fn fmt(&self, f: &mut fmt::Formatter<'_>) -> fmt::Result {
         let Refusal { number, reason, literal, place, opened, line, column, .. } = self;
-        if (57..=73).contains(number) {
+        if (54..=73).contains(number) {
             return write!(f, "{} (refusal {})", reason, number);
         }
         write!(f, "{} (refusal {}, literal {}, place {}", reason, number, literal, place)?;

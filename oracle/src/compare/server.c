@@ -36,6 +36,9 @@
    all of these.
    Answer: 12 u32, the list after the call.
 
+   Request for a body written back: u32 FFFFFFF5, u32 words, u32 text bytes, u32 body bytes lent, the
+   words, the text, 12 u32 of the reading, the body. Answer: 12 u32, the body after the call.
+
    Requests may come together; what was answered goes out before more is waited for. */
 #include "../pipe.h"
 #include "stumpgarret.h"
@@ -44,7 +47,7 @@ enum { GUARD = 16, FILL = 0x5A };
 static const uint32_t LITERALS = UINT32_MAX, FIELDS = UINT32_MAX - 1, ROWS = UINT32_MAX;
 static const uint32_t BUILD = UINT32_MAX - 2, CHECK = UINT32_MAX - 3,
                       SEARCHED = UINT32_MAX - 5, FIELDS_NAMED = UINT32_MAX - 6;
-static const uint32_t REPLAY = UINT32_MAX - 7, SPEC = UINT32_MAX - 8, COMPARE = UINT32_MAX - 9;
+static const uint32_t REPLAY = UINT32_MAX - 7, SPEC = UINT32_MAX - 8, COMPARE = UINT32_MAX - 9, WRITE = UINT32_MAX - 10;
 
 static void *lend(size_t size)
 {
@@ -295,6 +298,35 @@ static void answer_compare(const uint32_t head[4])
     }
 }
 
+/* What is lent to a write, in the order in which it comes. */
+enum { WRITTEN_WORDS, WRITTEN_TEXT, READING, BODY, WRITE_LENT };
+
+static void answer_write(const uint32_t head[4])
+{
+    static const char *const names[WRITE_LENT] = {"the words", "the text", "the reading", "the body"};
+    const size_t size[WRITE_LENT] = {4 * (size_t)head[1], head[2], 48, head[3]};
+    void *lent[WRITE_LENT], *before[WRITE_LENT];
+    for (int i = 0; i < WRITE_LENT; i++) {
+        lent[i] = lend(size[i]);
+        before[i] = lend(size[i]);
+        take(lent[i], size[i]);
+        memcpy(before[i], lent[i], size[i]);
+    }
+    uint32_t *answer = lend(48);
+    memset(answer, 0xFF, 48);
+    stumpgarret_write(lent[WRITTEN_WORDS], head[1], lent[WRITTEN_TEXT], head[2], lent[READING],
+                      lent[BODY], head[3], answer);
+    put(answer, 48);
+    put(lent[BODY], size[BODY]);
+    give_back(answer, 48, "the answer");
+    for (int i = 0; i < WRITE_LENT; i++) {
+        if (i != BODY)
+            unchanged(lent[i], before[i], size[i], names[i]);
+        give_back(before[i], size[i], "a copy");
+        give_back(lent[i], size[i], names[i]);
+    }
+}
+
 int main(void)
 {
     setvbuf(stdout, NULL, _IOFBF, 1 << 20);
@@ -311,6 +343,8 @@ int main(void)
             answer_spec(size);
         else if (size[0] == COMPARE)
             answer_compare(size);
+        else if (size[0] == WRITE)
+            answer_write(size);
         else if (size[3] == ROWS)
             answer_rows(size);
         else

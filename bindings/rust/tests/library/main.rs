@@ -9,3 +9,4 @@ mod refusals;
 mod replay;
 mod room;
 mod signs;
+mod template;
