@@ -139,6 +139,19 @@ tooLittleIndexRoom = 62
 abbrev pub wrongIndex : ℕ
 wrongIndex = 63
 
+-- of cuts in a body, and of a plan's list
+abbrev pub wrongOffsets : ℕ
+wrongOffsets = 64
+
+abbrev pub pieceTooLong : ℕ
+pieceTooLong = 65
+
+abbrev pub pieceRefused : ℕ
+pieceRefused = 66
+
+abbrev pub readingsDiffer : ℕ
+readingsDiffer = 67
+
 -- of a trace replayed through a template
 abbrev pub notOfGrammar : ℕ
 notOfGrammar = 68
@@ -157,6 +170,9 @@ outOfRange = 72
 
 abbrev pub tooLittleLineRoom : ℕ
 tooLittleLineRoom = 73
+
+abbrev pub tooLittleCutRoom : ℕ
+tooLittleCutRoom = 74
 
 -- of every field of a script: a number of our own, where Python reads otherwise
 abbrev pub readOtherwise : ℕ

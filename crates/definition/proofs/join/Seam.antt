@@ -116,7 +116,7 @@ module _ {A : Type 0} (role : A → Role) (both : A → A → A)
 -- a map that keeps roles and what becomes one goes through the seam
 module _ {A B : Type 0} (role : A → Role) (both : A → A → A) (role′ : B → Role) (both′ : B → B → B) (f : A → B)
     (roles : (a : A) → role′ (f a) ≡ role a) (boths : (a b : A) → f (both a b) ≡ both′ (f a) (f b)) where
-  map-glue : (a : A) (bs : List A) → map f (glue role both a bs) ≡ glue role′ both′ (f a) (map f bs)
+  pub map-glue : (a : A) (bs : List A) → map f (glue role both a bs) ≡ glue role′ both′ (f a) (map f bs)
   unfolding glue
   map-glue a [] = refl
   map-glue a (b ∷ bs) = go (touching (role a) (role b)) refl

@@ -131,7 +131,7 @@ high-calm b h = (
 )
 
 module _ (s : List ℕ) (i : ℕ) (l : i < length s) where
-  char-length : length (char s i) ≡ next s i - i
+  pub char-length : length (char s i) ≡ next s i - i
   unfolding char
   char-length = length-take-le (next s i - i) (drop i s) (omega (arith, length-drop i s, next-in s i (omega arith)))
 

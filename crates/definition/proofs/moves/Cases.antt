@@ -18,10 +18,10 @@ and-both false b e = absurd (false≢true e)
 
 -- what is told of the first of some cases whose test passes
 module _ {Case : Type 0} (Tells : Case → Type 0) where
-  record Told (x : Case) : Type 0 where
-    it : Tells x
+  pub record Told (x : Case) : Type 0 where
+    pub it : Tells x
 
-  chosen : (t : Bool) (x : Case) {y : Case} → (t ≡ true → Tells x) → (t ≡ false → Told y) → Told (if t then x else y)
+  pub chosen : (t : Bool) (x : Case) {y : Case} → (t ≡ true → Tells x) → (t ≡ false → Told y) → Told (if t then x else y)
   chosen true x p q = record { it = p refl }
   chosen false x p q = q refl
 

@@ -44,12 +44,12 @@ both-later : {A : Type 0} (size : A → ℕ) (w w′ : ℕ) (s : List ℕ) (i j 
 both-later size w w′ s i j r r′ h k p = later-in [] [] size w w′ s i j r r′ h k (λ q. q) p
 
 -- the three readers with n moves: sound, and the same with m moves
-record Reads (look : Naming) (n : ℕ) : Type 0 where
-  text : (m kind : ℕ) (s : List ℕ) (depth i : ℕ) (text : List ℕ) (ps : List Piece) → i ≤ length s → Moves s i 1 n → Moves s i 1 m
+pub record Reads (look : Naming) (n : ℕ) : Type 0 where
+  pub text : (m kind : ℕ) (s : List ℕ) (depth i : ℕ) (text : List ℕ) (ps : List Piece) → i ≤ length s → Moves s i 1 n → Moves s i 1 m
       → Agree weight (weight ps + textSize text) s i (textN look n kind s depth i text ps) (textN look m kind s depth i text ps)
-  field : (m kind : ℕ) (s : List ℕ) (depth from i : ℕ) (f : Field) → i ≤ length s → Moves s i 1 n → Moves s i 1 m
+  pub field : (m kind : ℕ) (s : List ℕ) (depth from i : ℕ) (f : Field) → i ≤ length s → Moves s i 1 n → Moves s i 1 m
       → AgreeIn (bracketsOf f) weight (fieldSize f) s i (fieldN look n kind s depth from i f) (fieldN look m kind s depth from i f)
-  spec : (m kind : ℕ) (s : List ℕ) (depth i : ℕ) → i ≤ length s → Moves s i 2 n → Moves s i 2 m → Agree weight 0 s i (specN look n kind s depth i) (specN look m kind s depth i)
+  pub spec : (m kind : ℕ) (s : List ℕ) (depth i : ℕ) → i ≤ length s → Moves s i 2 n → Moves s i 2 m → Agree weight 0 s i (specN look n kind s depth i) (specN look m kind s depth i)
 
 module _ (look : Naming) (n : ℕ) (R : Reads look n) (kind : ℕ) (s : List ℕ) where
   text-step : (m depth i : ℕ) (text : List ℕ) (ps : List Piece) → i ≤ length s → Moves s i 1 (suc n) → Moves s i 1 m
@@ -127,7 +127,7 @@ module _ (look : Naming) (n : ℕ) (R : Reads look n) (kind : ℕ) (s : List ℕ
           (both-later weight 0 (weight qs + 0) s i j (textN look n kind s (suc depth) j [] qs) (textN look m kind s (suc depth) j [] qs) (omega arith) (first-light s depth i) (R .text m kind s (suc depth) j [] qs (first-in s i l) (omega arith) (omega arith)))
       go false e = rw (spec-ends look n kind s depth i e, spec-ends look m kind s depth i e) ((omega arith, first-in s i l), refl, omega (arith, first-light s depth i))
 
-reads : (look : Naming) → (n : ℕ) → Reads look n
+pub reads : (look : Naming) → (n : ℕ) → Reads look n
 reads look zero = record {
   text = λ m kind s depth i text ps l p q. absurd (omega arith);
   field = λ m kind s depth from i f l p q. absurd (omega arith);

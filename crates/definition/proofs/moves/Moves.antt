@@ -69,7 +69,7 @@ pub onward : {A : Type 0} (s : List ℕ) (i j : ℕ) (r : Read A) → i ≤ j �
 onward s i j r h p = later [] [] s i j r h (λ q. q) p
 
 -- ESCAPES
-octal-sound : (n v : ℕ) (s : List ℕ) (i : ℕ) → i ≤ length s → Sound s i (octalFrom n v s i)
+pub octal-sound : (n v : ℕ) (s : List ℕ) (i : ℕ) → i ≤ length s → Sound s i (octalFrom n v s i)
 unfolding octalFrom
 octal-sound zero v s i h = (omega arith, h)
 octal-sound (suc n) v s i h =
@@ -91,7 +91,7 @@ scalar-sound v s i j letter h k l = go (inside (0xD800 to 0xDFFF) v) (leb v 0x10
     go false true = (h, k)
     go false false = (λ q. (tt, refl), l)
 
-hex-sound : (n v : ℕ) (s : List ℕ) (i letter : ℕ) → i ≤ length s → letter ≤ length s → Sound s i (hexFrom n v s i letter)
+pub hex-sound : (n v : ℕ) (s : List ℕ) (i letter : ℕ) → i ≤ length s → letter ≤ length s → Sound s i (hexFrom n v s i letter)
 unfolding hexFrom
 hex-sound zero v s i letter h l = scalar-sound v s i i letter (omega arith) h l
 hex-sound (suc n) v s i letter h l =
@@ -104,7 +104,7 @@ hex-sound (suc n) v s i letter h l =
     go true e p = rw (e, hexFrom) (onward s i (next s i) more (next-from s i) p)
     go false e p = rw (e, hexFrom) (λ q. (tt, refl), l)
 
-named-sound : (look : Naming) → (s : List ℕ) (i m : ℕ) → i + m < length s → Sound s i (named look s i m)
+pub named-sound : (look : Naming) → (s : List ℕ) (i m : ℕ) → i + m < length s → Sound s i (named look s i m)
 unfolding named
 named-sound look s i m h = go (ltb 88 m) (eqb (look (part s i (i + m))) noCode)
   where

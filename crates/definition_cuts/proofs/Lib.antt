@@ -1,0 +1,5 @@
+pub mod computed
+pub mod windows
+pub mod tokens
+pub mod cuts
+pub mod plan

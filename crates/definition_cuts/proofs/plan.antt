@@ -1,0 +1,2 @@
+pub mod PlanLaw
+pub mod PlanCalls

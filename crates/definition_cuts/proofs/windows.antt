@@ -1,0 +1,5 @@
+pub mod Window
+pub mod WindowEscapes
+pub mod Closed
+pub mod WindowFields
+pub mod WindowTexts
