@@ -457,6 +457,16 @@ static void fields_are(const char *script, const uint32_t *numbers, const uint32
     filled("byte of the rows", words, used * sizeof *words, sizeof words, FILL);
 }
 
+/* Nothing is decoded: a field that only a coding line's codec shows is none, and no refusal tells it. */
+static void decodes_nothing(void)
+{
+    static const uint32_t none[STUMPGARRET_ANSWER_NUMBERS] = {STUMPGARRET_ACCEPTED, 0, 0, 0, 34};
+    static const uint32_t one[STUMPGARRET_ANSWER_NUMBERS] = {STUMPGARRET_ACCEPTED, 1, 0, 1, 22};
+    static const uint32_t row[STUMPGARRET_ROW_NUMBERS] = {STUMPGARRET_REASON_NONE, 16, 19, 1, 0, 0, 0, 0, 21};
+    fields_are("# coding: utf-7\n+AGYAJwB7AHgAfQAn-", none, NULL);
+    fields_are("# coding: utf-7\nf'{x}'", one, row);
+}
+
 /* A refusal with how many rows are needed: zeros in what was lent. */
 static void fields_refused(uint32_t number, uint32_t needed, size_t lent)
 {
@@ -1359,6 +1369,7 @@ int main(void)
     lists_two();
     refuses_scripts();
     lists_fields();
+    decodes_nothing();
     lists_refusals();
     builds_names();
     checks_names();

@@ -346,8 +346,15 @@ enum stumpgarret_fields_answer {
    first self-documenting =, if anything but spaces follows in the source; in an f-string that is not
    raw, a backslash in its spec before the first nested field.
 
-   Python turns CR LF and CR into byte 10 before it reads a script; for its fields the caller does so
-   too.
+   The bytes are read as UTF-8, and nothing is decoded. Where Python reads other bytes, the caller makes
+   them first, or the list is not that of Python's script:
+   - a byte order mark at the front is taken off;
+   - CR LF and CR become byte 10;
+   - a script whose coding line (PEP 263: a comment in one of the first two lines) says neither UTF-8
+     nor ASCII is decoded by that codec and lent as UTF-8. Under "# coding: utf-7" the bytes
+     +AGYAJwB7AHgAfQAn- are an f-string with a field; as they stand they are none, and the list is
+     accepted without it;
+   - a script with a byte 0, as one in UTF-16 has, is not lent: Python does not take it.
 
    Ten numbers make one row's place; up to nine left over are not used. A script has at most as many
    rows as bytes. Refusals are 49, and 53 if there are fewer places than rows. On acceptance the rows

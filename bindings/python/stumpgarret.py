@@ -1,19 +1,5 @@
 #!/usr/bin/env python3
-"""Lists every formatted field in the string literals of Python 3.11 scripts, by the proved library stumpgarret.
-
-    python3 stumpgarret.py [fields] [--why] [--json] [--html FILE] [--names FILE] [--check] SCRIPT...
-    python3 stumpgarret.py replay [--lf] SCRIPT:LINE[:COLUMN] TRACE
-    python3 stumpgarret.py compare OLD[:LINE[:COLUMN]] NEW[:LINE[:COLUMN]]
-
-`python3 stumpgarret.py --help`, `python3 stumpgarret.py replay --help` and `python3 stumpgarret.py compare --help` say what
-is printed, and what the exit status means. Any Python from 3.7 on will do.
-
-In a program, `fields` gives the same list, or raises `Incomplete`; `list_script` gives what is refused as well.
-`rows` is the library's call behind both: every row of a whole script, by places. `read` reads one run of literals, and
-`literals` lists the adjacent literals of a script from an offset on. `Names` is a file of the names of characters, for
-those in `\\N{..}`: without one the library has fourteen. `replay` puts the rows of a recorded trace into the fields of a
-template, and `Spec` has the parts of a format spec. `compare` tells where two answers of `read` differ. `Template` has the
-parts of an f-string, to be changed and written back.
+"""Lists every formatted field in the f-strings of Python 3.11 scripts, by the proved library stumpgarret.
 
     >>> import stumpgarret
     >>> for field in stumpgarret.fields("print(f'{mv / 12.5:.0f} {n!r}')", "bench.py"):
@@ -21,13 +7,30 @@ parts of an f-string, to be changed and written back.
     1 10 mv / 12.5 None .0f
     1 26 n r None
 
+What people call:
+
+    fields(source)                  every field of a script, in the order of their places; raises `Incomplete` if anything is
+                                    refused, so that what it returns is complete
+    list_script(source)             the same with what is refused in its place, and whether it is complete
+    differences(source, found)      where Python's own `ast` reads otherwise (Python 3.11 only)
+    Names.build(file)               a file of the names of characters, for those in `\\N{..}`; without one fourteen are known
+    Spec.parse(spec)                the parts of a format spec, and whether it rounds
+    replay(script, literals, trace) the rows of a recorded trace in the fields of a template, a line for each
+    compare(first, second)          where two answers of `read` differ: what is equal in front and behind, and what lies between
+    Template.of(answer)             the parts of an f-string, to be changed and written back
+
+The library's calls behind them: `rows`, every row of a whole script by places; `read`, one run of literals; `literals`, the
+adjacent literals of a script from an offset on.
+
+At a shell: `python3 stumpgarret.py --help`, and `--help` behind the words replay and compare, say what is printed, and what
+the exit status means. Any Python from 3.7 on will do.
+
 The shared library is the one that the variable STUMPGARRET_LIBRARY names, else libstumpgarret.so beside this file,
 else the one under target/python of the clone, where `bindings/python/build` puts it.
 """
 
 from __future__ import annotations
 
-import argparse
 import array
 import ast
 import codecs
@@ -35,9 +38,7 @@ import collections
 import ctypes
 import enum
 import functools
-import io
 import itertools
-import json
 import operator
 import os
 import platform
@@ -48,6 +49,47 @@ import warnings
 from collections.abc import Callable, Iterable, Iterator
 from dataclasses import dataclass
 
+__all__ = [
+    "fields",
+    "list_script",
+    "differences",
+    "rows",
+    "read",
+    "literals",
+    "replay",
+    "compare",
+    "text_of",
+    "positions",
+    "Names",
+    "Spec",
+    "Comparison",
+    "Template",
+    "TemplateField",
+    "ScriptList",
+    "ScriptField",
+    "Refused",
+    "Incomplete",
+    "Undecodable",
+    "Refusal",
+    "Unavailable",
+    "Kind",
+    "Sort",
+    "Reason",
+    "Literal",
+    "Listing",
+    "Text",
+    "Field",
+    "Bytes",
+    "Signs",
+    "FieldRow",
+    "RefusalRow",
+    "Rows",
+    "Answer",
+    "Replay",
+    "REASONS",
+    "REFUSALS",
+    "UNCLOSED",
+]
 __version__ = "0.1.0"
 
 
@@ -237,7 +279,7 @@ class Comparison:
 
 
 # Each refusal's number, its name, and what it means where the name does not say so; {0} and {1} are the details, and
-# {unclosed} is what `UNCLOSED` says of the first.
+# {unclosed} is what `UNCLOSED` says of the first. What is known of a script stands in the place of the others.
 REFUSALS = {
     1: ("empty list", ""),
     2: ("number list not a multiple of six", ""),
@@ -249,7 +291,7 @@ REFUSALS = {
     10: ("StringError", "an escape is not finished"),
     11: ("UnicodeError", "an escape lacks a digit, has a code above 10FFFF, or a name over 88 bytes"),
     12: ("non-ASCII in bytes", ""),
-    13: ("name not held", "the file of names, or without one the library, does not have this name of a character"),
+    13: ("name not held", "{searched} does not have {name}"),
     20: ("UnclosedLbrace", "{unclosed}"),
     21: ("InvalidConversionFlag", "a conversion is not s, r or a"),
     22: ("EmptyExpression", "a field's expression is empty or blank"),
@@ -266,20 +308,16 @@ REFUSALS = {
     51: ("newline in a literal of one quote", ""),
     52: ("no literal at the offset", ""),
     53: ("list buffer too short", ""),
+    54: ("not to be written", "the records break the record rules, a text is not UTF-8, or the sort is not joined"),
+    55: (
+        "not read back",
+        "the spelling would be read otherwise, by a {{ that begins a top-level expression, a brace in a spec before its first "
+        "nested field, an expression that is blank or would end elsewhere, a field three deep, or over 1,048,576 bytes",
+    ),
+    56: ("body buffer too short", "the body needs {told} bytes"),
     57: ("first answer not well formed", "its sort, kinds, conversions, parts or texts are none that a reading gives"),
     58: ("second answer not well formed", "its sort, kinds, conversions, parts or texts are none that a reading gives"),
     59: ("middle buffer too short", "the list needs {told} numbers"),
-    54: (
-        "not to be written",
-        "the records break the record rules, a text is not UTF-8, or the sort is not joined",
-    ),
-    55: (
-        "not read back",
-        "the spelling would be read otherwise: a top-level expression begins with {{, a brace stands in a spec before its "
-        "first nested field, an expression is blank or does not end where it should, a field is three deep, or the body has "
-        "over 1,048,576 bytes",
-    ),
-    56: ("body buffer too short", "the body needs {told} bytes"),
     60: ("line malformed", "a line of the file of names is malformed or not ended, or a name's code is no scalar value"),
     61: ("name twice", "a name stands twice in the file of names"),
     62: ("index buffer too short", "the index has no room, or the file of names has 2^32 bytes or more"),
@@ -296,13 +334,13 @@ REFUSALS = {
     73: ("output buffer too short", "the lines need {told} bytes"),
     75: (
         "read otherwise by Python",
-        "Python reads this field otherwise or not at all, by a #, a backslash, a triple-quoted literal with its own quote "
-        "inside, or something after a self-documenting =",
+        "Python reads this field otherwise or not at all, by {cause}",
     ),
 }
 NO_LIST_ROOM = 53
 IN_A_BODY = range(10, 29)
 NEVER_CLOSED = 50, 51
+NAME_NOT_HELD = 13
 READ_OTHERWISE = 75
 OF_A_LIST = *range(49, 54), READ_OTHERWISE
 OF_A_COMPARISON = range(57, 60)
@@ -313,6 +351,12 @@ OF_A_REPLAY = range(68, 74)
 # What a refusal of a replay tells beside its number.
 TELLS = {68: "field", 69: "field", 70: "row", 71: "row", 72: "row"}
 
+# What is said of any refusal where nothing more is known of it.
+ANY = {
+    "searched": "the file of names, or without one the library,",
+    "name": "this name of a character",
+    "cause": "a #, a backslash, a triple-quoted literal with its own quote inside, or something after a self-documenting =",
+}
 # Why a brace counts as unclosed, by the first detail of 20.
 UNCLOSED = {
     1: "the literal ends right after a !",
@@ -381,9 +425,9 @@ def _name(number: int) -> str:
     return REFUSALS.get(number, ("unknown to this module", ""))[0]
 
 
-def _meaning(number: int, details: tuple[int, int], told: int = 0) -> str:
+def _meaning(number: int, details: tuple[int, int], told: int = 0, **known: str) -> str:
     unclosed = UNCLOSED.get(details[0], "a field does not end as it should")
-    said = REFUSALS.get(number, ("", ""))[1].format(*details, unclosed=unclosed, told=told)
+    said = REFUSALS.get(number, ("", ""))[1].format(*details, unclosed=unclosed, told=told, **{**ANY, **known})
     return f"{number} {_name(number)}" + (f": {said}" if said else "")
 
 
@@ -978,6 +1022,7 @@ CODING_LINE = re.compile(rb"[ \t\f]*#.*?coding[:=][ \t]*([-\w.]+)")
 USUAL_CODINGS = [("utf-8-", "utf-8"), *((begin, "iso-8859-1") for begin in ("latin-1-", "iso-8859-1-", "iso-latin-1-"))]
 BLANK_LINE = re.compile(rb"[ \t\f]*(#|\n|$)")
 CONTINUATION_BYTES = bytes(range(0x80, 0xC0))
+MOST_PATH_CHARS = 4096
 
 
 @dataclass(frozen=True)
@@ -1004,8 +1049,8 @@ class ScriptField:
 class Refused:
     """Something in a script that is not listed, or that Python reads otherwise (75), by a number of `REFUSALS` and its
     name. Line and column count from 1, columns by characters. `meaning` and `lost` are meant for people: what it is,
-    and what is not listed because of it. `opened` has line and column just after a bracket that is closed by another.
-    `depth` says in how many fields it stands."""
+    and what is not listed because of it. `start` has line and column of its literal, `opened` those just after a bracket
+    that is closed by another. `depth` says in how many fields it stands, and `detail` is the first of the refusal's."""
 
     line: int
     column: int
@@ -1013,8 +1058,11 @@ class Refused:
     name: str
     meaning: str
     lost: str
+    start: tuple[int, int] | None
     opened: tuple[int, int] | None
     depth: int
+    detail: int
+    row: RefusalRow | None
 
     @property
     def reason(self) -> str:
@@ -1054,7 +1102,7 @@ class Incomplete(Exception):
 
 
 class Undecodable(ValueError):
-    """A script's bytes are no text: its coding is unknown, or its bytes are not of that coding."""
+    """A script's bytes are no text of Python's: its coding is unknown, its bytes are not of that coding, or one is 0."""
 
 
 def fields(source: bytes | str, name: str = "<script>", names: Names | None = None) -> list[ScriptField]:
@@ -1062,7 +1110,8 @@ def fields(source: bytes | str, name: str = "<script>", names: Names | None = No
     there) or in another's spec is an item of its own, and comes after the other.
 
     The name stands in messages. With names those in `\\N{..}` are looked for in their file. Raises `Incomplete` if
-    anything is refused, with all that was found, and `Undecodable` for bytes that are no text."""
+    anything is refused, with all that was found, `Undecodable` for bytes that are no text, and ValueError for the path
+    of a file in place of its content."""
     found = list_script(source, names)
     if not found.complete:
         raise Incomplete(name, found.fields, found.refused)
@@ -1070,16 +1119,24 @@ def fields(source: bytes | str, name: str = "<script>", names: Names | None = No
 
 
 def list_script(source: bytes | str, names: Names | None = None) -> ScriptList:
-    """Every field of a script, and what is refused. Raises `Undecodable` for bytes that are no text."""
-    return _list(_bytes(text_of(source)), names)
+    """Every field of a script, and what is refused. Raises `Undecodable` for bytes that are no text, and ValueError for the
+    path of a file in place of its content."""
+    text = text_of(source)
+    if "\n" not in text and 0 < len(text) <= MOST_PATH_CHARS and os.path.isfile(text):
+        raise ValueError(f"a script's content is wanted, and {text} is the path of a file: open(path, 'rb').read()")
+    return _list(_bytes(text), names)
 
 
-def _list(script: bytes, names: Names | None) -> ScriptList:
-    """The list of UTF-8 bytes that are read as they stand."""
+def _list(script: bytes, names: Names | None, searched: str | None = None) -> ScriptList:
+    """The list of UTF-8 bytes that are read as they stand; names are said to be searched in a file."""
     try:
         found = rows(script, names)
     except Refusal as refusal:
-        return ScriptList((_refused(refusal, (1, 1), "no field of the script is listed", None, 0),), 0, False)
+        meaning = _meaning(refusal.number, refusal.details)
+        lost = "no field of the script is listed"
+        one = Refused(1, 1, refusal.number, _name(refusal.number), meaning, lost, None, None, 0, 0, None)
+        return ScriptList((one,), 0, False)
+    searched = searched or ("the file of names" if names else "the library, which has fourteen names,")
     by_place = sorted(found.rows, key=lambda row: (row.place, isinstance(row, RefusalRow)))
     where = positions(script, (place for row in by_place for place in _places(row)))
     entries, ends = [], []
@@ -1091,7 +1148,11 @@ def _list(script: bytes, names: Names | None) -> ScriptList:
             ends.append(row.signs.close)
         else:
             opened = None if row.opened is None else where[row.opened]
-            entries.append(_refused(row, where[row.place], _lost(row, where), opened, len(ends)))
+            place, name = where[row.place], _name(row.number)
+            meaning = _meaning(row.number, row.details, **_known(script, row, found.rows, searched))
+            lost = _lost(row, where)
+            start, detail = where[row.start], row.details[0]
+            entries.append(Refused(*place, row.number, name, meaning, lost, start, opened, len(ends), detail, row))
     complete = found.cut_to == len(script) and not any(isinstance(entry, Refused) for entry in entries)
     return ScriptList(tuple(entries), found.literals, complete)
 
@@ -1099,7 +1160,15 @@ def _list(script: bytes, names: Names | None) -> ScriptList:
 def text_of(source: bytes | str) -> str:
     """A script's text as Python sees it: decoded by byte order mark or coding line, with newlines for line ends.
 
-    Raises `Undecodable` where Python would not take its coding."""
+    Raises `Undecodable` where Python would not take its coding, or a byte 0 in it."""
+    text = _decoded(source)
+    if "\0" in text:
+        line = text.count("\n", 0, text.index("\0")) + 1
+        raise Undecodable(f"line {line} has a byte 0: Python does not take it; UTF-16?")
+    return text
+
+
+def _decoded(source: bytes | str) -> str:
     if isinstance(source, str):
         text = source[1:] if source.startswith(BYTE_ORDER_MARK) else source
         return text.replace("\r\n", "\n").replace("\r", "\n")
@@ -1159,10 +1228,20 @@ def _field(script: bytes, row: FieldRow, where: dict[int, tuple[int, int]], dept
     return ScriptField(*place, close, expression, documented, row.conversion, row.reason, spec, depth, row)
 
 
-def _refused(
-    one: RefusalRow | Refusal, place: tuple[int, int], lost: str, opened: tuple[int, int] | None, depth: int
-) -> Refused:
-    return Refused(*place, one.number, _name(one.number), _meaning(one.number, one.details), lost, opened, depth)
+def _known(script: bytes, row: RefusalRow, all_rows: tuple[FieldRow | RefusalRow, ...], searched: str) -> dict[str, str]:
+    """What is known of a refusal by the script: which name is not held, and where it was searched; what Python reads
+    otherwise."""
+    if row.number == NAME_NOT_HELD:
+        name = script[row.place : script.find(b"}", row.place)].decode("utf-8", "replace")
+        return {"searched": searched, "name": f"the name {_one_line(name)}"}
+    if row.number != READ_OTHERWISE:
+        return {}
+    signs, met = all_rows[row.within - 1].signs, script[row.place : row.place + 1]
+    if row.place == signs.equals:
+        return {"cause": "something after its self-documenting ="}
+    if met == b"\\":
+        return {"cause": "a backslash in its spec" if signs.colon and signs.colon <= row.place else "a backslash"}
+    return {"cause": "a #" if met == b"#" else "a triple-quoted literal with its own quote inside"}
 
 
 def _lost(row: RefusalRow, where: dict[int, tuple[int, int]]) -> str:
@@ -1253,24 +1332,6 @@ STANDARD_INPUT = "-"
 # Where Debian's package unicode-data puts it.
 SYSTEM_NAMES = "/usr/share/unicode/UnicodeData.txt"
 ASKS_FOR_A_NAME = b"\\N"
-DESCRIPTION = """
-Lists every formatted field of the f-strings of Python scripts. The operator `%`, `str.format` and `format()` format
-too, and are not listed.
-"""
-EPILOG = r"""
-A line for each field, with tabs between: path:line:column of its expression, the expression, the conversion with its
-`!`, the spec with its `:`. They are sorted by place; a field in the expression or spec of another comes after it. A
-self-documenting `=` is shown behind the expression. A control character is shown as Python's escape, a newline as \n,
-and a backslash as two: a written \n is \\n. What is refused is told on standard error.
-
-A name of a character, as in \N{DEGREE SIGN}, is looked for in a file of names, byte for byte. That is FILE, else
-SYSTEM_NAMES (Debian: unicode-data) if it is there; else fourteen names are known.
-A name that is not found is refused (13), and so is a file that is none (60, 61): nothing is listed by another then.
-
-Exit status: 0 if these are all fields of all scripts, 1 if something was refused (or --check found a difference),
-2 for a wrong use, for a script that cannot be read or decoded, for a file of names that cannot be read or is refused,
-and without the shared library.
-""".replace("SYSTEM_NAMES", SYSTEM_NAMES)
 
 
 def main(arguments: list[str] | None = None) -> int:
@@ -1284,150 +1345,9 @@ def main(arguments: list[str] | None = None) -> int:
         import stumpgarret_compare
 
         return stumpgarret_compare.main(arguments[1:])
-    given = _arguments(arguments[1:] if arguments[:1] == ["fields"] else arguments)
-    for stream in (sys.stdout, sys.stderr):
-        if isinstance(stream, io.TextIOWrapper):
-            stream.reconfigure(errors="backslashreplace")
-    on_page = [] if given.html else None
-    try:
-        if given.names is not None:
-            given.lent_names()
-        status = max(_print_script(path, given, on_page) for path in given.scripts)
-    except (Unavailable, UnusableNames) as error:
-        print(f"stumpgarret: {error}", file=sys.stderr)
-        return UNREAD
-    return max(status, _write_page(given.html, on_page)) if given.html else status
+    import stumpgarret_command
 
-
-def _arguments(arguments: list[str]) -> argparse.Namespace:
-    parser = argparse.ArgumentParser(
-        prog="stumpgarret",
-        usage="%(prog)s [fields] [--why] [--json] [--html FILE] [--names FILE] [--check] SCRIPT...\n"
-        "       %(prog)s replay [--lf] SCRIPT:LINE[:COLUMN] TRACE   (%(prog)s replay --help)\n"
-        "       %(prog)s compare OLD[:LINE[:COLUMN]] NEW[:LINE[:COLUMN]]   (%(prog)s compare --help)",
-        description=DESCRIPTION,
-        epilog=EPILOG,
-        formatter_class=argparse.RawDescriptionHelpFormatter,
-    )
-    parser.add_argument("--why", action="store_true", help="add the reason of each conversion")
-    parser.add_argument("--json", action="store_true", help="a JSON object for each field, and for each refusal")
-    parser.add_argument("--html", metavar="FILE", help="in place of the list write a page, to a file that ends in .html")
-    parser.add_argument("--names", metavar="FILE", help="take names of characters from a UnicodeData.txt")
-    parser.add_argument("--check", action="store_true", help="compare with Python's own ast (Python 3.11 only)")
-    parser.add_argument("--version", action="store_true", help="say the version, and where names are taken from")
-    parser.add_argument("scripts", nargs="*", metavar="SCRIPT", help="a path, or - for standard input")
-    given = parser.parse_args(arguments)
-    given.names_path = _names_path(given.names)
-    given.lent_names = functools.lru_cache(maxsize=None)(lambda: _names_of(given.names_path))
-    if given.version:
-        print(f"stumpgarret {__version__}", f"names of characters: {_names_said(given.names_path)}", sep="\n")
-        parser.exit()
-    if not given.scripts:
-        parser.error("the following arguments are required: SCRIPT")
-    if given.html is not None and not given.html.endswith(".html"):
-        parser.error(f"--html needs a file that ends in .html before the scripts, and this is {given.html}")
-    if given.html and (given.json or given.why):
-        parser.error("--html goes with neither --json nor --why: the page says why, and there is no list")
-    if given.check and sys.version_info[:2] != PYTHON_OF_THE_CHECK:
-        parser.error("--check needs Python 3.11, and this is {}.{}".format(*sys.version_info))
-    return given
-
-
-class UnusableNames(Exception):
-    """A file of names that cannot be read, or that is refused."""
-
-
-def _names_path(named: str | None) -> str | None:
-    """The file that is named, else the system's if it is there."""
-    return named if named is not None else SYSTEM_NAMES if os.path.exists(SYSTEM_NAMES) else None
-
-
-def _names_said(path: str | None) -> str:
-    return "fourteen, of the library" if path is None else _one_line(path)
-
-
-def _names_of(path: str | None) -> Names | None:
-    if path is None:
-        return None
-    try:
-        with open(path, "rb") as file:
-            return Names.build(file.read())
-    except OSError as error:
-        raise UnusableNames(f"the file of names {_one_line(path)} cannot be read: {error.strerror}") from error
-    except Refusal as refusal:
-        said = "nothing more is listed; --names FILE names another"
-        raise UnusableNames(f"the file of names {_one_line(path)} is {refusal}; {said}") from refusal
-
-
-def _print_script(path: str, given: argparse.Namespace, on_page: list[dict[str, object]] | None) -> int:
-    """Prints what is known of a script, or puts it on the page; gives the exit status for it."""
-    name = "<stdin>" if path == STANDARD_INPUT else path
-    try:
-        source = _content(path)
-        script = _bytes(text_of(source))
-        # Without names where none is asked for: the list is the same, and no file is read.
-        asks = ASKS_FOR_A_NAME in script
-        names = given.lent_names() if asks else None
-        found = _list(script, names)
-    except (OSError, Undecodable) as error:
-        failure = getattr(error, "strerror", None) or str(error)
-        _complain(name, f" {failure}")
-        if on_page is not None:
-            on_page.append({"name": name, "failure": failure})
-        return UNREAD
-    differing = differences(source, found) if given.check else None
-    told = [f"{one.line}:{one.column}: {one.reason}" for one in found.refused] + (differing or [])
-    status = COMPLETE if found.complete and not told else INCOMPLETE
-    for entry in found.entries if on_page is None else ():
-        if given.json:
-            print(json.dumps({"file": name, **_json(entry)}))
-        elif isinstance(entry, ScriptField):
-            reason = (REASONS[entry.reason],) if given.why else ()
-            print(*map(_one_line, (f"{name}:{entry.line}:{entry.column}", *_columns(entry), *reason)), sep="\t")
-    for said in told:
-        _complain(name, said)
-    if on_page is not None:
-        shown = {"name": name, "content": source, "text": text_of(source), "differences": differing}
-        if asks:
-            shown["names"] = _names_said(given.names_path), names and names.file
-        rows_of_table = [_page_row(entry) for entry in found.entries]
-        on_page.append({**shown, "entries": found.entries, "rows": rows_of_table, "complete": status == COMPLETE})
-    return status
-
-
-def _page_row(entry: ScriptField | Refused) -> tuple[str, ...] | str:
-    """What the page's table shows: of a refusal its words; of a field why, too, if it is by a `=`."""
-    if isinstance(entry, Refused):
-        return entry.reason
-    expression, conversion, spec = _columns(entry)
-    why = REASONS[entry.reason] if entry.reason in (Reason.REPR, Reason.SPEC) else ""
-    return expression, conversion, why, spec
-
-
-def _write_page(path: str, scripts: list[dict[str, object]]) -> int:
-    """Writes the page of scripts, beside and then into its place; gives the exit status for it."""
-    import stumpgarret_page
-
-    content = stumpgarret_page.page([stumpgarret_page.Script(**script) for script in scripts], __version__)
-    try:
-        with open(path + ".new", "w", encoding="utf-8", newline="\n") as file:
-            file.write(content)
-        os.replace(path + ".new", path)
-    except OSError as error:
-        _complain(path, f" {error.strerror}")
-        return UNREAD
-    return COMPLETE
-
-
-def _content(path: str) -> bytes:
-    if path == STANDARD_INPUT:
-        return sys.stdin.buffer.read()
-    with open(path, "rb") as file:
-        return file.read()
-
-
-def _complain(name: str, said: str) -> None:
-    print(f"{_one_line(name)}:{said}", file=sys.stderr)
+    return stumpgarret_command.main(arguments[1:] if arguments[:1] == ["fields"] else arguments)
 
 
 def _columns(field: ScriptField) -> tuple[str, str, str]:
@@ -1436,22 +1356,20 @@ def _columns(field: ScriptField) -> tuple[str, str, str]:
     return field.expression + "=" * field.documented, conversion, "" if field.spec is None else f":{field.spec}"
 
 
-def _json(entry: ScriptField | Refused) -> dict[str, object]:
-    said = {name: value for name, value in vars(entry).items() if name not in ("row", "lost")}
-    return {**said, "reason": entry.reason.name.lower()} if isinstance(entry, ScriptField) else said
-
-
 def _one_line(text: str) -> str:
     return re.sub(r"[\\\x00-\x1f\x7f-\x9f\u2028\u2029]", lambda shown: ascii(shown[0])[1:-1], text)
 
 
 def process() -> None:
     """The command as a process of its own."""
+    import stumpgarret_command
+
     signal.signal(signal.SIGPIPE, signal.SIG_DFL)
-    sys.exit(main())
+    sys.exit(stumpgarret_command.run(main))
 
 
 if __name__ == "__main__":
-    # The modules beside this one import it by its name.
+    # The modules beside this one, which an isolated Python does not look for there, import it by its name.
+    sys.path.insert(0, os.path.dirname(os.path.abspath(__file__)))
     sys.modules["stumpgarret"] = sys.modules["__main__"]
     process()

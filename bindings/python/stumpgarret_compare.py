@@ -16,6 +16,7 @@ from typing import Optional, Tuple
 
 import stumpgarret
 from stumpgarret import Answer, Bytes, Comparison, Field, Literal, Names, Refusal, Sort, Text
+from stumpgarret_command import UnusableNames, _content, _names_of, _names_path
 from stumpgarret_replay import PLACE, Told, Unusable, _complain, _output, _write, runs, template_at
 
 EQUAL, DIFFERENT, FAILED, INTERRUPTED = 0, 1, 2, 130
@@ -186,7 +187,7 @@ def main(arguments: list[str]) -> int:
     given = _arguments(arguments)
     try:
         return _compare_places(given) if given.old.line else _compare_scripts(given)
-    except (Told, Unusable, stumpgarret.Unavailable, stumpgarret.UnusableNames) as error:
+    except (Told, Unusable, stumpgarret.Unavailable, UnusableNames) as error:
         return _complain(str(error), FAILED)
     except KeyboardInterrupt:
         return _complain("interrupted", INTERRUPTED)
@@ -225,14 +226,14 @@ def _tell(old: Part | None, new: Part | None) -> int:
 def _revision(path: str, named: str | None) -> Revision:
     name = "<stdin>" if path == stumpgarret.STANDARD_INPUT else stumpgarret._one_line(path)
     try:
-        script = stumpgarret._bytes(stumpgarret.text_of(stumpgarret._content(path)))
+        script = stumpgarret._bytes(stumpgarret.text_of(_content(path)))
     except OSError as error:
         raise Unusable(f"{name}: {error.strerror}") from error
     except stumpgarret.Undecodable as error:
         raise Unusable(f"{name}: {error}") from error
     # Without names where none is asked for: the reading is the same, and no file is read.
     asks = stumpgarret.ASKS_FOR_A_NAME in script
-    return Revision(name, script, stumpgarret._names_of(stumpgarret._names_path(named)) if asks else None)
+    return Revision(name, script, _names_of(_names_path(named)) if asks else None)
 
 
 def _arguments(arguments: list[str]) -> argparse.Namespace:

@@ -7,6 +7,7 @@ from __future__ import annotations
 
 import hashlib
 import html
+import re
 from collections import defaultdict
 from dataclasses import dataclass
 
@@ -59,6 +60,7 @@ tr.no td { font-weight: 600; color: #a40e26; background: #fdecee }
 }
 """
 CLOSE, POINT, OPEN = range(3)
+CODE = re.compile("`([^`]+)`")
 TAB = "\t"
 
 
@@ -66,7 +68,7 @@ TAB = "\t"
 class Script:
     """What the page shows of a script. `failure` says why it was not read; else `text` has its lines, `entries` are the
     fields and refusals by place, and `rows` what the table shows of each: of a field expression, conversion, why, and
-    spec, of a refusal its words. `differences` is None if Python was not asked. `names` is None if the script asks for no
+    spec, of a refusal its words, what to change, and the literal. `differences` is None if Python was not asked. `names` is None if the script asks for no
     name of a character; else it says where they are taken from, and has the content of the file if it is one."""
 
     name: str
@@ -96,8 +98,8 @@ class Script:
         return f"Not complete: {', '.join([found, *said])}"
 
 
-def page(scripts: list[Script], version: str) -> str:
-    """The page of scripts."""
+def page(scripts: list[Script], version: list[str]) -> str:
+    """The page of scripts, listed by a version, which is told in lines."""
     lacking = sum(not script.complete for script in scripts)
     verdict = f"Complete: {_count(sum(script.fields for script in scripts), 'field')}, and these are all"
     if lacking:
@@ -119,7 +121,7 @@ def page(scripts: list[Script], version: str) -> str:
             _verdict(not lacking, verdict),
             "<p>Listed are the fields of f-strings. The operator <code>%</code>, <code>str.format</code> and "
             "<code>format()</code> format too, and are not listed.</p>",
-            f'<p class="small">Listed by stumpgarret {html.escape(version)}, for the grammar of Python 3.11.</p>',
+            f'<p class="small">Listed by {html.escape(", ".join(version))}, for the grammar of Python 3.11.</p>',
             *(_contents(scripts) if len(scripts) > 1 else []),
             *(line for number, script in enumerate(scripts, 1) for line in _section(script, f"s{number}")),
             "</body>",
@@ -197,10 +199,13 @@ def _table(script: Script, key: str) -> list[str]:
         if _is_field(entry):
             expression, conversion, why, spec = row
             cells = f'<td style="padding-left: {entry.depth + .45}rem">{_code(expression)}</td>'
-            cells += f'<td>{_code(conversion)} <span class="small">{_shown(why)}</span></td><td>{_code(spec)}</td>'
+            cells += f'<td>{_code(conversion)} <span class="small">{_worded(why)}</span></td><td>{_code(spec)}</td>'
             lines.append(f'<tr id="{key}r{number}">{place}{cells}</tr>')
         else:
-            lines.append(f'<tr class="no" id="{key}r{number}">{place}<td colspan="3">{_shown(row)}</td></tr>')
+            words, change, literal = row
+            cell = _worded(words) + (f'<p class="small">Change: {_worded(change)}</p>' if change else "")
+            cell += f"<p>{_code(literal)}</p>" if literal else ""
+            lines.append(f'<tr class="no" id="{key}r{number}">{place}<td colspan="3">{cell}</td></tr>')
     return [*lines, "</table>"] if script.entries else ["<p>There is no field.</p>"]
 
 
@@ -214,6 +219,12 @@ def _count(number: int, name: str) -> str:
 
 def _code(text: str) -> str:
     return f"<code>{_shown(text)}</code>" if text else ""
+
+
+def _worded(text: str) -> str:
+    """Words, in which code stands between backticks."""
+    parts = CODE.split(text)
+    return "".join(f"<code>{_shown(part)}</code>" if at % 2 else _shown(part) for at, part in enumerate(parts))
 
 
 def _shown(text: str, as_it_is: str = "") -> str:

@@ -1,21 +1,32 @@
 """The command: what it prints, and its exit status."""
 
+import collections
 import contextlib
+import hashlib
 import io
 import json
 import os
 import pathlib
+import re
 import subprocess
 import sys
 import tempfile
 import unittest
 from unittest import mock
 
-from support import HAS_STANDIN, stumpgarret
+from support import CLONE, HAS_STANDIN, stumpgarret
+import stumpgarret_rules
 
 BENCH = 'print("VDD "\n      f"{mv / 12.5:.0f} {n!r}\\n")\n'
 BENCH_FIELDS = "bench.py:2:10\tmv / 12.5\t\t:.0f\nbench.py:2:26\tn\t!r\t\n"
+LAST_LINE = r"^[0-9,]+ fields? in [0-9,]+ scripts?, (complete|not complete(: .*)?)(; [0-9,]+ lines? or cells? left out, not Python)?\n$"
 IS_3_11 = sys.version_info[:2] == (3, 11)
+
+
+COMMIT = subprocess.run(["git", "-C", CLONE, "rev-parse", "HEAD"], capture_output=True, text=True).stdout.strip()
+LIBRARY_HASH = hashlib.sha256(pathlib.Path(os.environ["STUMPGARRET_LIBRARY"]).read_bytes()).hexdigest()
+VERSION_LINES = [f"stumpgarret {stumpgarret.__version__}" + (f", commit {COMMIT}" if COMMIT else "")]
+VERSION_LINES += [f"library: SHA-256 {LIBRARY_HASH}"]
 
 
 class Command(unittest.TestCase):
@@ -30,6 +41,14 @@ class Command(unittest.TestCase):
         return self.run_main(*options, *(name + ".py" for name in scripts))
 
     def run_main(self, *arguments, given=b""):
+        """The same without what says what to change, and without the last line, which says whether the list is complete."""
+        status, out, err = self.run_whole(*arguments, given=given)
+        *told, last = err.splitlines(keepends=True)
+        self.assertRegex(last, LAST_LINE)
+        self.assertEqual(status == 0, ", complete" in last)
+        return status, out, "".join(line for line in told if not line.startswith("    Change: "))
+
+    def run_whole(self, *arguments, given=b""):
         with contextlib.redirect_stdout(io.StringIO()) as out, contextlib.redirect_stderr(io.StringIO()) as err:
             with mock.patch.object(sys, "stdin", io.TextIOWrapper(io.BytesIO(given))):
                 status = stumpgarret.main(list(arguments))
@@ -103,8 +122,8 @@ class Plain(Command):
         pathlib.Path("c.py").write_text("f'}'")
         status, out, err = self.run_main("a.py", "b.py")
         self.assertEqual((status, out, err), (2, "b.py:1:4\ty\t\t\n", "a.py: No such file or directory\n"))
-        status, out, err = self.run_main("b.py", ".", "c.py")
-        self.assertEqual((status, out, err.splitlines()[0]), (2, "b.py:1:4\ty\t\t\n", ".: Is a directory"))
+        status, out, err = self.run_main("b.py", "none/d.py", "c.py")
+        self.assertEqual((status, out, err.splitlines()[0]), (2, "b.py:1:4\ty\t\t\n", "none/d.py: No such file or directory"))
         self.assertEqual(len(err.splitlines()), 2)
         self.assertEqual(self.run_main("c.py", "b.py")[0], 1)
 
@@ -112,6 +131,15 @@ class Plain(Command):
         status, out, err = self.run_on(a=b"# coding: unknown\nf'{x}'", b="f'{y}'", c=b"\n'\xff'")
         self.assertEqual((status, out), (2, "b.py:1:4\ty\t\t\n"))
         self.assertRegex(err, r"^a.py: unknown coding unknown.*\nc.py: line 2 is not utf-8: .*\n$")
+
+    def test_byte_0(self):
+        status, out, err = self.run_on(a="f'{x}'".encode("utf-16-le"), b="f'{y}'")
+        said = "a.py: line 1 has a byte 0: Python does not take it; UTF-16?\n"
+        self.assertEqual((status, out, err), (2, "b.py:1:4\ty\t\t\n", said))
+
+    def test_content_that_is_a_path(self):
+        """A script may have nothing but the name of a file in it."""
+        self.assertEqual(self.run_on(a="a.py"), (0, "", ""))
 
     def test_standard_input(self):
         said = "<stdin>:2:4\té\t\t\n"
@@ -140,8 +168,8 @@ class Plain(Command):
         self.assertRegex(out, r"--names FILE +take names of characters from a UnicodeData.txt")
 
     def test_version(self):
-        """It says too where names of characters are taken from."""
-        version = f"stumpgarret {stumpgarret.__version__}\nnames of characters: "
+        """It says the commit and the library's hash, and where names of characters are taken from."""
+        version = "\n".join([*VERSION_LINES, "names of characters: "])
         pathlib.Path("names.txt").touch()
         for system, options, names in (
             ("names.txt", [], "names.txt"),
@@ -166,18 +194,100 @@ class Plain(Command):
             with open("bench.py") as given:
                 command = [*python, stumpgarret.__file__, path]
                 ran = subprocess.run(command, stdin=given, capture_output=True, text=True)
-            self.assertEqual((ran.returncode, ran.stdout, ran.stderr), (0, shown, ""))
+            self.assertEqual((ran.returncode, ran.stdout, ran.stderr), (0, shown, "2 fields in 1 script, complete\n"))
+
+
+class Words(Command):
+    """What is said of a refusal: one wording with docs/RULES.md, what was met, and what to change."""
+
+    def changes(self, *options, **scripts):
+        for name, content in scripts.items():
+            pathlib.Path(name + ".py").write_text(content)
+        _, _, err = self.run_whole(*options, *(name + ".py" for name in scripts))
+        return [line[len("    Change: ") :] for line in err.splitlines() if line.startswith("    Change: ")]
+
+    def test_one_wording(self):
+        """The heading of a number's section, or what it is told as there; the Rust crate's tests see the same."""
+        for number, (name, _) in stumpgarret.REFUSALS.items():
+            chapter = stumpgarret_rules.chapters()[number]
+            self.assertTrue(chapter.startswith(f"### 11.{number} {name}\n"))
+            told = [text for text in re.findall("`([^`\n]*)`", chapter) if text.startswith(f"{number} {name}")]
+            details = {20: [(at, 0) for at in stumpgarret.UNCLOSED], 23: [(ord("("), ord("]"))], 26: [(ord(")"), 0)]}
+            said = [stumpgarret._meaning(number, one, 40) for one in details.get(number, [(2, 3)])]
+            self.assertEqual(told or [f"{number} {name}"], said)
+
+    def test_changes(self):
+        """Each that a list can have says what to change, 20 by its detail."""
+        listed = [number for number, chapter in stumpgarret_rules.chapters().items() if "Not in a list of a script" not in chapter]
+        self.assertEqual(listed, [6, 10, 11, 13, *range(20, 29), 49, 50, 51, 75])
+        for number in listed:
+            for detail in range(1, 6):
+                change = stumpgarret_rules.change(number, detail)
+                self.assertTrue(change and "\n" not in change and "Not in a list" not in change, number)
+        self.assertEqual(len({stumpgarret_rules.change(20, detail) for detail in range(1, 6)}), 5)
+        said = ["write `}}` if a brace is meant, or the `{` that is missing before it.", "write the `}`; if a brace is meant, write `{{`"]
+        self.assertEqual(self.changes(a="f'}' f'{x'"), said)
+
+    def test_otherwise(self):
+        """75 names what was met."""
+        for source, cause in (
+            ("f'{x#}'", "a #"),
+            ("f\"{'\\n'}\"", "a backslash"),
+            (r"f'{x:\n}'", "a backslash in its spec"),
+            ("f'{\"\"\"a\" \"b\"\"\"}'", "a triple-quoted literal with its own quote inside"),
+            ("f'{x=()}'", "something after its self-documenting ="),
+            ("f'{y}{a:{x=()}}'", "something after its self-documenting ="),
+        ):
+            with self.subTest(source=source):
+                one, = stumpgarret.list_script(source).refused
+                said = f"75 read otherwise by Python: Python reads this field otherwise or not at all, by {cause}"
+                self.assertEqual(one.meaning, said)
+
+    def test_names(self):
+        """13 names the character and where it was searched; without a file of names, how one is had."""
+        source = r"f'{x}\N{EURO SIGN}' f'\N{snake}' f'\N{NO SUCH NAME}'"
+        pathlib.Path("names.txt").write_text("2603;SNOWMAN;So;0;ON;;;;;N;;;;;\n")
+        said = "a.py:1:9: refused: 13 name not held: names.txt does not have the name EURO SIGN; no field of the literal at line 1"
+        self.assertIn(said, self.run_on("--names", "names.txt", a=source)[2])
+        with mock.patch.object(stumpgarret, "SYSTEM_NAMES", "none.txt"):
+            said = "13 name not held: the library, which has fourteen names, does not have the name EURO SIGN;"
+            self.assertIn(said, self.run_on(a=source)[2])
+            without = self.changes(a=source)
+        with_a_file = self.changes("--names", "names.txt", a=source)
+        for change, code in zip(without, (r"\u20ac", r"\U0001f40d", None), strict=True):
+            self.assertIn("unicode-data", change)
+            self.assertEqual(f" Python knows it as {code}." in change, code is not None)
+        self.assertFalse(any("unicode-data" in change for change in with_a_file))
+
+    def test_explain(self):
+        for number in stumpgarret.REFUSALS:
+            with contextlib.redirect_stdout(io.StringIO()) as out, self.assertRaises(SystemExit) as caught:
+                stumpgarret.main(["--explain", str(number)])
+            self.assertEqual(caught.exception.code, 0)
+            self.assertEqual(out.getvalue(), stumpgarret_rules.chapters()[number])
+            self.assertNotIn("\n## ", out.getvalue())
+        for wrong in ("0", "8", "x", "020"):
+            self.assertIn("--explain takes the number of a refusal, one of 1, 2, 3", self.wrong_use("--explain", wrong))
+        with mock.patch.object(stumpgarret_rules, "chapters", lambda: {}):
+            self.assertIn("docs/RULES.md, which has the chapters, is not there", self.wrong_use("--explain", "20"))
 
 
 class Json(Command):
     def lines(self, source):
+        """Status, objects but for the last, which says whether the list is complete, and errors."""
         status, out, err = self.run_on("--json", a=source)
-        return status, [json.loads(line) for line in out.splitlines()], err
+        *lines, last = [json.loads(line) for line in out.splitlines()]
+        kinds = collections.Counter(line["kind"] for line in lines)
+        self.assertEqual(last, {
+            "kind": "end", "complete": status == 0, "scripts": 1, "fields": kinds["field"], "refusals": kinds["refusal"],
+            "unreadable": kinds["unreadable"], "differences": kinds["difference"], "left_out": 0,
+        })
+        return status, lines, err
 
     def test_fields(self):
-        field = {"file": "a.py", "line": 1, "column": 7, "end": [3, 2], "expression": "é\n", "documented": True}
+        field = {"kind": "field", "file": "a.py", "line": 1, "column": 7, "end": [3, 2], "expression": "é\n", "documented": True}
         field.update({"conversion": "r", "reason": "written", "spec": ">{w}\n", "depth": 0})
-        nested = {"file": "a.py", "line": 2, "column": 7, "end": [2, 9], "expression": "w", "documented": False}
+        nested = {"kind": "field", "file": "a.py", "line": 2, "column": 7, "end": [2, 9], "expression": "w", "documented": False}
         nested.update({"conversion": None, "reason": "none", "spec": None, "depth": 1})
         status, lines, err = self.lines("rf'''{é\n=!r:>{w}\n}'''")
         self.assertEqual((status, lines, err), (0, [field, nested], ""))
@@ -194,11 +304,22 @@ class Json(Command):
         """They stand at their place among the fields, and on standard error."""
         status, lines, err = self.lines("f'{x}' f'{(]}' f'{y}' f'{z#}' '")
         self.assertEqual((status, [line.get("number") for line in lines]), (1, [None, 23, None, None, 75, 50]))
-        mismatched = {"file": "a.py", "line": 1, "column": 13, "number": 23, "name": "MismatchedDelimiter"}
-        mismatched.update({"meaning": "23 MismatchedDelimiter: ( is closed by ]", "opened": [1, 12], "depth": 0})
+        mismatched = {"kind": "refusal", "file": "a.py", "line": 1, "column": 13, "number": 23, "name": "MismatchedDelimiter"}
+        mismatched.update({"meaning": "23 MismatchedDelimiter: ( is closed by ]", "start": [1, 8], "opened": [1, 12], "depth": 0})
+        mismatched["change"] = "close the bracket that was opened there."
         self.assertEqual(lines[1], mismatched)
         self.assertEqual([(line["depth"], line["opened"]) for line in lines[4:]], [(1, None), (0, None)])
         self.assertEqual(len(err.splitlines()), 3)
+
+    def test_unreadable(self):
+        """An object says so, and the last one that the list is not complete: no stream is empty."""
+        status, lines, _ = self.lines(b"\n\xff")
+        self.assertEqual((status, [line["kind"] for line in lines]), (2, ["unreadable"]))
+        self.assertEqual((lines[0]["file"], lines[0]["meaning"][:22]), ("a.py", "line 2 is not utf-8: '"))
+        self.assertEqual(self.lines("")[:2], (0, []))
+        unavailable = mock.Mock(side_effect=stumpgarret.Unavailable("it is missing"))
+        with mock.patch.object(stumpgarret, "_function", unavailable):
+            self.assertEqual(self.lines("f'{x}'")[:2], (2, []))
 
     def test_ascii(self):
         _, out, _ = self.run_on("--json", **{"é": "f'{é}'"})
@@ -246,15 +367,45 @@ class Check(Command):
         self.assertEqual([one.split(": ")[0] for one in said], lines)
 
     def test_syntax_error(self):
-        for source in ("f'{a b}'", "\nx = = 1", "if x:\nf'{x}'", "f'{x}'\n\0"):
+        for source in ("f'{a b}'", "\nx = = 1", "if x:\nf'{x}'"):
             status, _, err = self.run_on("--check", a=source)
             self.assertEqual(status, 1)
             self.assertRegex(err, r"^a.py:\d: Python refuses the script: ")
 
     def test_with_json(self):
-        status, out, err = self.run_on("--check", "--json", a="f'{a b}'")
-        self.assertEqual((status, json.loads(out)["expression"]), (1, "a b"))
-        self.assertIn("Python refuses", err)
+        status, out, err = self.run_on("--check", "--json", a="\nf'{a b}'")
+        field, difference, end = map(json.loads, out.splitlines())
+        self.assertEqual((status, field["expression"], end["complete"], end["differences"]), (1, "a b", False, 1))
+        self.assertEqual((difference["kind"], difference["file"], difference["line"]), ("difference", "a.py", 2))
+        self.assertRegex(difference["meaning"], "^Python refuses the script: ")
+        self.assertIn("a.py:2: Python refuses", err)
+
+
+class Documents(Command):
+    def test_options(self):
+        """The options that pages for pipelines name are the command's."""
+        with contextlib.redirect_stdout(io.StringIO()) as out, self.assertRaises(SystemExit):
+            stumpgarret.main(["--help"])
+        known = set(re.findall(r"^  (?:-h, )?(--[a-z-]+)", out.getvalue(), re.M))
+        for name in ("docs/CI.md", ".pre-commit-hooks.yaml", "fields"):
+            text = (CLONE / name).read_text(encoding="utf-8")
+            named = {option for line in re.findall(r"(?:stumpgarret|fields)(?: .*)?$", text, re.M) for option in re.findall(r" (--[a-z-]+)", line)}
+            self.assertLessEqual(named, known, name)
+        for option in known - {"--help"}:
+            self.assertIn(f"| `{option}", (CLONE / "bindings/python/README.md").read_text(encoding="utf-8"))
+
+    def test_hook(self):
+        """Each of the hook's lines is one of pre-commit's keys, and its words run."""
+        lines = [line[2:] for line in (CLONE / ".pre-commit-hooks.yaml").read_text().splitlines() if not line.startswith("#")]
+        hook = dict(line.split(": ", 1) for line in lines)
+        self.assertEqual([*hook], ["id", "name", "description", "entry", "language", "types_or", "require_serial"])
+        program, *words = hook["entry"].split()
+        pathlib.Path("a.py").write_text("f'{x}'")
+        self.assertEqual((program, self.run_main(*words, "a.py")), ("stumpgarret", (0, "a.py:1:4\tx\t\t\n", "")))
+
+    def test_versions(self):
+        for name in ("docs/CI.md", "CHANGELOG.md", "docs/stumpgarret.1"):
+            self.assertIn(stumpgarret.__version__, (CLONE / name).read_text(encoding="utf-8"), name)
 
 
 class OtherPythons(Command):
@@ -263,9 +414,11 @@ class OtherPythons(Command):
             self.assertIn("--check needs Python 3.11, and this is 3.12", self.wrong_use("--check", "a.py"))
 
     def test_syntax(self):
-        """The module has nothing that the grammar of Python 3.7 does not have."""
-        with open(stumpgarret.__file__, encoding="utf-8") as file:
-            compile(file.read(), "stumpgarret.py", "exec", stumpgarret.ast.PyCF_ONLY_AST, _feature_version=7)
+        """The modules have nothing that the grammar of Python 3.7 does not have."""
+        modules = sorted((CLONE / "bindings/python").glob("stumpgarret*.py"))
+        self.assertGreater(len(modules), 5)
+        for module in modules:
+            compile(module.read_text(encoding="utf-8"), module, "exec", stumpgarret.ast.PyCF_ONLY_AST, _feature_version=7)
 
 
 if __name__ == "__main__":

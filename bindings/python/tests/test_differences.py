@@ -12,8 +12,8 @@ import test_listing
 import test_tokenize
 from by_python import literal
 from cut_model import cut
-from support import CLONE, load
-from stumpgarret import Field, FieldRow, Kind, Refusal, list_script, read, rows, text_of
+from support import CLONE, load, stumpgarret
+from stumpgarret import Field, FieldRow, Kind, Refusal, Undecodable, list_script, read, rows, text_of
 
 differences = load("oracle/differences")
 unparsed = load("oracle/readings.py").unparsed
@@ -110,8 +110,11 @@ def joined(parts):
 
 
 def effect(script):
-    """What becomes of fields, and the numbers that tell it."""
-    text = text_of(script).encode("utf-8", "surrogatepass")
+    """What becomes of fields, and the numbers that tell it; nothing is read of a script that is no text."""
+    try:
+        text = text_of(script).encode("utf-8", "surrogatepass")
+    except Undecodable:
+        return ({"lost"} if by_python(script) else set()), set()
     listed = list_script(script)
     ours = [] if listed.refused and listed.refused[0].number == 49 else [*by_reading(text)]
     python, ours = map(collections.Counter, (by_python(script), ours))
@@ -167,7 +170,7 @@ class Effects(unittest.TestCase):
         """What is read here, literal by literal, is as much as the list of the script has at its first level."""
         for title, source in ((entry[0], entry[1]) for table in TABLES for entry in table):
             for script in [source, *WITH_A_FIELD.get(title, [])]:
-                text = text_of(script).encode("utf-8", "surrogatepass")
+                text = stumpgarret._decoded(script).encode("utf-8", "surrogatepass")
                 if len(text) <= test_listing.MOST:
                     found = [row for row in rows(text).rows if isinstance(row, FieldRow)]
                     self.assertEqual(len([*by_reading(text)]), len(found), title)

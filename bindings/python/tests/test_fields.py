@@ -1,10 +1,13 @@
 """Scripts: the call's rows, where fields stand, what is written, and what is refused."""
 
 import array
+import contextlib
 import ctypes
 import doctest
 import pathlib
+import pydoc
 import re
+import tempfile
 import unittest
 from unittest import mock
 
@@ -125,10 +128,34 @@ class WrongTypes(unittest.TestCase):
         self.refuses("what list_script gives is wanted, not list", differences, b"", [])
 
 
+class Paths(unittest.TestCase):
+    def test_path_for_content(self):
+        """A path that is given by mistake would be a script without fields."""
+        with tempfile.TemporaryDirectory() as folder, contextlib.chdir(folder):
+            pathlib.Path("bench.py").write_text("f'{x}'")
+            for path in ("bench.py", b"bench.py", f"{folder}/bench.py"):
+                for call in (fields, list_script):
+                    with self.assertRaisesRegex(ValueError, "^a script's content is wanted, and .*bench.py is the path of a file"):
+                        call(path)
+            for content in ("bench.pyw", "bench.py\n", folder, "", "f'{x}'"):
+                self.assertTrue(list_script(content).complete)
+
+
 class Module(unittest.TestCase):
     def test_example_of_help(self):
         ran = doctest.testmod(stumpgarret)
-        self.assertEqual((ran.failed, ran.attempted), (0, 5))
+        self.assertEqual((ran.failed, ran.attempted), (0, 9))
+
+    def test_names(self):
+        """What people call comes first, in what help() shows too; each name is there, and all that is public is among them."""
+        self.assertEqual(stumpgarret.__all__[:3], ["fields", "list_script", "differences"])
+        public = {name for name, one in vars(stumpgarret).items() if getattr(one, "__module__", "") == "stumpgarret"}
+        public = {name for name in public if not name.startswith("_") and not name.isupper()} - {"main", "process"}
+        self.assertEqual(set(stumpgarret.__all__) - {"REASONS", "REFUSALS", "UNCLOSED"}, public)
+        shown = pydoc.plain(pydoc.render_doc(stumpgarret))
+        called = shown.index("fields(source) "), shown.index("list_script(source) "), shown.index("python3 stumpgarret.py --help")
+        self.assertEqual(called, tuple(sorted(called)))
+        self.assertLess(shown.index("stumpgarret.fields("), 300)
 
     def test_one_version(self):
         crate = (CLONE / "bindings/rust/Cargo.toml").read_text()
@@ -236,6 +263,10 @@ class Codings(unittest.TestCase):
             (b"# coding: punycode\n''", "is not punycode: "),
             (b"\xef\xbb\xbf# coding: latin-1\n", "its coding line says iso-8859-1, and it has a byte order mark"),
             (b"\xef\xbb\xbf#\n# coding: utf8\n", "its coding line says utf8, and it has a byte order mark"),
+            ("f'{x}'".encode("utf-16-le"), r"line 1 has a byte 0: Python does not take it; UTF-16\?"),
+            ("\nf'{x}'\n".encode("utf-16-be"), "line 1 has a byte 0"),
+            (b"f'{x}'\r\n'\0'", "line 2 has a byte 0"),
+            ("f'{x}'\n\n\0", "line 3 has a byte 0"),
         ):
             for function in (fields, list_script, text_of):
                 with self.assertRaisesRegex(Undecodable, said):

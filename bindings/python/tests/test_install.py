@@ -9,6 +9,7 @@ import hashlib
 import os
 import pathlib
 import platform
+import re
 import shutil
 import stat
 import subprocess
@@ -18,6 +19,7 @@ import unittest
 import zipfile
 
 from support import CLONE, stumpgarret
+import stumpgarret_rules
 
 CALLS_AT_ONCE = 24
 EMULATED = platform.machine() != "x86_64"
@@ -25,7 +27,7 @@ EMULATOR = ["qemu-x86_64"] if EMULATED else []
 SYSTEM = "/usr/local/bin:/usr/bin:/bin"
 OTHER_USER = ["runuser", "-u", "nobody", "--"] if os.geteuid() == 0 else []
 # All that a call needs of a system, once the library is built.
-NEEDED = ["bash", "dirname", "env", "find", "python3", "readlink", "sh", "uname", *EMULATOR]
+NEEDED = ["bash", "dirname", "env", "find", "python3", "readlink", "sh", "sha256sum", "sort", "uname", "xargs", *EMULATOR]
 BENCH_FIELDS = """\
 examples/bench.py:2:28\tmv / 1000\t\t:.3f
 examples/bench.py:4:10\t743 / 12.5\t\t:.0f
@@ -37,6 +39,7 @@ examples/bench.py:7:14\tat\t\t:>9,
 examples/bench.py:7:31\tmv\t\t:>5
 examples/bench.py:7:48\tcode\t\t:#06x
 """
+BENCH_LAST = "9 fields in 1 script, complete\n"
 BENCH_REPLAY = "replay", "examples/bench.py:7", "examples/readings.csv"
 BENCH_LINES = """\
         0 us  VDD   743 mV  code 0x003b
@@ -45,9 +48,14 @@ BENCH_LINES = """\
     1,000 us  VDD  5003 mV  code 0x0190
 1,048,576 us  VDD   743 mV  code 0xffff
 """
+ONE_FIELD = "1 field in 1 script, complete\n"
 SYSTEM_NAMES = pathlib.Path(stumpgarret.SYSTEM_NAMES)
+PARTS = "LICENSE NOTICE CHANGELOG.md bindings crates crates.txt docs examples fields install prepare stumpgarret".split()
+COMMIT = "0123456789abcdef0123456789abcdef01234567"
+LIBRARY_HASH = hashlib.sha256((CLONE / "target/python/libstumpgarret.so").read_bytes()).hexdigest()
 VERSION = f"""\
-stumpgarret {stumpgarret.__version__}
+stumpgarret {stumpgarret.__version__}, commit {COMMIT}
+library: SHA-256 {LIBRARY_HASH}
 names of characters: {SYSTEM_NAMES if SYSTEM_NAMES.exists() else "fourteen, of the library"}
 """
 NAMES = "2603;SNOWMAN;So;0;ON;;;;;N;;;;;\n"
@@ -97,11 +105,14 @@ class Copy(unittest.TestCase):
         cls.work.chmod(0o755)
         cls.built = cls.work / "built"
         (cls.built / "target/staticlib").mkdir(parents=True)
-        for part in ("NOTICE", "bindings", "crates", "crates.txt", "examples", "fields", "install", "prepare", "stumpgarret"):
+        for part in PARTS:
             subprocess.run(["cp", "-a", CLONE / part, cls.built], check=True)
+        (cls.built / ".git").mkdir()
+        (cls.built / ".git/HEAD").write_text(f"{COMMIT}\n")
         shutil.copy(os.environ["STUMPGARRET_STATIC"], cls.built / "target/staticlib/libstumpgarret.a")
         subprocess.run(["cp", "-a", CLONE / "target/python", cls.built / "target"], check=True)
-        (cls.built / "target/python/libstumpgarret.so").touch()
+        sources = subprocess.run([cls.built / "bindings/python/sources"], check=True, capture_output=True, text=True).stdout
+        (cls.built / "target/python/built-from").write_text(sources)
         subprocess.run(["chmod", "-R", "a+rX,a-w", cls.built], check=True)
         cls.few = cls.tools("few", *NEEDED)
 
@@ -136,7 +147,8 @@ class Copy(unittest.TestCase):
         folder = self.folder()
         (folder / "rt").write_text(RT)
         (folder / "rt").chmod(0o755)
-        return {"PATH": f"{folder}:{SYSTEM}", "STUMPGARRET_STATIC": os.environ["STUMPGARRET_STATIC"]}
+        given = {"STUMPGARRET_STATIC": os.environ["STUMPGARRET_STATIC"], "NAMES": "/dev/null"}
+        return {"PATH": f"{folder}:{SYSTEM}", **given}
 
 
 class Fields(Copy):
@@ -147,13 +159,13 @@ class Fields(Copy):
             for _ in range(CALLS_AT_ONCE)
         ]
         for call in calls:
-            self.assertEqual(ended(call), (0, BENCH_FIELDS, ""))
+            self.assertEqual(ended(call), (0, BENCH_FIELDS, BENCH_LAST))
         self.assertEqual(state(self.built), before)
 
     def test_words(self):
         for words, said in (
-            (("fields", "examples/bench.py"), BENCH_FIELDS),
-            (("examples/bench.py",), BENCH_FIELDS),
+            (("fields", "--quiet", "examples/bench.py"), BENCH_FIELDS),
+            (("--quiet", "examples/bench.py"), BENCH_FIELDS),
             (BENCH_REPLAY, BENCH_LINES),
         ):
             call = run("./stumpgarret", *words, user=OTHER_USER, cwd=self.built, PATH=self.few)
@@ -175,7 +187,7 @@ class Fields(Copy):
         call = run(self.built / "fields", "a.py", user=OTHER_USER, cwd=folder, PATH=self.few)
         self.assertEqual(call[:2], (0, "a.py:1:4\tx\t\t\n") if SYSTEM_NAMES.exists() else (1, ""))
         call = run(self.built / "fields", "--names", "names.txt", "a.py", user=OTHER_USER, cwd=folder, PATH=self.few)
-        self.assertEqual(call, (0, "a.py:1:4\tx\t\t\n", ""))
+        self.assertEqual(call, (0, "a.py:1:4\tx\t\t\n", ONE_FIELD))
 
     def test_built_once(self):
         """Of calls at once one builds; the others wait for it, and then there is a whole library."""
@@ -186,7 +198,7 @@ class Fields(Copy):
         self.assertIn((0, "", "another call is building the library: waiting for it\n"), found)
         self.assertEqual((clone / "rt-calls").read_text(), "called\n")
         self.assertLessEqual({path.name for path in (clone / "target/python").glob("*.so*")}, {"libstumpgarret.so"})
-        self.assertEqual(run("./fields", "examples/bench.py", cwd=clone, PATH=self.few), (0, BENCH_FIELDS, ""))
+        self.assertEqual(run("./fields", "examples/bench.py", cwd=clone, PATH=self.few), (0, BENCH_FIELDS, BENCH_LAST))
 
     def test_told(self):
         """Which of how many crates, and how long it may take."""
@@ -204,22 +216,50 @@ class Fields(Copy):
         self.assertEqual((status, out, err.splitlines()), (0, "", told))
 
     def test_built_again(self):
-        """After a change, and only then."""
+        """After a change of what a file has or is called, and only then: its time is not looked at."""
         clone, variables = self.writable(), self.with_rt()
         for change in (None, None, "crates.txt", None, "crates/strings/src/lib.rt", "bindings/python/build"):
             if change:
-                (clone / change).touch()
+                with (clone / change).open("a") as file:
+                    file.write("\n")
             self.assertEqual(run("bindings/python/ready", cwd=clone, **variables)[0], 0)
+            for touched in ("crates.txt", "crates/strings/src/lib.rt", "bindings/python/build"):
+                (clone / touched).touch()
+            os.utime(clone / "crates.txt", (0, 0))
         self.assertEqual((clone / "rt-calls").read_text(), 4 * "called\n")
+        (clone / "crates/strings/src/lib.rt").rename(clone / "crates/strings/src/other.rt")
+        self.assertEqual(run("bindings/python/ready", cwd=clone, **variables)[0], 0)
+        self.assertEqual((clone / "rt-calls").read_text(), 5 * "called\n")
+
+    def test_touched(self):
+        """Who has neither rt nor leave to write can call it after a touch, too."""
+        clone = self.writable()
+        self.assertEqual(run("bindings/python/ready", cwd=clone, **self.with_rt())[0], 0)
+        (clone / "crates.txt").touch()
+        with read_only(clone):
+            call = run("./fields", "examples/bench.py", user=OTHER_USER, cwd=clone, PATH=self.few)
+        self.assertEqual(call, (0, BENCH_FIELDS, BENCH_LAST))
 
     def test_changed_meanwhile(self):
         """A source that changed while the library was built counts as changed."""
         clone, variables = self.writable(), self.with_rt()
         rt = pathlib.Path(variables["PATH"].split(":")[0], "rt")
-        rt.write_text(RT + "touch crates.txt\n")
+        rt.write_text(RT + "echo >> crates.txt\n")
         for _ in range(2):
             self.assertEqual(run("bindings/python/ready", cwd=clone, **variables)[0], 0)
         self.assertEqual((clone / "rt-calls").read_text(), 2 * "called\n")
+
+    def test_names_are_prepared(self):
+        """What ./fields needs has the names of characters with it; it goes on if they cannot be had."""
+        variables = {**self.with_rt(), "NAMES": "/none"}
+        tools = pathlib.Path(variables["PATH"].split(":")[0])
+        for status, said in ((0, ""), (1, "./prepare: Debian's unicode-data cannot be had: fourteen names of characters are known\n")):
+            (tools / "apt-get").write_text(f'#!/bin/sh\necho "$@"\ncase $* in *install*) exit {status} ;; esac\n')
+            (tools / "apt-get").chmod(0o755)
+            ended, out, err = run("./prepare", "run", cwd=CLONE, **variables)
+            self.assertEqual((ended, err), (0, said))
+            self.assertIn("-q install -y --no-install-recommends unicode-data\n", out)
+        self.assertEqual(run("./prepare", "run", cwd=CLONE, **{**variables, "NAMES": "/dev/null"})[0], 0)
 
     def test_failed(self):
         """Nothing is left of a build that failed, and the next call tries again."""
@@ -227,7 +267,7 @@ class Fields(Copy):
         rt = pathlib.Path(variables["PATH"].split(":")[0], "rt")
         rt.write_text("#!/bin/sh\necho it is not proved >&2\nexit 1\n")
         status, out, err = run("./fields", "examples/bench.py", cwd=clone, **variables)
-        self.assertEqual((status, out), (1, ""))
+        self.assertEqual((status, out), (2, ""))
         self.assertIn("it is not proved", err)
         self.assertEqual([*(clone / "target/python").glob("*.so*")], [])
         rt.write_text(RT)
@@ -267,10 +307,16 @@ class Install(Copy):
 
     def test_files(self):
         self.assertEqual((self.status, self.err, self.unchanged), (0, "", True))
-        modules = ["stumpgarret.py", "stumpgarret_compare.py", "stumpgarret_page.py", "stumpgarret_replay.py", "libstumpgarret.so"]
+        modules = sorted(path.name for path in (CLONE / "bindings/python").glob("stumpgarret*.py"))
+        modules += ["libstumpgarret.so", "stumpgarret_commit", "stumpgarret_rules.md"]
         files = ["bin/stumpgarret", *(f"lib/stumpgarret/{name}" for name in modules), "lib/libstumpgarret.a"]
-        files += ["include/stumpgarret.h", "share/doc/stumpgarret/NOTICE", self.wheel.relative_to(self.prefix)]
+        files += ["include/stumpgarret.h", "lib/pkgconfig/stumpgarret.pc", "share/man/man1/stumpgarret.1"]
+        files += [f"share/doc/stumpgarret/{name}" for name in ("LICENSE", "NOTICE", "CHANGELOG.md", "RULES.md", "AUDIT.md")]
+        files += [str(self.wheel.relative_to(self.prefix))]
         said = self.out.splitlines()
+        found = [str(path.relative_to(self.prefix)) for path in self.prefix.rglob("*") if path.is_file()]
+        found = [path for path in found if not path.startswith("lib/stumpgarret/root/")]
+        self.assertEqual(sorted(found), sorted([*files, "lib/stumpgarret/installed"]))
         for file in files:
             path = self.prefix / file
             self.assertEqual(stat.S_IMODE(path.stat().st_mode), 0o755 if path.parent.name == "bin" else 0o644, file)
@@ -285,7 +331,7 @@ class Install(Copy):
         link.symlink_to(self.prefix / "bin/stumpgarret")
         for command in (self.prefix / "bin/stumpgarret", link):
             call = run(command, "examples/bench.py", user=OTHER_USER, cwd=examples, PATH=self.few)
-            self.assertEqual(call, (0, BENCH_FIELDS, ""))
+            self.assertEqual(call, (0, BENCH_FIELDS, BENCH_LAST))
             call = run(command, *BENCH_REPLAY, user=OTHER_USER, cwd=examples, PATH=self.few)
             self.assertEqual(call, (0, BENCH_LINES, ""))
 
@@ -299,7 +345,7 @@ class Install(Copy):
         self.assertEqual(run(command, "--version", **given), (0, VERSION, ""))
         call = run(command, "a.py", **given)
         self.assertEqual(call[:2], (0, "a.py:1:4\tx\t\t\n") if SYSTEM_NAMES.exists() else (1, ""))
-        self.assertEqual(run(command, "--names", "names.txt", "a.py", **given), (0, "a.py:1:4\tx\t\t\n", ""))
+        self.assertEqual(run(command, "--names", "names.txt", "a.py", **given), (0, "a.py:1:4\tx\t\t\n", ONE_FIELD))
         status, out, err = run(command, "--names", "twice.txt", "a.py", **given)
         self.assertEqual((status, out), (2, ""))
         self.assertIn("stumpgarret: the file of names twice.txt is refused: 61 name twice: ", err)
@@ -310,22 +356,104 @@ class Install(Copy):
         page.parent.chmod(0o777)
         words = "--html", page, "examples/bench.py"
         call = run(self.prefix / "bin/stumpgarret", *words, user=OTHER_USER, cwd=self.work / "away", PATH=self.few)
-        self.assertEqual(call, (0, "", ""))
+        self.assertEqual(call, (0, "", BENCH_LAST))
         self.assertIn("Complete: 9 fields, and these are all", page.read_text())
 
     def test_again(self):
         """Over what is installed already."""
-        (self.work / "away").rename(self.built)
-        try:
-            again = run("./install", "--prefix", self.prefix, cwd=self.built, PATH=SYSTEM)
-        finally:
-            self.built.rename(self.work / "away")
-        self.assertEqual(again, (0, self.out, ""))
+        self.assertEqual(self.install("--prefix", self.prefix), (0, self.out, ""))
 
     def test_wrong_use(self):
-        for words in (["--prefix"], ["--prefix", ""], ["there"], ["--prefix", "there", "and"]):
+        for words in (["--prefix"], ["--prefix", ""], ["--prefix="], ["there"], ["--prefix", "there", "and"]):
             status, _, err = run(CLONE / "install", *words, cwd=self.work, PATH=SYSTEM)
-            self.assertEqual((status, err), (2, f"usage: {CLONE}/install [--prefix DIR]\n"))
+            self.assertEqual((status, err), (2, f"usage: {CLONE}/install [--uninstall] [--prefix DIR]\n"))
+
+    def install(self, *words, **variables):
+        """Status, output and errors of ./install, which finds the clone again meanwhile."""
+        (self.work / "away").rename(self.built)
+        try:
+            return run("./install", *words, cwd=self.built, **{"PATH": SYSTEM, **variables})
+        finally:
+            self.built.rename(self.work / "away")
+
+    def test_help(self):
+        status, out, err = self.install("--help")
+        self.assertEqual((status, err), (0, ""))
+        for said in ("./install --uninstall [--prefix DIR]", "DIR is /usr/local if it is not given", "DESTDIR"):
+            self.assertIn(said, out)
+        self.assertNotIn("set -euo", out)
+
+    def test_uninstall(self):
+        """Nothing is left of it, and what others put there is."""
+        prefix = self.folder() / "there"
+        self.assertEqual(self.install(f"--prefix={prefix}")[0], 0)
+        (prefix / "bin/other").write_text("")
+        status, out, err = self.install("--uninstall", "--prefix", prefix)
+        self.assertEqual((status, err), (0, ""))
+        self.assertIn(f"{prefix}/bin/stumpgarret", out.splitlines())
+        self.assertEqual([path for path in prefix.rglob("*") if path.is_file()], [prefix / "bin/other"])
+        for gone in ("lib/stumpgarret", "lib/pkgconfig", "share/stumpgarret", "share/doc/stumpgarret"):
+            self.assertFalse((prefix / gone).exists())
+        said = f"./install: nothing is installed in {prefix}\n"
+        self.assertEqual(self.install("--uninstall", "--prefix", prefix), (2, "", said))
+
+    def test_destdir(self):
+        """Files are written below it, and none of them names it."""
+        stage = self.folder() / "stage"
+        status, out, err = self.install("--prefix", "/opt/stumpgarret", DESTDIR=stage)
+        self.assertEqual((status, err), (0, ""))
+        self.assertFalse(pathlib.Path("/opt/stumpgarret").exists())
+        for path in (stage / "opt/stumpgarret").rglob("*"):
+            if path.is_file() and path.suffix not in (".whl", ".so", ".a") and "root" not in path.parts:
+                self.assertNotIn(str(stage), path.read_text(errors="replace"), path)
+        call = run(stage / "opt/stumpgarret/bin/stumpgarret", "--version", cwd="/", PATH=self.few)
+        self.assertEqual(call, (0, VERSION, ""))
+        self.assertEqual(self.install("--uninstall", "--prefix", "/opt/stumpgarret", DESTDIR=stage)[0], 0)
+        self.assertEqual([path for path in stage.rglob("*") if path.is_file()], [])
+
+    def test_explain(self):
+        """The chapters and what to change are there without the clone."""
+        command = self.prefix / "bin/stumpgarret"
+        status, out, err = run(command, "--explain", "20", cwd="/", PATH=self.few)
+        self.assertEqual((status, out[:25], err), (0, "### 11.20 UnclosedLbrace\n", ""))
+        folder = self.folder()
+        (folder / "a.py").write_text("f'}'")
+        self.assertIn("    Change: write `}}` if", run(command, "a.py", cwd=folder, PATH=self.few)[2])
+
+    def test_isolated(self):
+        """Another's modules are not run in the place of the tool's, nor another home taken."""
+        folder = self.folder()
+        for name in ("json", "argparse"):
+            (folder / f"{name}.py").write_text("raise SystemExit('run in the place of the tool')")
+        variables = {"PATH": self.few, "PYTHONPATH": folder, "PYTHONHOME": "/nowhere"}
+        call = run(self.prefix / "bin/stumpgarret", "--json", "--quiet", "examples/bench.py", cwd=self.work / "away", **variables)
+        self.assertEqual((call[0], call[1].count("\n"), call[2]), (0, 10, ""))
+
+    @unittest.skipUnless(shutil.which("pkg-config", path=SYSTEM), "there is no pkg-config")
+    def test_pkg_config(self):
+        """It gives what a C program is compiled and linked with."""
+        source, program = self.work / "by_name.c", self.work / "by_name"
+        source.write_text('#include <stumpgarret.h>\nint main(void) { return !stumpgarret_read; }\n')
+        variables = {"PATH": SYSTEM, "PKG_CONFIG_PATH": self.prefix / "lib/pkgconfig"}
+        ask = ["pkg-config", "--cflags", "--libs", "stumpgarret"]
+        status, flags, err = run(*ask, cwd="/", **variables)
+        self.assertEqual((status, err), (0, ""))
+        compiler = "x86_64-linux-gnu-gcc" if EMULATED else "gcc"
+        line = f"{compiler} -static -o {program} {source} {flags.strip()}"
+        subprocess.run(["sh", "-c", line], check=True)
+        self.assertEqual(subprocess.run([*EMULATOR, program]).returncode, 0)
+        self.assertEqual(run("pkg-config", "--modversion", "stumpgarret", cwd="/", **variables)[1].strip(), stumpgarret.__version__)
+
+    def test_manual(self):
+        """It has each option of the command, and no other, and nothing that groff warns of."""
+        page = (CLONE / "docs/stumpgarret.1").read_text()
+        options = set(re.findall(r"--[a-z-]+", page.replace("\\-", "-"))) - {"--lf"}
+        status, out, _ = run(self.prefix / "bin/stumpgarret", "--help", cwd="/", PATH=self.few)
+        self.assertEqual(options, set(re.findall(r"^  (?:-h, )?(--[a-z-]+)", out, re.M)))
+        self.assertIn(f"stumpgarret {stumpgarret.__version__}", page)
+        if shutil.which("groff", path=SYSTEM):
+            ran = subprocess.run(["groff", "-man", "-ww", "-z", self.prefix / "share/man/man1/stumpgarret.1"], capture_output=True)
+            self.assertEqual((ran.returncode, ran.stderr), (0, b""))
 
     def test_c(self):
         """A C program finds header and library there."""
@@ -364,6 +492,10 @@ class Install(Copy):
         program = "import stumpgarret as s; print(s.__file__, [field.spec for field in s.fields(\"f'{x:3}'\")])"
         call = run(*self.python, "-B", "-c", program, cwd="/", PATH=self.few, PYTHONPATH=folder)
         self.assertEqual(call, (0, f"{folder}/stumpgarret.py ['3']\n", ""))
+        program = "import stumpgarret; stumpgarret.process()"
+        for words, said in ((["--version"], VERSION), (["--explain", "25"], stumpgarret_rules.chapters()[25])):
+            call = run(*self.python, "-B", "-c", program, *words, cwd="/", PATH=self.few, PYTHONPATH=folder)
+            self.assertEqual(call, (0, said, ""))
         named = r"f'{x:3}\N{SNOWMAN}'"
         program = f"import stumpgarret as s; print(len(s.fields({named!r}, names=s.Names.build({NAMES.encode()!r}))))"
         call = run(*self.python, "-B", "-c", program, cwd="/", PATH=self.few, PYTHONPATH=folder)
@@ -375,11 +507,7 @@ class Install(Copy):
         there = self.work / "environment"
         subprocess.run([sys.executable, "-m", "venv", "--without-pip", there], check=True)
         path = f"{there}/bin:{SYSTEM}"
-        (self.work / "away").rename(self.built)
-        try:
-            status, _, _ = run("./install", "--prefix", there, cwd=self.built, PATH=path)
-        finally:
-            self.built.rename(self.work / "away")
+        status, _, _ = self.install("--prefix", there, PATH=path)
         program = "import stumpgarret; print(stumpgarret.__file__)"
         call = run("python3", "-B", "-c", program, cwd="/", PATH=path)
         self.assertEqual((status, call), (0, (0, f"{there}/lib/stumpgarret/stumpgarret.py\n", "")))

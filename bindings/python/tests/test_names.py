@@ -3,6 +3,7 @@
 import collections
 import ctypes
 import hashlib
+import json
 import os
 import pathlib
 import random
@@ -322,7 +323,7 @@ class Scripts(Refuses):
         found = list_script("f'\\N{SNOW}{a}' f'{b}\\N{OHM SIGN}' '\\N{NONE}' f'{c}'", self.names)
         self.assertEqual([field.expression for field in found.fields], ["a", "c"])
         self.assertEqual([(one.number, one.column) for one in found.refused], [(13, 24)])
-        self.assertIn("13 name not held: the file of names, or without one the library, does not", found.refused[0].reason)
+        self.assertIn("13 name not held: the file of names does not have the name OHM SIGN;", found.refused[0].reason)
 
     def test_room(self):
         for count, lent in ((256, [2560]), (300, [2560, 3000])):
@@ -431,7 +432,8 @@ class Command(test_command.Command):
             for options, path in (([], "system.txt"), (["--names", "system.txt"], "system.txt")):
                 for more in ([], ["--json"], ["--html", "page.html"]):
                     status, out, err = self.run_on(*options, *more, a=self.SOURCE, b="f'{y}'")
-                    self.assertEqual((status, out), (2, ""))
+                    ends = [json.loads(line)["kind"] for line in out.splitlines()]
+                    self.assertEqual((status, ends), (2, ["end"] if more == ["--json"] else []))
                     self.assertRegex(err, self.said(path, number, name))
             self.assertFalse(os.path.exists("page.html"))
 

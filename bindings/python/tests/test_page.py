@@ -10,10 +10,11 @@ import unittest
 import test_command
 from support import stumpgarret
 import stumpgarret_page
+import stumpgarret_rules
 
 TAGS = set("html head meta title style body h1 h2 p code a table tr th td div ol li mark span".split())
 HOSTILE = ["</script>", "<script>alert(1)</script>", "</mark>", "</ol>", "&lt;", "&#0;", '"', "'", "<!--", "-->", "]]>", "\\"]
-HOSTILE += [*"\0\1\t\n\x0b\x0c\x7f\x85\xa0\u2028\u202e\u200b\ufeffé\U0001f50b"]
+HOSTILE += [*"\1\t\n\x0b\x0c\x7f\x85\xa0\u2028\u202e\u200b\ufeffé\U0001f50b"]
 FIELDS = ["f'{x}'", "f'{a:<{w}}'", "f'''{\nb!r}'''", "f'{f\"{c}\":>{d=}}'", "f'{(]}'", "f'}'", "f'{e#}'"]
 
 
@@ -101,12 +102,12 @@ class Parts(Command):
         head, *rows = page.rows
         self.assertEqual(head, (None, ["Place", "Expression", "Conversion", "Spec"]))
         table = [["2:10", "mv / 12.5", " ", ":.0f"], ["2:26", "n", "!r ", ""]]
-        table += [["2:32", "k=", "!r repr: `=` with no spec", ""]]
+        table += [["2:32", "k=", "!r repr: = with no spec", ""]]
         self.assertEqual(rows, [(None, row) for row in table])
         said = dict.fromkeys(text for _, text in page.said)
         self.assertEqual(page.said[0], ("yes", "Complete: 3 fields, and these are all"))
         self.assertIn(f"SHA-256 {hashlib.sha256(source.encode()).hexdigest()}, {len(source)} bytes", said)
-        self.assertIn(f"Listed by stumpgarret {stumpgarret.__version__}, for the grammar of Python 3.11.", said)
+        self.assertIn(f"Listed by {', '.join(test_command.VERSION_LINES)}, for the grammar of Python 3.11.", said)
         self.assertTrue(any("str.format and format() format too, and are not listed." in text for text in said))
 
     def test_refused(self):
@@ -114,7 +115,9 @@ class Parts(Command):
         words = [line.split(": ", 1)[1] for line in err.splitlines()]
         self.assertEqual(len(words), 2)
         first, last = (None, ["1:4", "x", " ", ""]), (None, ["3:4", "y", " ", ""])
-        self.assertEqual(page.rows[1:], [first, ("no", ["2:4", words[0]]), last, ("no", ["3:8", words[1]])])
+        changes = [stumpgarret_rules.change(number, 0).replace("`", "") for number in (25, 50)]
+        shown = [f"{word}Change: {change}{text}" for word, change, text in zip(words, changes, ["f'}'", "'"])]
+        self.assertEqual(page.rows[1:], [first, ("no", ["2:4", shown[0]]), last, ("no", ["3:8", shown[1]])])
         self.assertEqual(page.said[0], ("no", "Not complete: what is in red, in 1 of 1 script"))
         self.assertIn(("no", "Not complete: 2 fields, 2 refusals"), page.said)
 
@@ -141,6 +144,22 @@ class Parts(Command):
         page, err = self.page("--check", status=1, a="f'{a b}'")
         self.assertIn(("no", err.rstrip("\n")), page.said)
         self.assertIn(("no", "Not complete: 1 field, 1 difference from Python's reading"), page.said)
+
+    def test_literals_that_are_refused(self):
+        """Each shows its text: of a literal in an expression its own, of one that never closes its line."""
+        page, _ = self.page(status=1, a="f'{a' f'{g(f\"}\")}'\nrf'''\t\n}'''\nf'{b#}'\nx = f\"{c}\n")
+        texts = [cells[1] for kind, cells in page.rows if kind == "no"]
+        for text, literal in zip(texts, ["f'{a'", 'f"}"', r"rf'''\t\n}'''", "f'{b#}'", 'f"{c}'], strict=True):
+            self.assertRegex(text, rf"Change: .*[^ \w]{re.escape(literal)}$")
+
+    def test_no_backticks(self):
+        page, _ = self.page(status=1, a="f'{a' f'{x=}{y=:3}' f'{b#}' f'{c!x}' '")
+        self.assertEqual([cells[2] for _, cells in page.rows[2:4]], ["!r repr: = with no spec", " none: = with a spec"])
+        self.assertFalse([text for _, cells in page.rows for text in cells if "`" in text])
+
+    def test_byte_0(self):
+        page, _ = self.page(status=2, a="f'{x}\0'")
+        self.assertIn(("no", "Not read: line 1 has a byte 0: Python does not take it; UTF-16?"), page.said)
 
     def test_places_of_refusals(self):
         """Each has a sign in the source, at the end of the script too."""

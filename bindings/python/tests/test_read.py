@@ -14,7 +14,13 @@ from stumpgarret import Answer, Bytes, Field, Kind, Literal, Reason, Refusal, Si
 expected = load("crates/try_readings/expected.py")
 expected.fill_cases()
 NO_ROOM = 30, 31
-OF_OTHER_CALLS = {*stumpgarret.OF_A_LIST, *stumpgarret.OF_A_COMPARISON, *stumpgarret.OF_NAMES, *stumpgarret.OF_A_REPLAY}
+OF_OTHER_CALLS = {
+    *stumpgarret.OF_A_LIST,
+    *stumpgarret.OF_A_WRITING,
+    *stumpgarret.OF_A_COMPARISON,
+    *stumpgarret.OF_NAMES,
+    *stumpgarret.OF_A_REPLAY,
+}
 
 
 def script_of(pieces):

@@ -62,8 +62,8 @@
 //! assert_eq!(refusal.reason(), &Reason::MismatchedDelimiter('(', ']'));
 //! assert_eq!((refusal.number(), refusal.literal(), refusal.place()), (23, 1, 14));
 //! assert_eq!((refusal.line(), refusal.column(), refusal.opened()), (1, 3, 13));
-//! let text = "'(' is met by ']' (refusal 23, literal 1, place 14, line 1, column 3, \
-//!             opened at place 13)";
+//! let text = "MismatchedDelimiter: ( is closed by ] \
+//!             (refusal 23, literal 1, place 14, line 1, column 3, opened at place 13)";
 //! assert_eq!(refusal.to_string(), text);
 //! ```
 //!
@@ -92,12 +92,15 @@ mod names;
 mod refusal;
 mod replay;
 mod run;
+mod script;
 mod signs;
 mod template;
 
 pub use answer::{Answer, ConversionFlag, Field, Record, Records, Sort, Spec};
 pub use compare::Comparison;
-pub use listing::{fields, fields_named, Listed, ListedField, ListedRefusal, Listing, Row, Rows};
+pub use listing::{
+    fields, fields_named, fields_of_text, Listed, ListedField, ListedRefusal, Listing, Row, Rows,
+};
 pub use literal::{Literal, StringKind};
 pub use names::Names;
 pub use refusal::{Reason, Refusal, Unclosed};

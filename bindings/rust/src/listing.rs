@@ -2,9 +2,11 @@ use crate::answer::ConversionFlag;
 use crate::call;
 use crate::names::Names;
 use crate::refusal::{self, Reason, Refusal};
+use crate::script;
 use crate::signs::FieldSigns;
 use crate::MOST_SCRIPT_BYTES;
 use std::borrow::Cow;
+use std::fmt;
 use std::iter::FusedIterator;
 use std::ops::Range;
 use std::str;
@@ -13,9 +15,10 @@ use std::str;
 /// expressions, and so on. Nothing is cut out by the caller, and nothing is left out without a
 /// word: what is refused is a row too, and the list goes on after it.
 ///
-/// As Python does, a byte order mark is passed over, and CR LF and CR are read as byte 10. The
-/// script is taken as UTF-8, whatever a coding line in it says: one in another coding is to be
-/// decoded first.
+/// As Python does, a byte order mark is passed over, and CR LF and CR are read as byte 10. The script
+/// is read as UTF-8. Nothing is decoded: a script whose coding line (PEP 263) says neither UTF-8 nor
+/// ASCII is refused, [`Reason::OtherCoding`], and so is one with a byte 0, [`Reason::ZeroByte`].
+/// [`fields_of_text`] lists what the caller has decoded.
 ///
 /// ```
 /// use stumpgarret::{fields, Listed, Reason};
@@ -25,7 +28,7 @@ use std::str;
 /// assert!(listing.is_complete());
 /// let lines: Vec<String> = listing.rows().map(|row| match row.listed {
 ///     Listed::Field(field) => format!("{}:{} {}", row.line, row.column, field.expression),
-///     Listed::Refusal(refusal) => unreachable!("{}", refusal.reason),
+///     Listed::Refusal(refusal) => unreachable!("{}", refusal),
 /// }).collect();
 /// assert_eq!(lines, ["1:17 mv / 12.5", "1:33 f\"{unit!r}\"", "1:36 unit"]);
 ///
@@ -38,8 +41,28 @@ use std::str;
 /// ```
 ///
 /// A script of more than [`MOST_SCRIPT_BYTES`](crate::MOST_SCRIPT_BYTES) is refused.
-pub fn fields<S: AsRef<[u8]> + ?Sized>(script: &S) -> Result<Listing<'_>, Refusal> {
-    listed(script.as_ref(), None)
+pub fn fields(script: impl AsRef<[u8]>) -> Result<Listing, Refusal> {
+    listed(script::of_bytes(script.as_ref())?, None)
+}
+
+/// Lists as [`fields`] does, of text that is decoded already: its coding line is not looked at. With
+/// names those in `\N{..}` are looked for in their file.
+///
+/// ```
+/// use stumpgarret::{fields, fields_of_text, Reason};
+///
+/// let script = "# coding: utf-7\n+AGYAJwB7AHgAfQAn-";
+/// let refused = fields(script).unwrap_err();
+/// assert!(matches!(refused.reason(), Reason::OtherCoding { name } if name == "utf-7"));
+/// let decoded = "# coding: utf-7\nf'{x}'";
+/// assert_eq!(fields_of_text(decoded, None)?.rows().len(), 1);
+/// # Ok::<(), stumpgarret::Refusal>(())
+/// ```
+pub fn fields_of_text(
+    script: impl AsRef<str>,
+    names: Option<&Names<'_>>,
+) -> Result<Listing, Refusal> {
+    listed(script::of_text(script.as_ref())?, names)
 }
 
 /// Lists as [`fields`] does, with the names of a file.
@@ -57,15 +80,11 @@ pub fn fields<S: AsRef<[u8]> + ?Sized>(script: &S) -> Result<Listing<'_>, Refusa
 /// assert!(!fields(script)?.is_complete());
 /// # Ok::<(), stumpgarret::Refusal>(())
 /// ```
-pub fn fields_named<'a, S: AsRef<[u8]> + ?Sized>(
-    script: &'a S,
-    names: &Names<'_>,
-) -> Result<Listing<'a>, Refusal> {
-    listed(script.as_ref(), Some(names))
+pub fn fields_named(script: impl AsRef<[u8]>, names: &Names<'_>) -> Result<Listing, Refusal> {
+    listed(script::of_bytes(script.as_ref())?, Some(names))
 }
 
-fn listed<'a>(script: &'a [u8], names: Option<&Names<'_>>) -> Result<Listing<'a>, Refusal> {
-    let script = as_python_reads(script);
+fn listed(script: Cow<'_, [u8]>, names: Option<&Names<'_>>) -> Result<Listing, Refusal> {
     // No script has more rows than bytes.
     let room = if script.len() > MOST_SCRIPT_BYTES { 0 } else { script.len() };
     let mut numbers = vec![0; room * call::ROW];
@@ -74,34 +93,15 @@ fn listed<'a>(script: &'a [u8], names: Option<&Names<'_>>) -> Result<Listing<'a>
         Some(names) => call::fields_named(&script, names.file(), names.index(), &mut numbers),
     };
     match answer[0] {
-        0 => Listing::new(script, &numbers, answer).ok_or_else(Refusal::unknown),
+        0 => Listing::new(script.into_owned(), &numbers, answer).ok_or_else(Refusal::unknown),
         _ => Err(Refusal::new(answer)),
     }
 }
 
-/// Without a byte order mark, and with byte 10 for CR LF and CR.
-fn as_python_reads(script: &[u8]) -> Cow<'_, [u8]> {
-    let script = script.strip_prefix(b"\xef\xbb\xbf").unwrap_or(script);
-    if !script.contains(&b'\r') {
-        return Cow::Borrowed(script);
-    }
-    let mut read = Vec::with_capacity(script.len());
-    let mut before = 0;
-    for &byte in script {
-        match byte {
-            b'\r' => read.push(b'\n'),
-            b'\n' if before == b'\r' => {}
-            _ => read.push(byte),
-        }
-        before = byte;
-    }
-    Cow::Owned(read)
-}
-
-/// What [`fields`] and [`fields_named`] list.
+/// What [`fields`], [`fields_of_text`] and [`fields_named`] list.
 #[derive(Clone, Debug, PartialEq, Eq)]
-pub struct Listing<'a> {
-    script: Cow<'a, [u8]>,
+pub struct Listing {
+    script: Vec<u8>,
     /// In the order of their places.
     rows: Vec<Placed>,
     refusals: usize,
@@ -171,13 +171,20 @@ pub struct ListedRefusal {
     pub opened: Option<usize>,
 }
 
-impl<'a> Listing<'a> {
+impl fmt::Display for ListedRefusal {
+    fn fmt(&self, f: &mut fmt::Formatter<'_>) -> fmt::Result {
+        write!(f, "{} {}", self.number, self.reason)?;
+        self.opened.map_or(Ok(()), |opened| write!(f, ", opened at {}", opened))
+    }
+}
+
+impl Listing {
     /// Nothing, if it does not hang together.
     fn new(
-        script: Cow<'a, [u8]>,
+        script: Vec<u8>,
         numbers: &[u32],
         [_, count, refusals, literals, cut, ..]: [u32; call::ANSWER],
-    ) -> Option<Listing<'a>> {
+    ) -> Option<Listing> {
         let rows = placed(&script, numbers.get(..(count as usize).checked_mul(call::ROW)?)?)?;
         let [refusals, literals, cut] = [refusals, literals, cut].map(|number| number as usize);
         let listing = Listing { script, rows, refusals, literals, cut };
@@ -315,7 +322,7 @@ impl Walk<'_> {
 /// The rows of a [`Listing`] in the order of their places.
 #[derive(Clone, Debug)]
 pub struct Rows<'a> {
-    listing: &'a Listing<'a>,
+    listing: &'a Listing,
     at: Range<usize>,
 }
 
@@ -334,7 +341,7 @@ impl<'a> Iterator for Rows<'a> {
 impl ExactSizeIterator for Rows<'_> {}
 impl FusedIterator for Rows<'_> {}
 
-impl<'a> IntoIterator for &'a Listing<'a> {
+impl<'a> IntoIterator for &'a Listing {
     type Item = Row<'a>;
     type IntoIter = Rows<'a>;
 
@@ -349,10 +356,9 @@ mod tests {
 
     const FIELD: [u32; call::ROW] = [4, 0, 3, 1, 0, 5, 0, 6, 9, 0];
 
-    fn list(script: &str, rows: &[[u32; call::ROW]], refusals: u32) -> Option<Listing<'static>> {
-        let script = Cow::Owned(script.as_bytes().to_vec());
+    fn list(script: &str, rows: &[[u32; call::ROW]], refusals: u32) -> Option<Listing> {
         let answer = [0, rows.len() as u32, refusals, 1, 10, 0, 0, 0, 0, 0, 0, 0];
-        Listing::new(script, &rows.concat(), answer)
+        Listing::new(script.into(), &rows.concat(), answer)
     }
 
     #[test]
@@ -386,6 +392,6 @@ mod tests {
         }
         assert_eq!(list("f'{x=:>3}'", &[FIELD], 1), None);
         let more = [0, 2, 0, 1, 10, 0, 0, 0, 0, 0, 0, 0];
-        assert_eq!(Listing::new(Cow::Borrowed(b"f'{x=:>3}'"), &FIELD, more), None);
+        assert_eq!(Listing::new(b"f'{x=:>3}'".to_vec(), &FIELD, more), None);
     }
 }

@@ -123,92 +123,137 @@ pub enum Reason {
     },
     /// Python 3.11 reads a field otherwise, or not at all: only in a [`Listing`](crate::Listing).
     ReadOtherwise,
+    /// The script's coding line says that it is neither UTF-8 nor ASCII: the crate decodes nothing. The
+    /// place is that of the name. Decode the script, and list it by
+    /// [`fields_of_text`](crate::fields_of_text).
+    OtherCoding {
+        name: String,
+    },
+    /// The script has a byte 0, which Python does not take. One in UTF-16 has many.
+    ZeroByte,
     /// An answer that this crate cannot read, so the library linked is not the one it is for.
     UnknownAnswer,
 }
 
+/// The number's name, and what it means where the name does not say so: the words of docs/RULES.md 11.
 impl fmt::Display for Reason {
     fn fmt(&self, f: &mut fmt::Formatter<'_>) -> fmt::Result {
         f.write_str(match self {
-            Self::EmptyList => "there are no literals",
-            Self::NotSixes => "the list of numbers is no multiple of six",
-            Self::TooManyLiterals => "there are more than 1,024 literals",
-            Self::BadDescriptor => {
-                "the literal's body is outside the script or too long for its range, its range is \
-                 reversed or begins in the previous one, or a number is over 32 bits"
+            Self::EmptyList => "empty list",
+            Self::NotSixes => "number list not a multiple of six",
+            Self::TooManyLiterals => "more than 1,024 literals",
+            Self::BadDescriptor => "bad descriptor",
+            Self::BodiesTooLong => "bodies over 1,048,576 bytes together",
+            Self::NotUtf8 => "body not UTF-8",
+            Self::MixedBytes => "bytes mixed with others",
+            Self::StringError => "StringError: an escape is not finished",
+            Self::UnicodeError => {
+                "UnicodeError: an escape lacks a digit, has a code above 10FFFF, or a name over 88 \
+                 bytes"
             }
-            Self::BodiesTooLong => "the bodies have more than 1,048,576 bytes together",
-            Self::NotUtf8 => "the body is not UTF-8",
-            Self::MixedBytes => "bytes literals and others are mixed",
-            Self::StringError => "an escape is not finished",
-            Self::UnicodeError => "an escape gives no character",
-            Self::NonAsciiInBytes => "a bytes literal has a character that is not ASCII",
-            Self::NameNotHeld => "the name in an escape is not known",
-            Self::UnclosedLbrace(why) => return write!(f, "a '{{' is not closed: {}", why),
-            Self::InvalidConversionFlag => "a conversion is not 's', 'a' or 'r'",
-            Self::EmptyExpression => "a field's expression is empty or blank",
+            Self::NonAsciiInBytes => "non-ASCII in bytes",
+            Self::NameNotHeld => {
+                "name not held: the file of names, or without one the library, does not have this \
+                 name of a character"
+            }
+            Self::UnclosedLbrace(why) => return write!(f, "UnclosedLbrace: {}", why),
+            Self::InvalidConversionFlag => "InvalidConversionFlag: a conversion is not s, r or a",
+            Self::EmptyExpression => "EmptyExpression: a field's expression is empty or blank",
             Self::MismatchedDelimiter(opener, closer) => {
-                return write!(f, "'{}' is met by '{}'", opener, closer)
+                return write!(f, "MismatchedDelimiter: {} is closed by {}", opener, closer)
             }
-            Self::ExpressionNestedTooDeeply => "fields are nested too deeply",
-            Self::SingleRbrace => "a '}' stands alone",
-            Self::Unmatched(closer) => return write!(f, "nothing opens what '{}' closes", closer),
+            Self::ExpressionNestedTooDeeply => {
+                "ExpressionNestedTooDeeply: a field stands in the spec of a field in a spec"
+            }
+            Self::SingleRbrace => "SingleRbrace: a single } stands in an f-string",
+            Self::Unmatched(closer) => return write!(f, "Unmatched: {} closes nothing", closer),
             Self::UnterminatedString => {
-                "an expression has quotes that do not end, or a backslash outside of quotes"
+                "UnterminatedString: a quoted run in a field does not end, or a backslash stands \
+                 outside of one"
             }
-            Self::TooManyBrackets => "a field has more than 64 brackets open at once",
-            Self::TooFewRecordPlaces { records, text } => return room(f, "words", *records, *text),
-            Self::TooLittleTextRoom { records, text } => return room(f, "text", *records, *text),
-            Self::ScriptTooLong => "the script has more than 1,048,576 bytes",
-            Self::NeverClosed => "a literal's quotes are never closed",
-            Self::NewlineInLiteral => "a newline stands in a literal of one quote",
-            Self::NoLiteral => "no literal stands there",
-            Self::TooLittleListRoom { numbers } => {
-                return write!(f, "the list buffer is too small: {} numbers are needed", numbers)
+            Self::TooManyBrackets => "65th bracket open at once in a field",
+            Self::TooFewRecordPlaces { records, text } => {
+                return room(f, "too few record places", *records, *text)
             }
-            Self::FirstIllFormed => "the first answer is not well formed",
-            Self::SecondIllFormed => "the second answer is not well formed",
-            Self::TooLittleMiddleRoom { numbers } => {
-                return write!(f, "the list buffer is too small: {} numbers are needed", numbers)
+            Self::TooLittleTextRoom { records, text } => {
+                return room(f, "too little text room", *records, *text)
             }
-            Self::NotWritable => "the records are none of an f-string",
-            Self::NotReadBack => "the f-string would be read otherwise than its parts say",
+            Self::ScriptTooLong => "script over 1,048,576 bytes",
+            Self::NeverClosed => "quote never closed",
+            Self::NewlineInLiteral => "newline in a literal of one quote",
+            Self::NoLiteral => "no literal at the offset",
+            Self::TooLittleListRoom { .. } => "list buffer too short",
+            Self::NotWritable => {
+                "not to be written: the records break the record rules, a text is not UTF-8, or \
+                 the sort is not joined"
+            }
+            Self::NotReadBack => {
+                "not read back: the spelling would be read otherwise, by a { that begins a \
+                 top-level expression, a brace in a spec before its first nested field, an \
+                 expression that is blank or would end elsewhere, a field three deep, or over \
+                 1,048,576 bytes"
+            }
             Self::TooLittleBodyRoom { bytes } => {
-                return write!(f, "the body is too long: {} bytes are needed", bytes)
+                return write!(f, "body buffer too short: the body needs {} bytes", bytes)
+            }
+            Self::FirstIllFormed => {
+                "first answer not well formed: its sort, kinds, conversions, parts or texts are \
+                 none that a reading gives"
+            }
+            Self::SecondIllFormed => {
+                "second answer not well formed: its sort, kinds, conversions, parts or texts are \
+                 none that a reading gives"
+            }
+            Self::TooLittleMiddleRoom { numbers } => {
+                return write!(f, "middle buffer too short: the list needs {} numbers", numbers)
             }
             Self::LineMalformed => {
-                "a line of the file of names is malformed, or a name's code is no scalar value"
+                "line malformed: a line of the file of names is malformed or not ended, or a \
+                 name's code is no scalar value"
             }
-            Self::NameTwice => "a name stands twice in the file of names",
+            Self::NameTwice => "name twice: a name stands twice in the file of names",
             Self::TooLittleIndexRoom => {
-                "there is no room for the index, or the file of names has 2^32 bytes or more"
+                "index buffer too short: the index has no room, or the file of names has 2^32 \
+                 bytes or more"
             }
             Self::WrongIndex => {
-                "the index is not that of the file of names, or that has 2^32 bytes or more"
+                "wrong index: the index is not that of the file of names, or the file has 2^32 \
+                 bytes or more"
             }
-            Self::NotOfGrammar { field } => {
-                return write!(f, "the format spec of field {} is not of the grammar", field)
+            Self::NotOfGrammar { .. } => {
+                "spec not of the grammar: the spec is not of the format specification mini-language"
             }
-            Self::OutsideSet { field } => {
-                return write!(
-                    f,
-                    "field {} has a conversion, a nested field or a spec that is no integer's",
-                    field
-                )
+            Self::OutsideSet { .. } => {
+                "spec or field outside the set: the field has a conversion, a nested field, a \
+                 width above 64, a type other than d, b, o, x and X, or what Python refuses for \
+                 integers"
             }
-            Self::RowMalformed { row } => {
-                return write!(f, "row {} is not one of integers by RFC 4180", row)
+            Self::RowMalformed { .. } => {
+                "row malformed: the row is not of RFC 4180, or a column is not digits after at \
+                 most one -"
             }
-            Self::WrongColumns { row } => {
-                return write!(f, "row {} has not as many columns as there are fields", row)
+            Self::WrongColumns { .. } => {
+                "column count: the row has not as many columns as the template has fields"
             }
-            Self::OutOfRange { row } => {
-                return write!(f, "row {} has a number beyond 32 bits", row)
+            Self::OutOfRange { .. } => {
+                "number out of range: a number is below -2,147,483,648 or above 2,147,483,647"
             }
             Self::TooLittleLineRoom { bytes } => {
-                return write!(f, "the output is too small: {} bytes are needed", bytes)
+                return write!(f, "output buffer too short: the lines need {} bytes", bytes)
             }
-            Self::ReadOtherwise => "Python reads the field otherwise, or not at all",
+            Self::ReadOtherwise => {
+                "read otherwise by Python: Python reads this field otherwise or not at all, by a \
+                 #, a backslash, a triple-quoted literal with its own quote inside, or something \
+                 after a self-documenting ="
+            }
+            Self::OtherCoding { name } => {
+                return write!(
+                    f,
+                    "its coding line says {}, and only UTF-8 and ASCII are read",
+                    name
+                )
+            }
+            Self::ZeroByte => "it has a byte 0: Python does not take it; UTF-16?",
             Self::UnknownAnswer => "the library linked gives answers that this crate does not know",
         })
     }
@@ -232,11 +277,11 @@ pub enum Unclosed {
 impl fmt::Display for Unclosed {
     fn fmt(&self, f: &mut fmt::Formatter<'_>) -> fmt::Result {
         f.write_str(match self {
-            Self::AfterBang => "the literal ends right after a '!'",
-            Self::AfterConversion => "neither '}' nor ':' follows a conversion",
-            Self::AfterEquals => "something not allowed follows a self-documenting '='",
+            Self::AfterBang => "the literal ends right after a !",
+            Self::AfterConversion => "neither } nor : follows a conversion",
+            Self::AfterEquals => "something not allowed follows a self-documenting =",
             Self::InField => "the literal ends inside a field",
-            Self::LastBrace => "it is the literal's last character",
+            Self::LastBrace => "a { in no field is the last character",
         })
     }
 }
@@ -252,12 +297,8 @@ fn unclosed(detail: u32) -> Option<Unclosed> {
     })
 }
 
-fn room(f: &mut fmt::Formatter<'_>, buffer: &str, records: usize, text: usize) -> fmt::Result {
-    write!(
-        f,
-        "the {} buffer is too small: {} records and {} text bytes are needed",
-        buffer, records, text
-    )
+fn room(f: &mut fmt::Formatter<'_>, name: &str, records: usize, text: usize) -> fmt::Result {
+    write!(f, "{}: {} records and {} text bytes are needed", name, records, text)
 }
 
 /// One numbered refusal.
@@ -274,8 +315,9 @@ pub struct Refusal {
 }
 
 impl Refusal {
-    /// The number, which `bindings/include/stumpgarret.h` lists; with [`Reason::UnknownAnswer`]
-    /// whatever the library gave.
+    /// The number, which `bindings/include/stumpgarret.h` lists; 0 for what the crate itself refuses,
+    /// [`Reason::OtherCoding`] and [`Reason::ZeroByte`]; with [`Reason::UnknownAnswer`] whatever the
+    /// library gave.
     pub fn number(&self) -> u32 {
         self.number
     }
@@ -302,13 +344,15 @@ impl Refusal {
     }
 
     /// The place's line in the literal's body, from 0: how many line ends (byte 10) stand before it
-    /// there; 0 for a refusal that is not met in a body.
+    /// there; 0 for a refusal that is not met in a body. Of what the crate itself refuses, the line in
+    /// the script.
     pub fn line(&self) -> usize {
         self.line
     }
 
     /// The place's column in the literal's body, from 0: how many characters stand before it there
-    /// since the last line end; 0 for a refusal that is not met in a body.
+    /// since the last line end; 0 for a refusal that is not met in a body. Of what the crate itself
+    /// refuses, the column in the script.
     pub fn column(&self) -> usize {
         self.column
     }
@@ -340,6 +384,16 @@ impl Refusal {
     /// Of a template with a number over 32 bits: no body is so long.
     pub(crate) fn not_read_back() -> Refusal {
         Refusal::new([55, 0, 0, 0, 0, 0, 0, 0, 0, 0, 0, 0])
+    }
+
+    /// Of a script's bytes, at a place in them.
+    pub(crate) fn of_script(reason: Reason, script: &[u8], place: usize) -> Refusal {
+        let before = &script[..place];
+        let begin = before.iter().rposition(|&byte| byte == b'\n').map_or(0, |at| at + 1);
+        let line = before.iter().filter(|&&byte| byte == b'\n').count();
+        let goes_on = |byte: &&u8| (0x80..=0xbf).contains(*byte);
+        let column = place - begin - before[begin..].iter().filter(goes_on).count();
+        Refusal { reason, place, line, column, ..Refusal::unknown() }
     }
 
     pub(crate) fn unknown() -> Refusal {
@@ -404,8 +458,25 @@ pub(crate) fn reason(number: u32, [a, b]: [u32; 2], needed: u32) -> Option<Reaso
 impl fmt::Display for Refusal {
     fn fmt(&self, f: &mut fmt::Formatter<'_>) -> fmt::Result {
         let Refusal { number, reason, literal, place, opened, line, column, .. } = self;
-        if (54..=73).contains(number) {
-            return write!(f, "{} (refusal {})", reason, number);
+        match reason {
+            Reason::OtherCoding { .. } | Reason::ZeroByte => {
+                return write!(f, "{} (line {}, column {})", reason, line + 1, column + 1)
+            }
+            Reason::TooLittleListRoom { numbers } => {
+                return write!(f, "{}: {} numbers are needed (refusal {})", reason, numbers, number)
+            }
+            Reason::NotOfGrammar { field } | Reason::OutsideSet { field } => {
+                return write!(f, "{} (refusal {}, field {})", reason, number, field)
+            }
+            Reason::RowMalformed { row }
+            | Reason::WrongColumns { row }
+            | Reason::OutOfRange { row } => {
+                return write!(f, "{} (refusal {}, row {})", reason, number, row)
+            }
+            _ if (54..=74).contains(number) => {
+                return write!(f, "{} (refusal {})", reason, number);
+            }
+            _ => {}
         }
         write!(f, "{} (refusal {}, literal {}, place {}", reason, number, literal, place)?;
         match number {
@@ -426,8 +497,37 @@ mod tests {
     fn a_list_cut_short_is_2() {
         let refusal = Refusal::new(call::read(b"", &[0; 5], &mut [], &mut []));
         assert_eq!((refusal.number(), refusal.reason()), (2, &Reason::NotSixes));
-        let text = "the list of numbers is no multiple of six (refusal 2, literal 0, place 0)";
+        let text = "number list not a multiple of six (refusal 2, literal 0, place 0)";
         assert_eq!(refusal.to_string(), text);
+    }
+
+    /// What docs/RULES.md 11 says that a number is told as, and why a `{` counts as unclosed.
+    #[test]
+    fn the_words_are_those_of_the_rules() {
+        let (_, chapter) = include_str!("../../../docs/RULES.md").split_once("## 11.").unwrap();
+        let mut seen = 0;
+        for section in chapter.split("\n### 11.").skip(1) {
+            let name = section.lines().next().unwrap();
+            let number: u32 = name.split(' ').next().unwrap().parse().unwrap();
+            let told = section.split('`').skip(1).step_by(2).filter(|text| text.starts_with(name));
+            let told: Vec<&str> = Some(name).into_iter().chain(told).collect();
+            // A name that says all is told alone.
+            for (at, text) in told.iter().skip(usize::from(told.len() > 1)).enumerate() {
+                let (details, needed) = match number {
+                    20 => ([at as u32 + 1, 0], 0),
+                    23 => (['(' as u32, ']' as u32], 0),
+                    26 => ([')' as u32, 0], 0),
+                    _ => ([2, 3], 40),
+                };
+                let reason = reason(number, details, needed).unwrap();
+                assert_eq!(&format!("{} {}", number, reason), text);
+                seen += 1;
+            }
+        }
+        assert_eq!(
+            seen,
+            (0..100).filter(|&number| reason(number, [1, 1], 0).is_some()).count() + 4
+        );
     }
 
     #[test]

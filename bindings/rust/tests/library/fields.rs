@@ -1,8 +1,8 @@
 //! Every field of whole scripts.
 use stumpgarret::ConversionReason::{None as NoReason, Repr, Spec, Written};
 use stumpgarret::{
-    field_signs, fields, literals_at, Listed, ListedField, ListedRefusal, Listing, Reason, Row,
-    MOST_SCRIPT_BYTES,
+    field_signs, fields, fields_named, fields_of_text, literals_at, Listed, ListedField,
+    ListedRefusal, Listing, Names, Reason, Row, MOST_SCRIPT_BYTES,
 };
 
 /// Rows as `line:column expression=!r:spec`, each behind a dot for every field it stands in; refusals as
@@ -121,6 +121,34 @@ fn a_byte_order_mark_is_passed_over() {
 }
 
 #[test]
+fn a_script_that_python_would_decode_is_refused() {
+    let script = "# coding: utf-7\n+AGYAJwB7AHgAfQAn-";
+    let refusal = fields(script).unwrap_err();
+    assert_eq!(refusal.reason(), &Reason::OtherCoding { name: "utf-7".into() });
+    assert_eq!((refusal.number(), refusal.place()), (0, 10));
+    let text = "its coding line says utf-7, and only UTF-8 and ASCII are read (line 1, column 11)";
+    assert_eq!(refusal.to_string(), text);
+
+    let decoded = fields_of_text("# coding: utf-7\r\nf'{x}'", None).unwrap();
+    assert!(decoded.is_complete());
+    assert_eq!(written(&decoded), ["2:4 x"]);
+    let names = Names::build(&b"2603;SNOWMAN;So;0;ON;;;;;N;;;;;\n"[..]).unwrap();
+    let named = "# coding: utf-7\nf'{x}\\N{SNOWMAN}'";
+    assert_eq!(fields_named(named, &names).unwrap_err().place(), 10);
+    assert!(fields_of_text(named, Some(&names)).unwrap().is_complete());
+}
+
+#[test]
+fn a_byte_0_is_refused() {
+    let utf16: Vec<u8> = "f'{x}'".encode_utf16().flat_map(u16::to_le_bytes).collect();
+    let refusal = fields(utf16).unwrap_err();
+    assert_eq!((refusal.number(), refusal.reason(), refusal.place()), (0, &Reason::ZeroByte, 1));
+    let text = "it has a byte 0: Python does not take it; UTF-16? (line 1, column 2)";
+    assert_eq!(refusal.to_string(), text);
+    assert_eq!(fields_of_text("\n\0", None).unwrap_err().place(), 1);
+}
+
+#[test]
 fn what_follows_a_refused_literal_is_listed() {
     let listing = fields("f'{(a]}' f'{b}'\nf'{}' f\"{c!x}\" f'{d}'").unwrap();
     assert!(!listing.is_complete());
@@ -129,6 +157,19 @@ fn what_follows_a_refused_literal_is_listed() {
     let first = listing.rows().next().unwrap();
     assert_eq!(refusal(&first).reason, Reason::MismatchedDelimiter('(', ']'));
     assert_eq!((refusal(&first).opened, first.start, first.place), (Some(4), 0, 6));
+    let texts: Vec<_> = listing
+        .rows()
+        .filter_map(|row| match row.listed {
+            Listed::Refusal(refusal) => Some(refusal.to_string()),
+            Listed::Field(_) => None,
+        })
+        .collect();
+    let expected = [
+        "23 MismatchedDelimiter: ( is closed by ], opened at 4",
+        "22 EmptyExpression: a field's expression is empty or blank",
+        "21 InvalidConversionFlag: a conversion is not s, r or a",
+    ];
+    assert_eq!(texts, expected);
 }
 
 #[test]

@@ -68,7 +68,7 @@ fn refusals_have_their_places() {
     let long = "'".repeat(MOST_SCRIPT_BYTES + 1);
     assert_eq!(refused(&long, 7), (49, 0));
     assert_eq!(refused(&long, usize::MAX), (49, 0));
-    let text = "no literal stands there (refusal 52, literal 0, place 4)";
+    let text = "no literal at the offset (refusal 52, literal 0, place 4)";
     assert_eq!(literals_at("a = 1", 4).unwrap_err().to_string(), text);
 }
 

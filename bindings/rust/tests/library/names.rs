@@ -98,8 +98,9 @@ fn twenty_bytes_are_enough_for_a_line() {
 #[test]
 fn malformed_files_are_refused() {
     let good = line("2603", "SNOWMAN");
-    let text = "a line of the file of names is malformed, or a name's code is no scalar value \
-                (refusal 60)";
+    let text =
+        "line malformed: a line of the file of names is malformed or not ended, or a name's \
+                code is no scalar value (refusal 60)";
     for bad in [
         "\n".to_string(),
         good.trim_end().to_string(),
@@ -129,7 +130,7 @@ fn a_name_twice_is_refused() {
     let twice = file(&[("2603", "SNOWMAN"), ("2604", "COMET"), ("2745", "SNOWMAN")]);
     for refusal in [refused(Names::build(&twice)), refused(Names::check(&twice, vec![0]))] {
         assert_eq!((refusal.number(), refusal.reason()), (61, &Reason::NameTwice));
-        let text = "a name stands twice in the file of names (refusal 61)";
+        let text = "name twice: a name stands twice in the file of names (refusal 61)";
         assert_eq!(refusal.to_string(), text);
     }
     // those that are no names may
@@ -154,8 +155,8 @@ fn only_the_one_index_is_taken() {
     for index in wrong {
         let refusal = refused(Names::check(&file, &index));
         assert_eq!((refusal.number(), refusal.reason()), (63, &Reason::WrongIndex), "{:?}", index);
-        let text = "the index is not that of the file of names, or that has 2^32 bytes or more \
-                    (refusal 63)";
+        let text = "wrong index: the index is not that of the file of names, or the file has 2^32 \
+                    bytes or more (refusal 63)";
         assert_eq!(refusal.to_string(), text);
     }
 }

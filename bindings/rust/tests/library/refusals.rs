@@ -40,90 +40,94 @@ fn all() -> Vec<(Refusal, &'static str)> {
         refusal
     };
     vec![
-        (refused("", &[]), "there are no literals (refusal 1, literal 0, place 0)"),
+        (refused("", &[]), "empty list (refusal 1, literal 0, place 0)"),
         (
             refused("'a'".repeat(MOST_LITERALS + 1), &ones(MOST_LITERALS + 1)),
-            "there are more than 1,024 literals (refusal 3, literal 0, place 0)",
+            "more than 1,024 literals (refusal 3, literal 0, place 0)",
         ),
-        (
-            refused("'a''", &ones(2)),
-            "the literal's body is outside the script or too long for its range, its range is \
-             reversed or begins in the previous one, or a number is over 32 bits \
-             (refusal 4, literal 1, place 0)",
-        ),
-        (
-            of(&long),
-            "the bodies have more than 1,048,576 bytes together (refusal 5, literal 0, place 0)",
-        ),
-        (refused(b"'a''\xff'", &ones(2)), "the body is not UTF-8 (refusal 6, literal 1, place 4)"),
+        (refused("'a''", &ones(2)), "bad descriptor (refusal 4, literal 1, place 0)"),
+        (of(&long), "bodies over 1,048,576 bytes together (refusal 5, literal 0, place 0)"),
+        (refused(b"'a''\xff'", &ones(2)), "body not UTF-8 (refusal 6, literal 1, place 4)"),
         (
             of_run(&[(Plain, "a"), (Bytes, "b")]),
-            "bytes literals and others are mixed (refusal 7, literal 0, place 0)",
+            "bytes mixed with others (refusal 7, literal 0, place 0)",
         ),
-        (of("a\\"), "an escape is not finished (refusal 10, literal 0, place 4, line 0, column 2)"),
+        (
+            of("a\\"),
+            "StringError: an escape is not finished \
+             (refusal 10, literal 0, place 4, line 0, column 2)",
+        ),
         (
             of(r"\x4"),
-            "an escape gives no character \
+            "UnicodeError: an escape lacks a digit, has a code above 10FFFF, or a name over 88 \
+             bytes \
              (refusal 11, literal 0, place 4, line 0, column 2)",
         ),
         (
             of_run(&[(Bytes, "aé")]),
-            "a bytes literal has a character that is not ASCII \
+            "non-ASCII in bytes \
              (refusal 12, literal 0, place 5, line 0, column 2)",
         ),
         (
             of(r"\N{SNOWMAN}"),
-            "the name in an escape is not known \
+            "name not held: the file of names, or without one the library, does not have this \
+             name of a character \
              (refusal 13, literal 0, place 5, line 0, column 3)",
         ),
         (
             of("{x!r b}"),
-            "a '{' is not closed: neither '}' nor ':' follows a conversion \
+            "UnclosedLbrace: neither } nor : follows a conversion \
              (refusal 20, literal 0, place 6, line 0, column 4)",
         ),
         (
             of("{x!x}"),
-            "a conversion is not 's', 'a' or 'r' \
+            "InvalidConversionFlag: a conversion is not s, r or a \
              (refusal 21, literal 0, place 6, line 0, column 4)",
         ),
         (
             of("{ }"),
-            "a field's expression is empty or blank \
+            "EmptyExpression: a field's expression is empty or blank \
              (refusal 22, literal 0, place 5, line 0, column 3)",
         ),
         (
             of("{(]}"),
-            "'(' is met by ']' \
+            "MismatchedDelimiter: ( is closed by ] \
              (refusal 23, literal 0, place 5, line 0, column 3, opened at place 4)",
         ),
         (
             of_run(&[(Plain, "{"), (RawFString, "{x:{y:{z}}}")]),
-            "fields are nested too deeply (refusal 24, literal 1, place 12, line 0, column 6)",
+            "ExpressionNestedTooDeeply: a field stands in the spec of a field in a spec \
+             (refusal 24, literal 1, place 12, line 0, column 6)",
         ),
-        (of("a}b"), "a '}' stands alone (refusal 25, literal 0, place 4, line 0, column 2)"),
+        (
+            of("a}b"),
+            "SingleRbrace: a single } stands in an f-string \
+             (refusal 25, literal 0, place 4, line 0, column 2)",
+        ),
         (
             of("{x)}"),
-            "nothing opens what ')' closes \
+            "Unmatched: ) closes nothing \
              (refusal 26, literal 0, place 5, line 0, column 3)",
         ),
         (
             of("{'a"),
-            "an expression has quotes that do not end, or a backslash outside of quotes \
+            "UnterminatedString: a quoted run in a field does not end, or a backslash stands \
+             outside of one \
              (refusal 27, literal 0, place 5, line 0, column 3)",
         ),
         (
             of(&brackets),
-            "a field has more than 64 brackets open at once \
+            "65th bracket open at once in a field \
              (refusal 28, literal 0, place 68, line 0, column 66)",
         ),
         (
             lent(31, 4),
-            "the words buffer is too small: 4 records and 4 text bytes are needed \
+            "too few record places: 4 records and 4 text bytes are needed \
              (refusal 30, literal 0, place 0)",
         ),
         (
             lent(32, 3),
-            "the text buffer is too small: 4 records and 4 text bytes are needed \
+            "too little text room: 4 records and 4 text bytes are needed \
              (refusal 31, literal 0, place 0)",
         ),
     ]
@@ -142,15 +146,15 @@ fn every_number_has_its_text() {
 
 #[test]
 fn why_a_brace_counts_as_unclosed() {
-    let words = "a '{' is not closed: ";
+    let words = "UnclosedLbrace: ";
     for (body, place, why, text) in [
-        ("{x!", 5, Unclosed::AfterBang, "the literal ends right after a '!'"),
-        ("{x!r b}", 6, Unclosed::AfterConversion, "neither '}' nor ':' follows a conversion"),
-        ("{x!r", 6, Unclosed::AfterConversion, "neither '}' nor ':' follows a conversion"),
-        ("{x=y}", 6, Unclosed::AfterEquals, "something not allowed follows a self-documenting '='"),
+        ("{x!", 5, Unclosed::AfterBang, "the literal ends right after a !"),
+        ("{x!r b}", 6, Unclosed::AfterConversion, "neither } nor : follows a conversion"),
+        ("{x!r", 6, Unclosed::AfterConversion, "neither } nor : follows a conversion"),
+        ("{x=y}", 6, Unclosed::AfterEquals, "something not allowed follows a self-documenting ="),
         ("{x= ", 6, Unclosed::InField, "the literal ends inside a field"),
         ("{x:{y}", 8, Unclosed::InField, "the literal ends inside a field"),
-        ("a{", 4, Unclosed::LastBrace, "it is the literal's last character"),
+        ("a{", 4, Unclosed::LastBrace, "a { in no field is the last character"),
     ] {
         let refusal = of(body);
         assert_eq!(refusal.reason(), &Reason::UnclosedLbrace(why), "{}", body);

@@ -80,41 +80,47 @@ fn every_refusal() {
             "",
             68,
             Reason::NotOfGrammar { field: 1 },
-            "the format spec of field 1 is not of the grammar",
+            "spec not of the grammar: the spec is not of the format specification mini-language \
+             (refusal 68, field 1)",
         ),
         (
             "{x!r}",
             "",
             69,
             Reason::OutsideSet { field: 0 },
-            "field 0 has a conversion, a nested field or a spec that is no integer's",
+            "spec or field outside the set: the field has a conversion, a nested field, a width \
+             above 64, a type other than d, b, o, x and X, or what Python refuses for integers \
+             (refusal 69, field 0)",
         ),
         (
             "{x}",
             "1\r\n2\n",
             70,
             Reason::RowMalformed { row: 1 },
-            "row 1 is not one of integers by RFC 4180",
+            "row malformed: the row is not of RFC 4180, or a column is not digits after at most \
+             one - (refusal 70, row 1)",
         ),
         (
             "{x}",
             "1,2",
             71,
             Reason::WrongColumns { row: 0 },
-            "row 0 has not as many columns as there are fields",
+            "column count: the row has not as many columns as the template has fields \
+             (refusal 71, row 0)",
         ),
         (
             "{x}",
             "1\r\n2\r\n2147483648",
             72,
             Reason::OutOfRange { row: 2 },
-            "row 2 has a number beyond 32 bits",
+            "number out of range: a number is below -2,147,483,648 or above 2,147,483,647 \
+             (refusal 72, row 2)",
         ),
     ] {
         let refusal = refused(body, trace);
         assert_eq!((refusal.number(), refusal.reason()), (number, &reason));
         assert_eq!((refusal.literal(), refusal.place(), refusal.chars()), (0, 0, 0));
-        assert_eq!(refusal.to_string(), format!("{} (refusal {})", text, number));
+        assert_eq!(refusal.to_string(), text);
     }
 }
 

@@ -101,7 +101,9 @@ fn what_would_read_otherwise_is_refused() {
     ] {
         let refusal = Template { parts }.write().unwrap_err();
         assert_eq!((refusal.number(), refusal.reason()), (55, &Reason::NotReadBack));
-        let text = "the f-string would be read otherwise than its parts say (refusal 55)";
+        let text = "not read back: the spelling would be read otherwise, by a { that begins a top-level \
+         expression, a brace in a spec before its first nested field, an expression that is blank \
+         or would end elsewhere, a field three deep, or over 1,048,576 bytes (refusal 55)";
         assert_eq!(refusal.to_string(), text);
     }
     let longest = Template { parts: vec![text(&"x".repeat(1_048_576))] };
