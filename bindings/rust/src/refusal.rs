@@ -473,7 +473,7 @@ impl fmt::Display for Refusal {
             | Reason::OutOfRange { row } => {
                 return write!(f, "{} (refusal {}, row {})", reason, number, row)
             }
-            _ if (54..=74).contains(number) => {
+            _ if (54..=73).contains(number) => {
                 return write!(f, "{} (refusal {})", reason, number);
             }
             _ => {}
