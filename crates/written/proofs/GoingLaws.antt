@@ -179,8 +179,8 @@ module _ (text words : List ℕ) (count : ℕ) (body : List ℕ) where
 
       module _ (p : Opens) (T : Turns text o r p) where
         -- it reads back otherwise
-        pub spelling-off : 2 < p .depth → Spells text all body body′ 1048577
-        spelling-off d =
+        pub spelling-off : 2 < p .depth → (n : ℕ) → 1048576 < n → Spells text all body body′ n
+        spelling-off d n k =
             let f : found text [] all ≡ false = S .same ∙ ap (found text (osOf o)) turn ∙ T .off d later in
             record { on = λ z. absurd (omega arith); off = λ z. rw f refl; kept = spelling-kept }
 

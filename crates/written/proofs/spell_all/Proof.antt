@@ -24,10 +24,10 @@ spell-all-spec =
     (λ c κs. turn-needs _ _ _ _ _ _ _ _ (c .before .before .loop .inv) (c .before .loop-test .taken) _ (c .record-at .ensures))  -- turn-requires
     (λ c. search needs)  -- add-result
     (λ c. spelling-kept _ _ _ _ _ _ _ _ (c .before .before .before .before .before .loop .inv))  -- same-length
-    (λ c. let h = (c .before .before .before .record-at .ensures) in spelling-off _ _ _ _ _ _ _ _ (c .before .before .before .before .before .loop .inv) (c .before .before .before .before .loop-test .taken) _ h _ ((c .before .before .turn .ensures) _ (holds _ _ _ _ _ _ _ _ (c .before .before .before .before .before .loop .inv) (c .before .before .before .before .loop-test .taken) _ h)) (c .if1 .taken))  -- returns
+    (λ c. let h = (c .before .before .before .record-at .ensures) in spelling-off _ _ _ _ _ _ _ _ (c .before .before .before .before .before .loop .inv) (c .before .before .before .before .loop-test .taken) _ h _ ((c .before .before .turn .ensures) _ (holds _ _ _ _ _ _ _ _ (c .before .before .before .before .before .loop .inv) (c .before .before .before .before .loop-test .taken) _ h)) (c .if1 .taken) _ (omega arith))  -- returns
     (λ c κs. put-needs _ _ _ _ _ _ _ _ (c .before .before .before .before .before .before .loop .inv) (c .before .before .before .before .before .loop-test .taken) _ (c .before .before .before .before .record-at .ensures))  -- put-record-requires
     (λ c. let k = spelling-kept _ _ _ _ _ _ _ _ (c .before .before .before .before .before .before .before .before .before .before .loop .inv) in search needs)  -- same-length-2
-    (λ c. let h = (c .before .before .before .before .before .before .before .before .record-at .ensures) in let r = holds _ _ _ _ _ _ _ _ (c .before .before .before .before .before .before .before .before .before .before .loop .inv) (c .before .before .before .before .before .before .before .before .before .loop-test .taken) _ h in spelling-long _ _ _ _ _ _ _ _ (c .before .before .before .before .before .before .before .before .before .before .loop .inv) (c .before .before .before .before .before .before .before .before .before .loop-test .taken) _ h _ ((c .before .before .before .before .before .before .before .turn .ensures) _ r) (omega (arith, (c .before .before .before .before .before .if1 .left))) _ _ ((c .before .before .before .put-record .ensures) _ r) (c .if2 .taken))  -- returns-2
+    (λ c. let h = (c .before .before .before .before .before .before .before .before .record-at .ensures) in let r = holds _ _ _ _ _ _ _ _ (c .before .before .before .before .before .before .before .before .before .before .loop .inv) (c .before .before .before .before .before .before .before .before .before .loop-test .taken) _ h in spelling-long _ _ _ _ _ _ _ _ (c .before .before .before .before .before .before .before .before .before .before .loop .inv) (c .before .before .before .before .before .before .before .before .before .loop-test .taken) _ h _ ((c .before .before .before .before .before .before .before .turn .ensures) _ r) (omega (arith, (c .before .before .before .before .before .if1 .left))) _ _ ((c .before .before .before .put-record .ensures) _ r) (omega (arith, (c .if2 .taken))))  -- returns-2
     (λ c. search needs)  -- add-i
     (λ c. omega (arith, (c .before .before .before .before .before .before .before .before .before .loop-test .taken)))  -- loop-less
     (λ c. let h = (c .before .before .before .before .before .before .before .before .record-at .ensures) in let r = holds _ _ _ _ _ _ _ _ (c .before .before .before .before .before .before .before .before .before .before .loop .inv) (c .before .before .before .before .before .before .before .before .before .loop-test .taken) _ h in spelling-on _ _ _ _ _ _ _ _ (c .before .before .before .before .before .before .before .before .before .before .loop .inv) (c .before .before .before .before .before .before .before .before .before .loop-test .taken) _ h _ ((c .before .before .before .before .before .before .before .turn .ensures) _ r) (omega (arith, (c .before .before .before .before .before .if1 .left))) _ _ ((c .before .before .before .put-record .ensures) _ r) (omega (arith, (c .if2 .left))))  -- loop-again

@@ -27,11 +27,11 @@ write-spec =
     (λ c κs. let a = (c .before .before .before .before .before .before .before .before .before .before .before .before .args) in let w = (is-writable (a .numbers .now) (a .words .now) (a .text .now) (a .body .now) (sym (c .before .before .before .before .before .before .before .is-formed .ensures) ∙ not-false _ (c .before .before .before .before .before .before .if1 .left)) (sym (c .before .before .before .before .before .number-at .ensures) ∙ (c .before .before .before .before .if2 .left))) in ((let l = lies (a .numbers .now) (a .words .now) (a .text .now) (a .body .now) w .0 in let e = (c .before .before .before .number-at2 .ensures) in omega arith), rules-read (a .numbers .now) (a .words .now) (a .text .now) (a .body .now) w _ _ (c .before .before .number-at3 .ensures) (c .before .before .before .number-at2 .ensures)))  -- spell-all-requires
     (λ c κs. search needs)  -- refuse-requires-3
     (λ c. search needs)  -- same-length-3
-    (λ c. let a = (c .before .before .before .before .before .before .before .before .before .before .before .before .before .before .before .before .before .before .before .before .args) in let w = (is-writable (a .numbers .now) (a .words .now) (a .text .now) (a .body .now) (sym (c .before .before .before .before .before .before .before .before .before .before .before .before .before .before .before .is-formed .ensures) ∙ not-false _ (c .before .before .before .before .before .before .before .before .before .before .before .before .before .before .if1 .left)) (sym (c .before .before .before .before .before .before .before .before .before .before .before .before .before .number-at .ensures) ∙ (c .before .before .before .before .before .before .before .before .before .before .before .before .if2 .left))) in let r = (c .before .before .refuse3 .ensures) in rw (r .0) (at-otherwise (a .numbers .now) (a .words .now) (a .text .now) (a .body .now) w _ _ (spells-read (a .numbers .now) (a .words .now) (a .text .now) (a .body .now) w _ _ (c .before .before .before .before .before .before .before .before .before .before .number-at3 .ensures) (c .before .before .before .before .before .before .before .before .before .before .before .number-at2 .ensures) (c .before .before .before .before .before .before .before .spell-all .ensures)) (c .before .before .before .before .if3 .taken) _ (r .1)))  -- returns-3
+    (λ c. let a = (c .before .before .before .before .before .before .before .before .before .before .before .before .before .before .before .before .before .before .before .before .args) in let w = (is-writable (a .numbers .now) (a .words .now) (a .text .now) (a .body .now) (sym (c .before .before .before .before .before .before .before .before .before .before .before .before .before .before .before .is-formed .ensures) ∙ not-false _ (c .before .before .before .before .before .before .before .before .before .before .before .before .before .before .if1 .left)) (sym (c .before .before .before .before .before .before .before .before .before .before .before .before .before .number-at .ensures) ∙ (c .before .before .before .before .before .before .before .before .before .before .before .before .if2 .left))) in let r = (c .before .before .refuse3 .ensures) in rw (r .0) (at-otherwise (a .numbers .now) (a .words .now) (a .text .now) (a .body .now) w _ _ (spells-read (a .numbers .now) (a .words .now) (a .text .now) (a .body .now) w _ _ (c .before .before .before .before .before .before .before .before .before .before .number-at3 .ensures) (c .before .before .before .before .before .before .before .before .before .before .before .number-at2 .ensures) (c .before .before .before .before .before .before .before .spell-all .ensures)) (omega (arith, (c .before .before .before .before .if3 .taken))) _ (r .1)))  -- returns-3
     (λ c. search needs)  -- cast-refuse
     (λ c κs. search needs)  -- refuse-requires-4
     (λ c. search needs)  -- same-length-4
-    (λ c. let a = (c .before .before .before .before .before .before .before .before .before .before .before .before .before .before .before .before .before .before .before .before .before .args) in let w = (is-writable (a .numbers .now) (a .words .now) (a .text .now) (a .body .now) (sym (c .before .before .before .before .before .before .before .before .before .before .before .before .before .before .before .before .is-formed .ensures) ∙ not-false _ (c .before .before .before .before .before .before .before .before .before .before .before .before .before .before .before .if1 .left)) (sym (c .before .before .before .before .before .before .before .before .before .before .before .before .before .before .number-at .ensures) ∙ (c .before .before .before .before .before .before .before .before .before .before .before .before .before .if2 .left))) in let r = (c .before .before .refuse4 .ensures) in rw (r .0) (at-short (a .numbers .now) (a .words .now) (a .text .now) (a .body .now) w _ _ (spells-read (a .numbers .now) (a .words .now) (a .text .now) (a .body .now) w _ _ (c .before .before .before .before .before .before .before .before .before .before .before .number-at3 .ensures) (c .before .before .before .before .before .before .before .before .before .before .before .before .number-at2 .ensures) (c .before .before .before .before .before .before .before .before .spell-all .ensures)) (omega (arith, (c .before .before .before .before .before .if3 .left))) (c .before .before .before .before .if4 .taken) _ (r .1)))  -- returns-4
+    (λ c. let a = (c .before .before .before .before .before .before .before .before .before .before .before .before .before .before .before .before .before .before .before .before .before .args) in let w = (is-writable (a .numbers .now) (a .words .now) (a .text .now) (a .body .now) (sym (c .before .before .before .before .before .before .before .before .before .before .before .before .before .before .before .before .is-formed .ensures) ∙ not-false _ (c .before .before .before .before .before .before .before .before .before .before .before .before .before .before .before .if1 .left)) (sym (c .before .before .before .before .before .before .before .before .before .before .before .before .before .before .number-at .ensures) ∙ (c .before .before .before .before .before .before .before .before .before .before .before .before .before .if2 .left))) in let r = (c .before .before .refuse4 .ensures) in rw (r .0) (at-short (a .numbers .now) (a .words .now) (a .text .now) (a .body .now) w _ _ (spells-read (a .numbers .now) (a .words .now) (a .text .now) (a .body .now) w _ _ (c .before .before .before .before .before .before .before .before .before .before .before .number-at3 .ensures) (c .before .before .before .before .before .before .before .before .before .before .before .before .number-at2 .ensures) (c .before .before .before .before .before .before .before .before .spell-all .ensures)) (omega (arith, (c .before .before .before .before .before .if3 .left))) (omega (arith, (c .before .before .before .before .if4 .taken))) _ (r .1)))  -- returns-4
     (λ c. search needs)  -- cast-t12
     (λ c. search needs)  -- same-length-5
     (λ c. let a = (c .before .before .before .before .before .before .before .before .before .before .before .before .before .before .before .before .before .args) in let w = (is-writable (a .numbers .now) (a .words .now) (a .text .now) (a .body .now) (sym (c .before .before .before .before .before .before .before .before .before .before .before .before .is-formed .ensures) ∙ not-false _ (c .before .before .before .before .before .before .before .before .before .before .before .if1 .left)) (sym (c .before .before .before .before .before .before .before .before .before .before .number-at .ensures) ∙ (c .before .before .before .before .before .before .before .before .before .if2 .left))) in at-wrote (a .numbers .now) (a .words .now) (a .text .now) (a .body .now) w _ _ (spells-read (a .numbers .now) (a .words .now) (a .text .now) (a .body .now) w _ _ (c .before .before .before .before .before .before .before .number-at3 .ensures) (c .before .before .before .before .before .before .before .before .number-at2 .ensures) (c .before .before .before .before .spell-all .ensures)) (omega (arith, (c .before .if3 .left))) (omega (arith, (c .if4 .left)))))  -- returns-5

@@ -11,7 +11,7 @@ pub field-reads-spec : {M : Type 1} → statement M
 field-reads-spec =
     tie.close
     (tie.spec
-    (λ c. let a = (c .before .before .args) in field-deep (a .depth) false (a .text .now) (c .if1 .taken))  -- returns
+    (λ c. let a = (c .before .before .args) in field-deep (a .depth) false (a .text .now) (omega (arith, (c .if1 .taken))))  -- returns
     (λ c κs. search needs)  -- begins-badly-requires
     (λ c. let a = (c .before .before .before .before .args) in field-begins (a .depth) false (a .text .now) (sym (c .before .begins-badly .ensures) ∙ (c .if2 .taken)))  -- returns-2
     (λ c κs. search needs)  -- is-clean-requires
