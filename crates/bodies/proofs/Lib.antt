@@ -5,6 +5,7 @@ pub mod FieldLaws
 pub mod FieldLoop
 pub mod FstringLaws
 pub mod RowLaws
+pub mod FieldEndLaws
 pub mod CycleLaws
 pub mod ListLaws
 pub mod RowCalls

@@ -41,6 +41,11 @@ ReadIs = Written (λ ps. ps)
 abbrev pub SpecIs : d.Read (List Piece) → Frame → ℕ → List ℕ → List ℕ → List ℕ → List ℕ → Sink → Read → Type 0
 SpecIs read fr depth = Written (λ ps. spec (direct (suc depth) ps) ∷ ps) read fr depth
 
+-- a field that is read alone: where it ends, and no more
+abbrev pub EndsAs : d.Read (List Piece) → Read → Type 0
+EndsAs read (Done at r n) = (ps : List Piece) × (read ≡ got ps (at .at))
+EndsAs read (Refused x) = (y : d.Fault) × (read ≡ refused y)
+
 -- and the rows of those pieces, after so many fields, are written
 abbrev pub SignedBy : d.Read (List Piece) → Frame → List ℕ → List ℕ → ℕ → ℕ → Type 0
 SignedBy (got ps j) fr rows rows′ fields n = Signed fr ps rows rows′ fields n

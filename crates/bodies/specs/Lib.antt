@@ -4,3 +4,4 @@ pub mod FieldTurns
 pub mod Rows
 pub mod Fstring
 pub mod Lists
+pub mod FieldEnds

@@ -19,18 +19,18 @@ use texts::text_run;
 use utf8::Cursor;
 use utf8::Step;
 ghost use mathlib.Core.Path.{_≡_};
-ghost use mathlib.Core.Bool.{false};
+ghost use mathlib.Core.Bool.{true, false};
 ghost use mathlib.Core.List.{[]};
 ghost use Prim.Native.Nat.{_+_, _-_, _*_, _<_, _≤_};
 ghost use lib.ListN.{length};
-ghost use Rattle.definition.specs.Chars.{part};
+ghost use Rattle.definition.specs.Chars.{part, next};
 ghost use Rattle.definition.specs.Escapes.{fault};
-ghost use Rattle.definition.specs.Body.{firstEnd, textN, fieldN, fresh, specN, enough};
+ghost use Rattle.definition.specs.Body.{calls, textMove, firstEnd, textN, fieldN, fresh, specN, enough};
 ghost use Rattle.escapes.specs.Answers.{namesBy};
 ghost use Rattle.buffers.specs.Over.{over};
 ghost use Rattle.bodies.specs.Sinks.{isHeld, loadOf};
 ghost use Rattle.marks.specs.Marks.{refusal};
-ghost use Rattle.bodies.specs.Fstring.{Room, ReadIs, SpecIs, SignedIs, fieldEnd};
+ghost use Rattle.bodies.specs.Fstring.{Room, ReadIs, SpecIs, SignedIs, EndsAs, fieldEnd};
 
 // A text, field or spec that was read up to a cursor and written, with the count of fields so far; or a refusal.
 pub(crate) enum Read {
@@ -126,6 +126,7 @@ fn parse_spec(
         fields,
         file,
         index,
+        false,
     ) {
         Read::Refused(r) => Read::Refused(r),
         Read::Done(next, b, n) => Read::Done(next, fill_spec(words, fr, k, b), n),
@@ -187,7 +188,7 @@ fn parse_formatted_value(
     }
 }
 
-// F-string text at a depth, up to its end.
+// F-string text at a depth, up to its end; or `once`, at a `{` that opens a field, that field alone.
 pub(crate) fn parse_fstring(
     s: &[u8],
     at: Cursor,
@@ -200,11 +201,12 @@ pub(crate) fn parse_fstring(
     fields: usize,
     file: &[u8],
     index: &[u32],
+    once: bool,
 ) -> Read
     requires { ⌜ Room (now s) (at .at) fr k ⌝ }
     requires { ⌜ nested ≤ 2 ⌝ }
     requires { ⌜ fields ≤ k .count ⌝ }
-    ensures { λ r. ⌜ ReadIs (textN (namesBy (now (file .entry)) (now (index .entry))) (enough (now (s .entry))) (fr .kind) (now (s .entry)) nested (at .at) [] []) fr nested (now (words .entry)) (now (text .entry)) (now (words .exit)) (now (text .exit)) k r × SignedIs r (textN (namesBy (now (file .entry)) (now (index .entry))) (enough (now (s .entry))) (fr .kind) (now (s .entry)) nested (at .at) [] []) fr (now (rows .entry)) (now (rows .exit)) fields ⌝ }
+    ensures { λ r. ⌜ (once ≡ false → ReadIs (textN (namesBy (now (file .entry)) (now (index .entry))) (enough (now (s .entry))) (fr .kind) (now (s .entry)) nested (at .at) [] []) fr nested (now (words .entry)) (now (text .entry)) (now (words .exit)) (now (text .exit)) k r × SignedIs r (textN (namesBy (now (file .entry)) (now (index .entry))) (enough (now (s .entry))) (fr .kind) (now (s .entry)) nested (at .at) [] []) fr (now (rows .entry)) (now (rows .exit)) fields) × (once ≡ true → textMove (namesBy (now (file .entry)) (now (index .entry))) (fr .kind) (now (s .entry)) nested (at .at) [] ≡ calls → EndsAs (fieldN (namesBy (now (file .entry)) (now (index .entry))) (enough (now (s .entry))) (fr .kind) (now (s .entry)) nested (next (now (s .entry)) (at .at)) (next (now (s .entry)) (at .at)) fresh) r) ⌝ }
 {
     let mut cursor = at;
     let mut sink = k;
@@ -232,6 +234,9 @@ pub(crate) fn parse_fstring(
                 ) {
                     Read::Refused(r) => return Read::Refused(r),
                     Read::Done(after, b, n) => {
+                        if once {
+                            return Read::Done(after, b, n);
+                        }
                         cursor = after;
                         sink = b;
                         count = n;

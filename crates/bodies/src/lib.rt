@@ -17,6 +17,7 @@ use records::literal;
 use texts::Text;
 use texts::parse_string;
 use utf8::Cursor;
+use utf8::Step;
 ghost use mathlib.Core.Path.{_≡_};
 ghost use mathlib.Core.Option.{none};
 ghost use Prim.Native.Nat.{_<_, _≤_};
@@ -34,6 +35,9 @@ ghost use Rattle.bodies.specs.declared.Reading.the-variants.{Refused};
 ghost use Rattle.bodies.specs.Sinks.{wholeOf};
 ghost use Rattle.bodies.specs.Fstring.{Room as BodyRoom, ReadIs, SignedIs};
 ghost use Rattle.bodies.specs.Lists.{wholeFor, Room, Stands, First, refusedAt, frameOf, ListIs, RowsAre, ReadingIs};
+ghost use Rattle.bodies.specs.FieldEnds.{Opens, EndIs};
+ghost use Rattle.texts.specs.Text.{Whether};
+ghost use lib.ListN.{length};
 
 // A list that was checked, read and written: what its top-level records carry, and how many records, text bytes, fields and characters it has.
 pub struct Written {
@@ -52,11 +56,21 @@ pub enum Reading {
     Refused(entry::Refusal),
 }
 
+// Where a field ends, after its `}`; it is refused; none opens there; or the body is over the size limit.
+pub enum FieldEnd {
+    At(usize),
+    Refused,
+    Nowhere,
+    TooLong,
+}
+
 // A list that was read and written, with the count of its fields; or the first refusal.
 pub(crate) enum Listed {
     Done(Sink, usize),
     Refused(entry::Refusal),
 }
+
+const LARGEST_BODY: usize = 1048576;
 
 pub(crate) const EMPTY_EXPRESSION: u32 = 22;
 
@@ -91,6 +105,7 @@ fn read_body(
             fields,
             file,
             index,
+            false,
         );
     }
     match parse_string(s, fr.kind, text, k.used, file, index) {
@@ -344,4 +359,88 @@ pub fn read_all(
             }
         }
     }
+}
+
+// Whether a field opens at a place of a body, at depth 0: a `{` that is neither doubled nor the last character.
+fn opens_field(s: &[u8], at: Cursor) -> bool
+    ensures { λ r. ⌜ Whether r ((at .at < length (now (s .entry))) × Opens (now (s .entry)) (at .at)) (Opens (now (s .entry)) (at .at) → ⊥) ⌝ }
+{
+    let Step::Char(c, after) = at.next_char(s) else {
+        return false;
+    };
+    if c != 0x7B {
+        return false;
+    }
+    let Step::Char(d, _) = after.next_char(s) else {
+        return false;
+    };
+    if d == 0x7B {
+        return false;
+    }
+    true
+}
+
+// Where a field ends that opens at a place.
+fn read_field(s: &[u8], at: Cursor) -> FieldEnd
+    requires { ⌜ (length (now s) ≤ 1048576) × (at .at < length (now s)) × Opens (now s) (at .at) ⌝ }
+    ensures { λ r. ⌜ EndIs (now (s .entry)) (at .at) r ⌝ }
+{
+    let whole = Whole {
+        kind: 1,
+        start: 0,
+        end: 0,
+        mark: 0,
+    };
+    let window = Window { within: 0, skip: 0 };
+    let fr = Frame {
+        kind: 1,
+        start: 0,
+        end: 0,
+        base: 0,
+        window,
+        whole,
+    };
+    let k = Sink {
+        count: 0,
+        used: 0,
+        held: 0,
+        from: 0,
+        parts: 0,
+    };
+    let mut words = [0u32; 0];
+    let mut text = [0u8; 0];
+    let mut rows = [0u32; 0];
+    let file = [0u8; 0];
+    let index = [0u32; 0];
+    match parse_fstring(
+        s,
+        at,
+        0,
+        fr,
+        &mut words,
+        &mut text,
+        &mut rows,
+        k,
+        0,
+        &file,
+        &index,
+        true,
+    ) {
+        Read::Refused(_) => FieldEnd::Refused,
+        Read::Done(after, _, _) => FieldEnd::At(after.at),
+    }
+}
+
+// Where the field ends that a `{` at a place opens, at depth 0 of a body of kind 1, with the held names. Nothing of it is kept.
+pub fn field_end(s: &[u8], at: usize) -> FieldEnd
+    ensures { λ r. ⌜ EndIs (now (s .entry)) at r ⌝ }
+{
+    if LARGEST_BODY < s.len() {
+        return FieldEnd::TooLong;
+    }
+    let from = Cursor { at };
+    if opens_field(s, from) {
+        return read_field(s, from);
+    }
+    FieldEnd::Nowhere
 }

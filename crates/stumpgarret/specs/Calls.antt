@@ -10,6 +10,7 @@ use Rattle.definition_names.specs.Names.{BuildCall, indexNumbers}
 use Rattle.definition_replay.specs.Replay.{ReplayCall, replayNumbersOf}
 use Rattle.definition_revisions.specs.Revisions.{CompareCall, compareNumbers}
 use Rattle.definition_written.specs.Written.{WrittenCall, writtenNumbers}
+use Rattle.definition_cuts.specs.Plan.{PlanCall, planNumbers}
 use Rattle.twelve.specs.Twelve.{twelve}
 
 -- a call of the definition: the twelve numbers, and both buffers afterwards
@@ -54,3 +55,8 @@ pub record CompareIs (call : CompareCall) (answer list : List ℕ) : Type 0 wher
 pub record WriteIs (call : WrittenCall) (answer body : List ℕ) : Type 0 where
   pub numbered : answer ≡ twelve (writtenNumbers (call .result))
   pub body-left : body ≡ call .body
+
+-- the same of a call for a plan of cuts
+pub record PlanIs (call : PlanCall) (answer list : List ℕ) : Type 0 where
+  pub numbered : answer ≡ twelve (planNumbers (call .result))
+  pub list-left : list ≡ call .list

@@ -9,6 +9,7 @@ use strings::parse_searched;
 use strings::parse_signs;
 use strings::parse_strings;
 ghost use mathlib.Core.Path.{_≡_};
+ghost use mathlib.Core.List.{[], _∷_};
 ghost use Rattle.definition.specs.Escapes.{heldNames};
 ghost use Rattle.definition.specs.Reading.{readNumbers};
 ghost use Rattle.definition.specs.Rows.{signsNumbers};
@@ -21,8 +22,10 @@ ghost use Rattle.definition_replay.specs.Replay.{replayNumbers};
 ghost use Rattle.definition_formed.specs.Formed.{lent};
 ghost use Rattle.definition_revisions.specs.Revisions.{compareInto};
 ghost use Rattle.definition_written.specs.Written.{writtenInto};
+ghost use Rattle.definition_cuts.specs.Cuts.{checked};
+ghost use Rattle.definition_cuts.specs.Plan.{planInto};
 ghost use Rattle.twelve.specs.Twelve.{twelve};
-ghost use Rattle.stumpgarret.specs.Calls.{CallIs, SignsIs, ListIs, FieldsIs, IndexIs, ReplayIs, CompareIs, WriteIs};
+ghost use Rattle.stumpgarret.specs.Calls.{CallIs, SignsIs, ListIs, FieldsIs, IndexIs, ReplayIs, CompareIs, WriteIs, PlanIs};
 
 // Reads the literals whose numbers are listed, six for each, from a script into both buffers, and answers in twelve numbers.
 #[no_mangle]
@@ -188,4 +191,30 @@ pub extern "C" fn stumpgarret_write(
     ensures { λ _. ⌜ WriteIs (writtenInto heldNames (lent (now (reading .entry)) (now (words .entry)) (now (text .entry))) (now (body .entry))) (now (answer .exit)) (now (body .exit)) ⌝ }
 {
     *answer = twelve::of_writing(written::write(reading, words, text, body));
+}
+
+// Checks cut offsets in a body of kind 1 whose pieces may have so many bytes, and answers in twelve numbers.
+#[no_mangle]
+pub extern "C" fn stumpgarret_cuts_check(
+    body: &[u8],
+    limit: u32,
+    offsets: &[u32],
+    answer: &mut [u32; 12],
+)
+    ensures { λ _. ⌜ now (answer .exit) ≡ twelve (checked (now (body .entry)) limit (now (offsets .entry)) ∷ []) ⌝ }
+{
+    *answer = twelve::of_check(cuts::check(body, limit, offsets));
+}
+
+// Plans cuts of a body of kind 1 into pieces of at most so many bytes, at the front of a list, and answers in twelve numbers.
+#[no_mangle]
+pub extern "C" fn stumpgarret_cuts_plan(
+    body: &[u8],
+    limit: u32,
+    offsets: &mut [u32],
+    answer: &mut [u32; 12],
+)
+    ensures { λ _. ⌜ PlanIs (planInto (now (body .entry)) limit (now (offsets .entry))) (now (answer .exit)) (now (offsets .exit)) ⌝ }
+{
+    *answer = twelve::of_plan(cuts::plan(body, limit, offsets));
 }

@@ -1,2 +1,3 @@
 pub mod Laws
 pub mod Runs
+pub mod EscapeEndLaws

@@ -22,6 +22,7 @@ ghost use Rattle.definition.specs.Body.{goes, withEscape, stringMove, stringN, 
 ghost use Rattle.escapes.specs.Answers.{namesBy};
 ghost use Rattle.marks.specs.Marks.{refusal};
 ghost use Rattle.buffers.specs.Over.{over};
+ghost use Rattle.texts.specs.EscapeEnds.{EscapeIs};
 ghost use Rattle.texts.specs.Text.{Room, Taken, PlainIs, Does, StringBy, StringIs, RunBy, RunIs};
 
 const LARGEST_BODY: usize = 1048576;
@@ -47,6 +48,14 @@ pub enum Run {
     Field(Cursor, usize),
     Over(Cursor, usize),
     Refused(Refusal),
+}
+
+// Where an escape ends; it is refused; no character stands before it; or the body is over the size limit.
+pub enum EscapeEnd {
+    At(usize),
+    Refused,
+    Nowhere,
+    TooLong,
 }
 
 // What a character does: it goes into the text, with the cursor after it and the used length; it opens a field, with the cursor after it; it ends the text. Or it is refused.
@@ -381,4 +390,26 @@ pub fn text_run(
         return Run::Refused(refused_at(EXPRESSION_NESTED_TOO_DEEPLY, at.at));
     }
     fstring_text(s, at, nested, kind, text, used, file, index)
+}
+
+// Where the escape ends whose backslash stands at an index of a body of kind 1, with the held names. Nothing of it is kept.
+pub fn escape_end(s: &[u8], at: usize) -> EscapeEnd
+    ensures { λ r. ⌜ EscapeIs (now (s .entry)) at r ⌝ }
+{
+    if LARGEST_BODY < s.len() {
+        return EscapeEnd::TooLong;
+    }
+    let from = Cursor { at };
+    let Step::Char(_, after) = from.next_char(s) else {
+        return EscapeEnd::Nowhere;
+    };
+    let mut text = [0u8; 0];
+    let file = [0u8; 0];
+    let index = [0u32; 0];
+    match escape_text(s, from, after, 1, &mut text, 0, &file, &index) {
+        Piece::On(to, _) => EscapeEnd::At(to.at),
+        Piece::Field(_) => EscapeEnd::Refused,
+        Piece::Over => EscapeEnd::Refused,
+        Piece::Refused(_) => EscapeEnd::Refused,
+    }
 }

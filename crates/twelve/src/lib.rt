@@ -1,4 +1,5 @@
 // An answer of the library in the twelve numbers of the C interface.
+use cuts::Planned;
 use listing::Fields;
 use literals::Listing;
 use names::Answer;
@@ -8,12 +9,14 @@ use written::Writing;
 ghost use mathlib.Core.Path.{_≡_};
 ghost use Prim.Native.Nat.{_-_};
 ghost use Rattle.definition_revisions.specs.Revisions.{compareNumbers};
+ghost use mathlib.Core.List.{[], _∷_};
 ghost use Rattle.strings.specs.Strings.{says};
 ghost use Rattle.literals.specs.Answers as listing;
 ghost use Rattle.listing.specs.Answers as fields;
 ghost use Rattle.replay.specs.Answers as replays;
 ghost use Rattle.revisions.specs.Answers as comparisons;
 ghost use Rattle.written.specs.Answers as writings;
+ghost use Rattle.cuts.specs.Answers as cuts;
 ghost use Rattle.twelve.specs.Twelve.{twelve, indexSays};
 
 const SCRIPT_TOO_LONG: u32 = 49;
@@ -21,6 +24,8 @@ const SCRIPT_TOO_LONG: u32 = 49;
 const TOO_LITTLE_LIST_ROOM: u32 = 53;
 
 const NO_MIDDLE_ROOM: u32 = 59;
+
+const TOO_LITTLE_CUT_ROOM: u32 = 74;
 
 // An outcome's numbers, and zeros up to twelve.
 pub fn of_reading(o: Outcome) -> [u32; 12]
@@ -160,5 +165,23 @@ pub fn of_writing(x: Writing) -> [u32; 12]
     match x {
         Writing::Wrote(bytes) => [0, bytes, 0, 0, 0, 0, 0, 0, 0, 0, 0, 0],
         Writing::Stopped(s) => [s.number, 0, 0, 0, 0, 0, 0, 0, 0, s.needed, 0, 0],
+    }
+}
+
+// The number of a check, and zeros up to twelve.
+pub fn of_check(number: u32) -> [u32; 12]
+    ensures { λ r. ⌜ r ≡ twelve (number ∷ []) ⌝ }
+{
+    [number, 0, 0, 0, 0, 0, 0, 0, 0, 0, 0, 0]
+}
+
+// A plan's numbers, and zeros up to twelve.
+pub fn of_plan(x: Planned) -> [u32; 12]
+    ensures { λ r. ⌜ r ≡ twelve (cuts.says x) ⌝ }
+{
+    match x {
+        Planned::Cuts(count) => [0, 1, count, 0, 0, 0, 0, 0, 0, 0, 0, 0],
+        Planned::Nothing => [0, 0, 0, 0, 0, 0, 0, 0, 0, 0, 0, 0],
+        Planned::Short(count) => [TOO_LITTLE_CUT_ROOM, 0, 0, 0, 0, 0, 0, 0, 0, count, 0, 0],
     }
 }

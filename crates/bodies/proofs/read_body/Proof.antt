@@ -1,7 +1,7 @@
 -- `bodies::read_body` meets its contract. Assumes nothing.
 use borrow.Author.Needs.{needs}
 use native.Mathlib.Omega.{arith}
-use mathlib.Core.Path.{sym, _∙_}
+use mathlib.Core.Path.{refl, sym, _∙_}
 use Rattle.bodies.proofs.ListLaws.{fstring-body, content-of, not-read, string-refuses, string-body}
 use Rattle.bodies.proofs.RowCalls.{fstring-rows, string-rows}
 use Rattle.bodies.proofs.RecordLaws.{literal-written}
@@ -18,7 +18,7 @@ read-body-spec =
     (λ c. search needs)  -- same-length
     (λ c. search needs)  -- same-length-2
     (λ c. search needs)  -- same-length-3
-    (λ c. let a = (c .before .before .before .before .before .before .before .before .before .before .before .before .before .before .before .before .before .before .args) in (fstring-body _ (a .fr) (a .s .now) (a .words .now) (a .text .now) (c .before .before .before .before .before .before .parse-fstring .last .1 .1 .1 .1 .0) (c .before .before .before .before .before .before .parse-fstring .last .1 .1 .1 .1 .1 .0) (a .k) (c .before .before .before .before .before .before .parse-fstring .result) (sym (c .before .before .before .before .before .before .before .before .before .before .before .is-of .ensures) ∙ (c .before .before .before .before .before .before .before .before .before .before .if1 .taken)) ((c .before .before .before .before .before .before .parse-fstring .ensures) .0), fstring-rows _ (a .fr) (a .s .now) _ _ (a .fields) (c .before .before .before .before .before .before .parse-fstring .result) (sym (c .before .before .before .before .before .before .before .before .before .before .before .is-of .ensures) ∙ (c .before .before .before .before .before .before .before .before .before .before .if1 .taken)) ((c .before .before .before .before .before .before .parse-fstring .ensures) .1)))  -- returns
+    (λ c. let a = (c .before .before .before .before .before .before .before .before .before .before .before .before .before .before .before .before .before .before .args) in (fstring-body _ (a .fr) (a .s .now) (a .words .now) (a .text .now) (c .before .before .before .before .before .before .parse-fstring .last .1 .1 .1 .1 .0) (c .before .before .before .before .before .before .parse-fstring .last .1 .1 .1 .1 .1 .0) (a .k) (c .before .before .before .before .before .before .parse-fstring .result) (sym (c .before .before .before .before .before .before .before .before .before .before .before .is-of .ensures) ∙ (c .before .before .before .before .before .before .before .before .before .before .if1 .taken)) ((c .before .before .before .before .before .before .parse-fstring .ensures .0 refl) .0), fstring-rows _ (a .fr) (a .s .now) _ _ (a .fields) (c .before .before .before .before .before .before .parse-fstring .result) (sym (c .before .before .before .before .before .before .before .before .before .before .before .is-of .ensures) ∙ (c .before .before .before .before .before .before .before .before .before .before .if1 .taken)) ((c .before .before .before .before .before .before .parse-fstring .ensures .0 refl) .1)))  -- returns
     (λ c κs. search needs)  -- parse-string-requires
     (λ c. search needs)  -- enum-known-r
     (λ c. search needs)  -- enum-known-used

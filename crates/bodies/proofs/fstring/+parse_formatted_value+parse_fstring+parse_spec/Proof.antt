@@ -12,6 +12,8 @@ use Rattle.bodies.proofs.RecordLaws.{reserved-kept, specified-filled}
 use Rattle.bodies.proofs.FstringLaws.{refuses, to-refuse, fits, small-head, readable, run-ended, over-reads, text-over, kept, first-emits, first-room, plain-reads, spec-plain, spec-refused}
 use Rattle.texts.proofs.Laws.{text-refuses}
 use Rattle.bodies.proofs.RowLaws.{Rowing, begun, filled-signed, text-signed, to-sign, few-on}
+use Rattle.bodies.proofs.FieldEndLaws.{not-over, not-halted, alone}
+use mathlib.Core.Bool.{true, false≢true}
 use Rattle.bodies.proofs.CycleLaws.{closed-returns, spec-asks, spec-refuses, end-refuses, spec-returns, text-written, field-asks, field-refuses, further, goes-further, first-written, braced-returns}
 use Prim.Native.Nat.{ℕ, suc, _<_, _≤_}
 use borrow.Fn.Kinds.{In}
@@ -97,14 +99,15 @@ abbrev parse-spec-calls : ℕ → parse-spec-lts.Claims
 parse-spec-calls t = (read-first-reads.Asked, read-first-reads.Learnt, reserve-reads.Asked, reserve-reads.Learnt, end-text-reads.Asked, end-text-reads.Learnt, peek-reads.Asked, peek-reads.Learnt, fill-spec-reads.Asked, fill-spec-reads.Learnt, parse-fstring-below t, parse-fstring.Post)
 
 abbrev parse-fstring-Inv-loop : parse-fstring-lts.InvT-loop
-parse-fstring-Inv-loop s nested fr words₀ text₀ rows₀ fields file index cursor₀ sink₀ count₀ words text rows cursor sink count =
+parse-fstring-Inv-loop s nested fr words₀ text₀ rows₀ fields file index once cursor₀ sink₀ count₀ words text rows cursor sink count =
     (length words ≡ length words₀)
     × (length text ≡ length text₀)
     × (length rows ≡ length rows₀)
     × Rowing (namesBy file index) s (fr .kind) nested (cursor₀ .at) fr words₀ text₀ words text rows₀ rows sink₀ fields (cursor .at) sink count
+    × (once ≡ true → cursor .at ≡ cursor₀ .at)
 
 abbrev parse-fstring-μ-loop : parse-fstring-lts.MeasureT-loop
-parse-fstring-μ-loop s nested fr words₀ text₀ rows₀ fields file index cursor₀ sink₀ count₀ words text rows cursor sink count = length s - cursor .at
+parse-fstring-μ-loop s nested fr words₀ text₀ rows₀ fields file index once cursor₀ sink₀ count₀ words text rows cursor sink count = length s - cursor .at
 
 parse-formatted-value-returns : (t : ℕ) → parse-formatted-value-lts.Need-returns (parse-formatted-value-calls t) (parse-formatted-value-at t) parse-formatted-value.Post
 parse-formatted-value-returns t c =
@@ -136,11 +139,11 @@ parse-spec-parse-fstring-requires t c κs =
 
 parse-spec-returns-2 : (t : ℕ) → parse-spec-lts.Need-returns-2 (parse-spec-calls t) (parse-spec-at t) parse-spec.Post
 parse-spec-returns-2 t c =
-    let a = (c .before .before .before .before .before .before .before .before .before .before .before .before .before .before .before .before .before .before .before .before .before .before .before .before .before .before .before .before .before .before .before .args) in let R = (c .before .before .before .before .before .before .before .before .before .before .before .before .before .before .before .before .before .before .before .before .before .before .before .before .before .before .before .before .before .before .before .pre .1 .0) in let Z = (c .before .before .before .before .before .before .before .before .before .before .before .before .before .before .before .before .before .before .before .before .before .before .before .before .before .before .before .before .before .before .before .pre .1 .1 .0) in let N = reserved-kept (a .k) (c .before .before .before .before .before .before .before .before .before .before .before .before .before .before .before .before .before .before .reserve .result) (fits _ _ _ _ R) (c .before .before .before .before .before .before .before .before .before .before .before .before .before .before .before .before .before .before .reserve .ensures) in let K = kept (a .k) (c .before .before .before .before .before .before .before .before .before .before .before .before .before .before .before .before .before .before .reserve .result) (N .0) (N .1) in let F = (c .before .before .before .before .before .before .before .before .before .before .before .before .before .before .before .before .before .before .before .before .before .before .before .read-first .ensures) in let g = first-written (a .s .now) (a .nested) (a .at .at) (a .fr) _ _ (a .k) _ _ _ _ R K (F .0) (F .1) (rw (add-one (a .nested)) at (c .before .before .before .before .before .before .before .before .before .before .before .before .before .before .before .before .before .end-text .ensures)) in let Q = rw (add-one (a .nested), (c .before .r .given .1)) at (c .before .before .before .before .before .before .before .before .before .parse-fstring .ensures) in (spec-refused (a .s .now) (a .nested) (a .at .at) (a .fr) _ _ _ _ (a .k) _ _ _ _ R (Z .2) K (F .0) (F .1) (F .2) g _ (Z .1) (N .0) (N .1) (eq-eqb _ _ (sym (c .before .before .before .before .before .before .before .before .before .before .before .before .before .before .peek .ensures) ∙ (c .before .before .before .before .before .before .before .before .before .before .before .before .before .if1 .left))) _ _ _ (refuses _ _ _ _ _ _ _ _ _ _ (Q .0)), tt)
+    let a = (c .before .before .before .before .before .before .before .before .before .before .before .before .before .before .before .before .before .before .before .before .before .before .before .before .before .before .before .before .before .before .before .args) in let R = (c .before .before .before .before .before .before .before .before .before .before .before .before .before .before .before .before .before .before .before .before .before .before .before .before .before .before .before .before .before .before .before .pre .1 .0) in let Z = (c .before .before .before .before .before .before .before .before .before .before .before .before .before .before .before .before .before .before .before .before .before .before .before .before .before .before .before .before .before .before .before .pre .1 .1 .0) in let N = reserved-kept (a .k) (c .before .before .before .before .before .before .before .before .before .before .before .before .before .before .before .before .before .before .reserve .result) (fits _ _ _ _ R) (c .before .before .before .before .before .before .before .before .before .before .before .before .before .before .before .before .before .before .reserve .ensures) in let K = kept (a .k) (c .before .before .before .before .before .before .before .before .before .before .before .before .before .before .before .before .before .before .reserve .result) (N .0) (N .1) in let F = (c .before .before .before .before .before .before .before .before .before .before .before .before .before .before .before .before .before .before .before .before .before .before .before .read-first .ensures) in let g = first-written (a .s .now) (a .nested) (a .at .at) (a .fr) _ _ (a .k) _ _ _ _ R K (F .0) (F .1) (rw (add-one (a .nested)) at (c .before .before .before .before .before .before .before .before .before .before .before .before .before .before .before .before .before .end-text .ensures)) in let Q = rw (add-one (a .nested), (c .before .r .given .1)) at (c .before .before .before .before .before .before .before .before .before .parse-fstring .ensures .0 refl) in (spec-refused (a .s .now) (a .nested) (a .at .at) (a .fr) _ _ _ _ (a .k) _ _ _ _ R (Z .2) K (F .0) (F .1) (F .2) g _ (Z .1) (N .0) (N .1) (eq-eqb _ _ (sym (c .before .before .before .before .before .before .before .before .before .before .before .before .before .before .peek .ensures) ∙ (c .before .before .before .before .before .before .before .before .before .before .before .before .before .if1 .left))) _ _ _ (refuses _ _ _ _ _ _ _ _ _ _ (Q .0)), tt)
 
 parse-spec-returns-3 : (t : ℕ) → parse-spec-lts.Need-returns-3 (parse-spec-calls t) (parse-spec-at t) parse-spec.Post
 parse-spec-returns-3 t c =
-    let a = (c .before .before .before .before .before .before .before .before .before .before .before .before .before .before .before .before .before .before .before .before .before .before .before .before .before .before .before .before .before .before .before .before .before .before .before .args) in let R = (c .before .before .before .before .before .before .before .before .before .before .before .before .before .before .before .before .before .before .before .before .before .before .before .before .before .before .before .before .before .before .before .before .before .before .before .pre .1 .0) in let Z = (c .before .before .before .before .before .before .before .before .before .before .before .before .before .before .before .before .before .before .before .before .before .before .before .before .before .before .before .before .before .before .before .before .before .before .before .pre .1 .1 .0) in let N = reserved-kept (a .k) (c .before .before .before .before .before .before .before .before .before .before .before .before .before .before .before .before .before .before .before .before .before .before .reserve .result) (fits _ _ _ _ R) (c .before .before .before .before .before .before .before .before .before .before .before .before .before .before .before .before .before .before .before .before .before .before .reserve .ensures) in let K = kept (a .k) (c .before .before .before .before .before .before .before .before .before .before .before .before .before .before .before .before .before .before .before .before .before .before .reserve .result) (N .0) (N .1) in let F = (c .before .before .before .before .before .before .before .before .before .before .before .before .before .before .before .before .before .before .before .before .before .before .before .before .before .before .before .read-first .ensures) in let g = first-written (a .s .now) (a .nested) (a .at .at) (a .fr) _ _ (a .k) _ _ _ _ R K (F .0) (F .1) (rw (add-one (a .nested)) at (c .before .before .before .before .before .before .before .before .before .before .before .before .before .before .before .before .before .before .before .before .before .end-text .ensures)) in let Q = rw (add-one (a .nested), (c .before .before .before .before .before .next .given .1)) at (c .before .before .before .before .before .before .before .before .before .before .before .before .before .parse-fstring .ensures) in braced-returns _ (a .s .now) (a .nested) (a .at .at) (a .fr) _ _ _ _ (a .k) _ _ _ _ R (Z .2) K (F .0) (F .1) (F .2) g (Z .1) (N .0) (N .1) _ _ _ _ _ (Q .0) (eq-eqb _ _ (sym (c .before .before .before .before .before .before .before .before .before .before .before .before .before .before .before .before .before .before .peek .ensures) ∙ (c .before .before .before .before .before .before .before .before .before .before .before .before .before .before .before .before .before .if1 .left))) _ _ (c .before .before .fill-spec2 .ensures) _ _ (a .fields) (Q .1)
+    let a = (c .before .before .before .before .before .before .before .before .before .before .before .before .before .before .before .before .before .before .before .before .before .before .before .before .before .before .before .before .before .before .before .before .before .before .before .args) in let R = (c .before .before .before .before .before .before .before .before .before .before .before .before .before .before .before .before .before .before .before .before .before .before .before .before .before .before .before .before .before .before .before .before .before .before .before .pre .1 .0) in let Z = (c .before .before .before .before .before .before .before .before .before .before .before .before .before .before .before .before .before .before .before .before .before .before .before .before .before .before .before .before .before .before .before .before .before .before .before .pre .1 .1 .0) in let N = reserved-kept (a .k) (c .before .before .before .before .before .before .before .before .before .before .before .before .before .before .before .before .before .before .before .before .before .before .reserve .result) (fits _ _ _ _ R) (c .before .before .before .before .before .before .before .before .before .before .before .before .before .before .before .before .before .before .before .before .before .before .reserve .ensures) in let K = kept (a .k) (c .before .before .before .before .before .before .before .before .before .before .before .before .before .before .before .before .before .before .before .before .before .before .reserve .result) (N .0) (N .1) in let F = (c .before .before .before .before .before .before .before .before .before .before .before .before .before .before .before .before .before .before .before .before .before .before .before .before .before .before .before .read-first .ensures) in let g = first-written (a .s .now) (a .nested) (a .at .at) (a .fr) _ _ (a .k) _ _ _ _ R K (F .0) (F .1) (rw (add-one (a .nested)) at (c .before .before .before .before .before .before .before .before .before .before .before .before .before .before .before .before .before .before .before .before .before .end-text .ensures)) in let Q = rw (add-one (a .nested), (c .before .before .before .before .before .next .given .1)) at (c .before .before .before .before .before .before .before .before .before .before .before .before .before .parse-fstring .ensures .0 refl) in braced-returns _ (a .s .now) (a .nested) (a .at .at) (a .fr) _ _ _ _ (a .k) _ _ _ _ R (Z .2) K (F .0) (F .1) (F .2) g (Z .1) (N .0) (N .1) _ _ _ _ _ (Q .0) (eq-eqb _ _ (sym (c .before .before .before .before .before .before .before .before .before .before .before .before .before .before .before .before .before .before .peek .ensures) ∙ (c .before .before .before .before .before .before .before .before .before .before .before .before .before .before .before .before .before .if1 .left))) _ _ (c .before .before .fill-spec2 .ensures) _ _ (a .fields) (Q .1)
 
 pub +parse-formatted-value+parse-fstring+parse-spec-spec : {M : Type 1} → statement M
 +parse-formatted-value+parse-fstring+parse-spec-spec =
@@ -185,19 +188,19 @@ pub +parse-formatted-value+parse-fstring+parse-spec-spec : {M : Type 1} → stat
     (λ t. parse-fstring-lts.spec (parse-fstring-calls t) (parse-fstring-at t) parse-fstring.Post
     parse-fstring-Inv-loop
     parse-fstring-μ-loop
-    (λ c. let a = (c .before .before .before .before .before .before .args) in (refl, refl, refl, begun _ (a .s .now) (a .fr .kind) (a .nested) (a .at .at) (a .fr) (a .words .now) (a .text .now) (a .rows .now) (a .k) (a .fields) (c .before .before .before .before .before .before .pre .1 .0) (c .before .before .before .before .before .before .pre .1 .1 .1)))  -- loop-holds
+    (λ c. let a = (c .before .before .before .before .before .before .args) in (refl, refl, refl, begun _ (a .s .now) (a .fr .kind) (a .nested) (a .at .at) (a .fr) (a .words .now) (a .text .now) (a .rows .now) (a .k) (a .fields) (c .before .before .before .before .before .before .pre .1 .0) (c .before .before .before .before .before .before .pre .1 .1 .1), λ e. refl))  -- loop-holds
     (λ c κs. search needs)  -- text-run-requires
     (λ c. search needs)  -- enum-known-r
     (λ c. let i0 = (c .before .before .before .before .before .before .before .loop .inv .0) in let i1 = (c .before .before .before .before .before .before .before .loop .inv .1) in let i2 = (c .before .before .before .before .before .before .before .loop .inv .2) in let l0 = (c .before .before .before .before .text .given) in search needs)  -- same-length
     (λ c. let i0 = (c .before .before .before .before .before .before .before .loop .inv .0) in let i1 = (c .before .before .before .before .before .before .before .loop .inv .1) in let i2 = (c .before .before .before .before .before .before .before .loop .inv .2) in let l0 = (c .before .before .before .before .text .given) in search needs)  -- same-length-2
     (λ c. let i0 = (c .before .before .before .before .before .before .before .loop .inv .0) in let i1 = (c .before .before .before .before .before .before .before .loop .inv .1) in let i2 = (c .before .before .before .before .before .before .before .loop .inv .2) in let l0 = (c .before .before .before .before .text .given) in search needs)  -- same-length-3
-    (λ c. let I = (c .before .before .before .before .before .before .before .loop .inv .3 .0) in let E = rw (c .before .r .given .1, readable _ _ _ _ (I .room)) at (c .before .before .before .before .before .text-run .ensures) in (to-refuse (λ l. l) _ _ _ _ _ _ _ _ _ (I .same ∙ text-refuses _ _ _ _ _ _ _ _ _ E (I .pieces)), tt))  -- returns
+    (λ c. let I = (c .before .before .before .before .before .before .before .loop .inv .3 .0) in let E = rw (c .before .r .given .1, readable _ _ _ _ (I .room)) at (c .before .before .before .before .before .text-run .ensures) in ((λ e. (to-refuse (λ l. l) _ _ _ _ _ _ _ _ _ (I .same ∙ text-refuses _ _ _ _ _ _ _ _ _ E (I .pieces)), tt)), (λ e m. not-halted _ _ _ _ _ _ _ _ (rw ((c .before .before .before .before .before .before .before .loop .inv .4) e) m) _ E)))  -- returns
     (λ c. search needs)  -- enum-known-next
     (λ c κs. search needs)  -- end-text-requires
     (λ c. let i0 = (c .before .before .before .before .before .before .before .before .before .before .before .loop .inv .0) in let i1 = (c .before .before .before .before .before .before .before .before .before .before .before .loop .inv .1) in let i2 = (c .before .before .before .before .before .before .before .before .before .before .before .loop .inv .2) in let l0 = (c .before .words .given) in let l1 = (c .before .before .before .before .before .before .before .before .text .given) in search needs)  -- same-length-4
     (λ c. let i0 = (c .before .before .before .before .before .before .before .before .before .before .before .loop .inv .0) in let i1 = (c .before .before .before .before .before .before .before .before .before .before .before .loop .inv .1) in let i2 = (c .before .before .before .before .before .before .before .before .before .before .before .loop .inv .2) in let l0 = (c .before .words .given) in let l1 = (c .before .before .before .before .before .before .before .before .text .given) in search needs)  -- same-length-5
     (λ c. let i0 = (c .before .before .before .before .before .before .before .before .before .before .before .loop .inv .0) in let i1 = (c .before .before .before .before .before .before .before .before .before .before .before .loop .inv .1) in let i2 = (c .before .before .before .before .before .before .before .before .before .before .before .loop .inv .2) in let l0 = (c .before .words .given) in let l1 = (c .before .before .before .before .before .before .before .before .text .given) in search needs)  -- same-length-6
-    (λ c. let a = (c .before .before .before .before .before .before .before .before .before .before .before .before .before .before .before .before .before .before .args) in let I = (c .before .before .before .before .before .before .before .before .before .before .before .loop .inv .3 .0) in let U = rw (c .before .before .before .before .before .next .given .1, readable _ _ _ _ (I .room)) at (c .before .before .before .before .before .before .before .before .before .text-run .ensures) in let g = text-written _ _ _ _ _ _ _ _ _ _ _ _ I _ _ _ _ U _ _ (c .before .before .end-text .ensures) in (text-over _ _ _ _ _ _ _ _ _ _ _ _ I _ _ _ _ U _ _ g _ _ refl refl, to-sign _ _ _ _ (a .fr) _ _ _ (over-reads _ _ _ _ _ _ _ _ _ _ _ _ I _ _ _ _ U _ _ g _ refl refl) (text-signed (a .fr) (I .pieces) (a .nested) _ _ _ _ _ (c .before .before .before .before .before .before .before .before .before .before .before .loop .inv .3 .1))))  -- returns-3
+    (λ c. let a = (c .before .before .before .before .before .before .before .before .before .before .before .before .before .before .before .before .before .before .args) in let I = (c .before .before .before .before .before .before .before .before .before .before .before .loop .inv .3 .0) in let U = rw (c .before .before .before .before .before .next .given .1, readable _ _ _ _ (I .room)) at (c .before .before .before .before .before .before .before .before .before .text-run .ensures) in let g = text-written _ _ _ _ _ _ _ _ _ _ _ _ I _ _ _ _ U _ _ (c .before .before .end-text .ensures) in ((λ e. (text-over _ _ _ _ _ _ _ _ _ _ _ _ I _ _ _ _ U _ _ g _ _ refl refl, to-sign _ _ _ _ (a .fr) _ _ _ (over-reads _ _ _ _ _ _ _ _ _ _ _ _ I _ _ _ _ U _ _ g _ refl refl) (text-signed (a .fr) (I .pieces) (a .nested) _ _ _ _ _ (c .before .before .before .before .before .before .before .before .before .before .before .loop .inv .3 .1)))), (λ e m. not-over _ _ _ _ _ _ _ _ (rw ((c .before .before .before .before .before .before .before .before .before .before .before .loop .inv .4) e) m) _ _ U)))  -- returns-2
     (λ c. search needs)  -- enum-known-next-2
     (λ c κs. search needs)  -- end-text-requires-2
     (λ c κs. let I = (c .before .before .before .before .before .before .before .before .before .before .before .before .before .before .loop .inv .3 .0) in let U = rw (c .before .before .before .before .before .before .before .before .next2 .given .1, readable _ _ _ _ (I .room)) at (c .before .before .before .before .before .before .before .before .before .before .before .before .text-run .ensures) in let q = field-asks _ _ _ _ _ _ _ _ _ _ _ _ I _ _ _ U _ _ (c .before .before .before .before .before .end-text2 .ensures) _ (c .before .before .before .before .before .before .before .before .before .before .before .before .before .before .loop .inv .3 .2) in (omega (arith, (c .before .before .before .before .before .before .before .before .before .before .before .before .before .before .before .before .before .before .before .before .before .pre .0), q .2, q .0 .low), (q .0, (omega (arith, q .3), q .1))))  -- parse-formatted-value-requires
@@ -205,10 +208,14 @@ pub +parse-formatted-value+parse-fstring+parse-spec-spec : {M : Type 1} → stat
     (λ c. let i0 = (c .before .before .before .before .before .before .before .before .before .before .before .before .before .before .before .before .before .before .before .before .before .before .before .before .loop .inv .0) in let i1 = (c .before .before .before .before .before .before .before .before .before .before .before .before .before .before .before .before .before .before .before .before .before .before .before .before .loop .inv .1) in let i2 = (c .before .before .before .before .before .before .before .before .before .before .before .before .before .before .before .before .before .before .before .before .before .before .before .before .loop .inv .2) in let l0 = (c .before .before .before .before .rows .given) in let l1 = (c .before .before .before .before .before .before .text2 .given) in let l2 = (c .before .before .before .before .before .before .before .before .words3 .given) in let l3 = (c .before .before .before .before .before .before .before .before .before .before .before .before .before .before .words2 .given) in let l4 = (c .before .before .before .before .before .before .before .before .before .before .before .before .before .before .before .before .before .before .before .before .before .text .given) in search needs)  -- same-length-7
     (λ c. let i0 = (c .before .before .before .before .before .before .before .before .before .before .before .before .before .before .before .before .before .before .before .before .before .before .before .before .loop .inv .0) in let i1 = (c .before .before .before .before .before .before .before .before .before .before .before .before .before .before .before .before .before .before .before .before .before .before .before .before .loop .inv .1) in let i2 = (c .before .before .before .before .before .before .before .before .before .before .before .before .before .before .before .before .before .before .before .before .before .before .before .before .loop .inv .2) in let l0 = (c .before .before .before .before .rows .given) in let l1 = (c .before .before .before .before .before .before .text2 .given) in let l2 = (c .before .before .before .before .before .before .before .before .words3 .given) in let l3 = (c .before .before .before .before .before .before .before .before .before .before .before .before .before .before .words2 .given) in let l4 = (c .before .before .before .before .before .before .before .before .before .before .before .before .before .before .before .before .before .before .before .before .before .text .given) in search needs)  -- same-length-8
     (λ c. let i0 = (c .before .before .before .before .before .before .before .before .before .before .before .before .before .before .before .before .before .before .before .before .before .before .before .before .loop .inv .0) in let i1 = (c .before .before .before .before .before .before .before .before .before .before .before .before .before .before .before .before .before .before .before .before .before .before .before .before .loop .inv .1) in let i2 = (c .before .before .before .before .before .before .before .before .before .before .before .before .before .before .before .before .before .before .before .before .before .before .before .before .loop .inv .2) in let l0 = (c .before .before .before .before .rows .given) in let l1 = (c .before .before .before .before .before .before .text2 .given) in let l2 = (c .before .before .before .before .before .before .before .before .words3 .given) in let l3 = (c .before .before .before .before .before .before .before .before .before .before .before .before .before .before .words2 .given) in let l4 = (c .before .before .before .before .before .before .before .before .before .before .before .before .before .before .before .before .before .before .before .before .before .text .given) in search needs)  -- same-length-9
-    (λ c. let I = (c .before .before .before .before .before .before .before .before .before .before .before .before .before .before .before .before .before .before .before .before .before .before .before .before .loop .inv .3 .0) in let U = rw (c .before .before .before .before .before .before .before .before .before .before .before .before .before .before .before .before .before .before .next2 .given .1, readable _ _ _ _ (I .room)) at (c .before .before .before .before .before .before .before .before .before .before .before .before .before .before .before .before .before .before .before .before .before .before .text-run .ensures) in let Q = rw (c .before .r2 .given .1) at (c .before .before .before .before .before .before .before .before .before .parse-formatted-value .ensures) in (field-refuses _ _ _ _ _ _ _ _ _ _ _ _ I _ _ _ U _ _ (c .before .before .before .before .before .before .before .before .before .before .before .before .before .before .before .end-text2 .ensures) _ _ _ (Q .0) _ _, tt))  -- returns-3
+    (λ c. let I = (c .before .before .before .before .before .before .before .before .before .before .before .before .before .before .before .before .before .before .before .before .before .before .before .before .loop .inv .3 .0) in let U = rw (c .before .before .before .before .before .before .before .before .before .before .before .before .before .before .before .before .before .before .next2 .given .1, readable _ _ _ _ (I .room)) at (c .before .before .before .before .before .before .before .before .before .before .before .before .before .before .before .before .before .before .before .before .before .before .text-run .ensures) in let Q = rw (c .before .r2 .given .1) at (c .before .before .before .before .before .before .before .before .before .parse-formatted-value .ensures) in ((λ e. (field-refuses _ _ _ _ _ _ _ _ _ _ _ _ I _ _ _ U _ _ (c .before .before .before .before .before .before .before .before .before .before .before .before .before .before .before .end-text2 .ensures) _ _ _ (Q .0) _ _, tt)), (λ e m. alone _ _ _ _ _ _ _ _ _ _ _ _ _ _ _ ((c .before .before .before .before .before .before .before .before .before .before .before .before .before .before .before .before .before .before .before .before .before .before .before .before .loop .inv .4) e) m _ _ U _ (Q .0))))  -- returns-3
     (λ c. search needs)  -- enum-known-after
-    (λ c. let I = (c .before .before .before .before .before .before .before .before .before .before .before .before .before .before .before .before .before .before .before .before .before .before .before .before .loop .inv .3 .0) in let U = rw (c .before .before .before .before .before .before .before .before .before .before .before .before .before .before .before .before .before .before .next2 .given .1, readable _ _ _ _ (I .room)) at (c .before .before .before .before .before .before .before .before .before .before .before .before .before .before .before .before .before .before .before .before .before .before .text-run .ensures) in let Q = rw (c .before .after .given .1) at (c .before .before .before .before .before .before .before .before .before .parse-formatted-value .ensures) in let w = further _ _ _ _ _ _ _ _ _ _ _ _ I _ _ _ U _ _ (c .before .before .before .before .before .before .before .before .before .before .before .before .before .before .before .end-text2 .ensures) _ _ _ _ _ (Q .0) in omega (arith, w .0, w .1))  -- loop-less
-    (λ c. let a = (c .before .before .before .before .before .before .before .before .before .before .before .before .before .before .before .before .before .before .before .before .before .before .before .before .before .before .before .before .before .before .before .args) in let v0 = (c .before .before .before .before .before .before .before .before .before .before .before .before .before .before .words2 .given) in let v1 = (c .before .before .before .before .before .before .before .before .words3 .given) in let v2 = (c .before .before .before .before .before .before .before .before .before .before .before .before .before .before .before .before .before .before .before .before .before .text .given) in let v3 = (c .before .before .before .before .before .before .text2 .given) in let v6 = (c .before .before .before .before .rows .given) in let v4 = (c .before .before .before .before .before .before .before .before .before .before .before .before .before .before .before .before .before .before .before .before .before .before .before .before .loop .inv .0) in let v5 = (c .before .before .before .before .before .before .before .before .before .before .before .before .before .before .before .before .before .before .before .before .before .before .before .before .loop .inv .1) in let v7 = (c .before .before .before .before .before .before .before .before .before .before .before .before .before .before .before .before .before .before .before .before .before .before .before .before .loop .inv .2) in let I = (c .before .before .before .before .before .before .before .before .before .before .before .before .before .before .before .before .before .before .before .before .before .before .before .before .loop .inv .3 .0) in let U = rw (c .before .before .before .before .before .before .before .before .before .before .before .before .before .before .before .before .before .before .next2 .given .1, readable _ _ _ _ (I .room)) at (c .before .before .before .before .before .before .before .before .before .before .before .before .before .before .before .before .before .before .before .before .before .before .text-run .ensures) in let Q = rw (c .before .after .given .1) at (c .before .before .before .before .before .before .before .before .before .parse-formatted-value .ensures) in (search needs, search needs, search needs, goes-further _ _ _ _ _ _ _ _ _ _ _ _ I _ _ _ U _ _ (c .before .before .before .before .before .before .before .before .before .before .before .before .before .before .before .end-text2 .ensures) _ _ _ _ _ (Q .0) _ _ _ (a .fields) _ (c .before .before .before .before .before .before .before .before .before .before .before .before .before .before .before .before .before .before .before .before .before .before .before .before .loop .inv .3 .1) (c .before .before .before .before .before .before .before .before .before .before .before .before .before .before .before .before .before .before .before .before .before .before .before .before .loop .inv .3 .2) (Q .1))))  -- loop-again
+    (λ c. let i0 = (c .before .before .before .before .before .before .before .before .before .before .before .before .before .before .before .before .before .before .before .before .before .before .before .before .before .loop .inv .0) in let i1 = (c .before .before .before .before .before .before .before .before .before .before .before .before .before .before .before .before .before .before .before .before .before .before .before .before .before .loop .inv .1) in let i2 = (c .before .before .before .before .before .before .before .before .before .before .before .before .before .before .before .before .before .before .before .before .before .before .before .before .before .loop .inv .2) in let l0 = (c .before .before .before .before .before .rows .given) in let l1 = (c .before .before .before .before .before .before .before .text2 .given) in let l2 = (c .before .before .before .before .before .before .before .before .before .words3 .given) in let l3 = (c .before .before .before .before .before .before .before .before .before .before .before .before .before .before .before .words2 .given) in let l4 = (c .before .before .before .before .before .before .before .before .before .before .before .before .before .before .before .before .before .before .before .before .before .before .text .given) in search needs)  -- same-length-10
+    (λ c. let i0 = (c .before .before .before .before .before .before .before .before .before .before .before .before .before .before .before .before .before .before .before .before .before .before .before .before .before .loop .inv .0) in let i1 = (c .before .before .before .before .before .before .before .before .before .before .before .before .before .before .before .before .before .before .before .before .before .before .before .before .before .loop .inv .1) in let i2 = (c .before .before .before .before .before .before .before .before .before .before .before .before .before .before .before .before .before .before .before .before .before .before .before .before .before .loop .inv .2) in let l0 = (c .before .before .before .before .before .rows .given) in let l1 = (c .before .before .before .before .before .before .before .text2 .given) in let l2 = (c .before .before .before .before .before .before .before .before .before .words3 .given) in let l3 = (c .before .before .before .before .before .before .before .before .before .before .before .before .before .before .before .words2 .given) in let l4 = (c .before .before .before .before .before .before .before .before .before .before .before .before .before .before .before .before .before .before .before .before .before .before .text .given) in search needs)  -- same-length-11
+    (λ c. let i0 = (c .before .before .before .before .before .before .before .before .before .before .before .before .before .before .before .before .before .before .before .before .before .before .before .before .before .loop .inv .0) in let i1 = (c .before .before .before .before .before .before .before .before .before .before .before .before .before .before .before .before .before .before .before .before .before .before .before .before .before .loop .inv .1) in let i2 = (c .before .before .before .before .before .before .before .before .before .before .before .before .before .before .before .before .before .before .before .before .before .before .before .before .before .loop .inv .2) in let l0 = (c .before .before .before .before .before .rows .given) in let l1 = (c .before .before .before .before .before .before .before .text2 .given) in let l2 = (c .before .before .before .before .before .before .before .before .before .words3 .given) in let l3 = (c .before .before .before .before .before .before .before .before .before .before .before .before .before .before .before .words2 .given) in let l4 = (c .before .before .before .before .before .before .before .before .before .before .before .before .before .before .before .before .before .before .before .before .before .before .text .given) in search needs)  -- same-length-12
+    (λ c. let I = (c .before .before .before .before .before .before .before .before .before .before .before .before .before .before .before .before .before .before .before .before .before .before .before .before .before .loop .inv .3 .0) in let U = rw (c .before .before .before .before .before .before .before .before .before .before .before .before .before .before .before .before .before .before .before .next2 .given .1, readable _ _ _ _ (I .room)) at (c .before .before .before .before .before .before .before .before .before .before .before .before .before .before .before .before .before .before .before .before .before .before .before .text-run .ensures) in let Q = rw (c .before .before .after .given .1) at (c .before .before .before .before .before .before .before .before .before .before .parse-formatted-value .ensures) in ((λ e. absurd (false≢true (sym e ∙ c .if1 .taken))), (λ e m. alone _ _ _ _ _ _ _ _ _ _ _ _ _ _ _ ((c .before .before .before .before .before .before .before .before .before .before .before .before .before .before .before .before .before .before .before .before .before .before .before .before .before .loop .inv .4) e) m _ _ U _ (Q .0))))  -- returns-4
+    (λ c. let I = (c .before .before .before .before .before .before .before .before .before .before .before .before .before .before .before .before .before .before .before .before .before .before .before .before .before .loop .inv .3 .0) in let U = rw (c .before .before .before .before .before .before .before .before .before .before .before .before .before .before .before .before .before .before .before .next2 .given .1, readable _ _ _ _ (I .room)) at (c .before .before .before .before .before .before .before .before .before .before .before .before .before .before .before .before .before .before .before .before .before .before .before .text-run .ensures) in let Q = rw (c .before .before .after .given .1) at (c .before .before .before .before .before .before .before .before .before .before .parse-formatted-value .ensures) in let w = further _ _ _ _ _ _ _ _ _ _ _ _ I _ _ _ U _ _ (c .before .before .before .before .before .before .before .before .before .before .before .before .before .before .before .before .end-text2 .ensures) _ _ _ _ _ (Q .0) in omega (arith, w .0, w .1))  -- loop-less
+    (λ c. let a = (c .before .before .before .before .before .before .before .before .before .before .before .before .before .before .before .before .before .before .before .before .before .before .before .before .before .before .before .before .before .before .before .before .args) in let v0 = (c .before .before .before .before .before .before .before .before .before .before .before .before .before .before .before .words2 .given) in let v1 = (c .before .before .before .before .before .before .before .before .before .words3 .given) in let v2 = (c .before .before .before .before .before .before .before .before .before .before .before .before .before .before .before .before .before .before .before .before .before .before .text .given) in let v3 = (c .before .before .before .before .before .before .before .text2 .given) in let v6 = (c .before .before .before .before .before .rows .given) in let v4 = (c .before .before .before .before .before .before .before .before .before .before .before .before .before .before .before .before .before .before .before .before .before .before .before .before .before .loop .inv .0) in let v5 = (c .before .before .before .before .before .before .before .before .before .before .before .before .before .before .before .before .before .before .before .before .before .before .before .before .before .loop .inv .1) in let v7 = (c .before .before .before .before .before .before .before .before .before .before .before .before .before .before .before .before .before .before .before .before .before .before .before .before .before .loop .inv .2) in let I = (c .before .before .before .before .before .before .before .before .before .before .before .before .before .before .before .before .before .before .before .before .before .before .before .before .before .loop .inv .3 .0) in let U = rw (c .before .before .before .before .before .before .before .before .before .before .before .before .before .before .before .before .before .before .before .next2 .given .1, readable _ _ _ _ (I .room)) at (c .before .before .before .before .before .before .before .before .before .before .before .before .before .before .before .before .before .before .before .before .before .before .before .text-run .ensures) in let Q = rw (c .before .before .after .given .1) at (c .before .before .before .before .before .before .before .before .before .before .parse-formatted-value .ensures) in (search needs, search needs, search needs, goes-further _ _ _ _ _ _ _ _ _ _ _ _ I _ _ _ U _ _ (c .before .before .before .before .before .before .before .before .before .before .before .before .before .before .before .before .end-text2 .ensures) _ _ _ _ _ (Q .0) _ _ _ (a .fields) _ (c .before .before .before .before .before .before .before .before .before .before .before .before .before .before .before .before .before .before .before .before .before .before .before .before .before .loop .inv .3 .1) (c .before .before .before .before .before .before .before .before .before .before .before .before .before .before .before .before .before .before .before .before .before .before .before .before .before .loop .inv .3 .2) (Q .1), λ e. absurd (false≢true (sym (c .if1 .left) ∙ e)))))  -- loop-again
     (λ t. parse-spec-lts.spec (parse-spec-calls t) (parse-spec-at t) parse-spec.Post
     (λ c κs. search needs)  -- read-first-requires
     (λ c κs. search needs)  -- reserve-requires

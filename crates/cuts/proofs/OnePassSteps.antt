@@ -1,0 +1,105 @@
+-- The one passes with the one number of tokens that serves every place of a body: what a proof of code cites. Assumes nothing.
+use mathlib.Core.Path.{_≡_, refl, ap}
+use mathlib.Core.Bool.{Bool, true, false}
+use mathlib.Core.List.{List, []}
+use mathlib.Core.Option.{Option, none, some}
+use Prim.Native.Nat.{ℕ, zero, suc, _+_, _≤_, _<_}
+use native.Mathlib.Omega.{arith}
+use borrow.Author.Tests.{leb-false, le-leb, lt-leb}
+use lib.Dec.{leb}
+use lib.ListN.{length}
+use Rattle.definition.specs.Chars.{atEnd}
+use Rattle.definition_cuts.specs.Tokens.{tokenEnd, withFirst}
+use Rattle.cuts.specs.OnePass.{planLoop, Cursor, inToken, checkLoop, planAt, checkAt}
+use Rattle.definition.proofs.moves.CharLaws.{cases}
+use Rattle.definition_cuts.proofs.tokens.TokenMarks.{token-on}
+
+-- THE PLAN at a boundary i, in a piece that began at `start`
+plan-fuel : (s : List ℕ) (limit n m start i : ℕ) → i ≤ length s → length s < i + n → length s < i + m → planLoop n s limit start i ≡ planLoop m s limit start i
+unfolding planLoop
+plan-fuel s limit zero m start i l a b = absurd (omega arith)
+plan-fuel s limit (suc n) zero start i l a b = absurd (omega arith)
+plan-fuel s limit (suc n) (suc m) start i l a b = go (atEnd s i) refl (tokenEnd s i) refl (λ start j. plan-fuel s limit n m start j)
+  where
+    IH : Type 0
+    IH = (start j : ℕ) → j ≤ length s → length s < j + n → length s < j + m → planLoop n s limit start j ≡ planLoop m s limit start j
+
+    go : (x : Bool) → atEnd s i ≡ x → (o : Option ℕ) → tokenEnd s i ≡ o → IH → planLoop (suc n) s limit start i ≡ planLoop (suc m) s limit start i
+    go true x o q ih = rw (x, planLoop) refl
+    go false x none q ih = rw (x, q, planLoop) refl
+    go false x (some j) q ih =
+        let O = token-on s i j (leb-false (length s) i x) q in
+        cases (leb j (start + limit)) (λ t. rw (x, q, t, planLoop) (ih start j (O .3) (omega (arith, O .2)) (omega (arith, O .2)))) (λ t.
+        cases (leb j (i + limit)) (λ u. rw (x, q, t, u, planLoop) (ap (withFirst i) (ih i j (O .3) (omega (arith, O .2)) (omega (arith, O .2))))) (λ u. rw (x, q, t, u, planLoop) refl))
+
+module _ (s : List ℕ) (limit start i : ℕ) where
+  pub plan-end : length s ≤ i → planAt s limit start i ≡ some []
+  unfolding planLoop
+  plan-end h = rw (le-leb (length s) i h, planLoop) refl
+
+  module _ (h : i < length s) where
+    pub plan-refused : tokenEnd s i ≡ none → planAt s limit start i ≡ none
+    unfolding planLoop
+    plan-refused e = rw (lt-leb (length s) i h, e, planLoop) refl
+
+    module _ (j : ℕ) (e : tokenEnd s i ≡ some j) where
+      -- the token still fits into the piece
+      pub plan-on : j ≤ start + limit → planAt s limit start i ≡ planAt s limit start j
+      unfolding planLoop
+      plan-on k =
+          let O = token-on s i j h e in
+          rw (lt-leb (length s) i h, e, le-leb j (start + limit) k, planLoop) (plan-fuel s limit (length s) (suc (length s)) start j (O .3) (omega (arith, O .2)) (omega (arith, O .2)))
+
+      -- it does not: a cut before it
+      pub plan-cut : start + limit < j → j ≤ i + limit → planAt s limit start i ≡ withFirst i (planAt s limit i j)
+      unfolding planLoop
+      plan-cut k g =
+          let O = token-on s i j h e in
+          rw (lt-leb (length s) i h, e, lt-leb j (start + limit) k, le-leb j (i + limit) g, planLoop) (ap (withFirst i) (plan-fuel s limit (length s) (suc (length s)) i j (O .3) (omega (arith, O .2)) (omega (arith, O .2))))
+
+      -- it fits into no piece
+      pub plan-none : start + limit < j → i + limit < j → planAt s limit start i ≡ none
+      unfolding planLoop
+      plan-none k g = rw (lt-leb (length s) i h, e, lt-leb j (start + limit) k, lt-leb j (i + limit) g, planLoop) refl
+
+-- THE CHECK at a boundary i, with the cuts that are left
+check-fuel : (s : List ℕ) (n m i : ℕ) (cs : List ℕ) (d : Bool) → i ≤ length s → length s < i + n → length s < i + m → checkLoop n s i cs d ≡ checkLoop m s i cs d
+unfolding checkLoop
+check-fuel s zero m i cs d l a b = absurd (omega arith)
+check-fuel s (suc n) zero i cs d l a b = absurd (omega arith)
+check-fuel s (suc n) (suc m) i cs d l a b = go (atEnd s i) refl (tokenEnd s i) refl (λ j cs d. check-fuel s n m j cs d)
+  where
+    IH : Type 0
+    IH = (j : ℕ) (cs : List ℕ) (d : Bool) → j ≤ length s → length s < j + n → length s < j + m → checkLoop n s j cs d ≡ checkLoop m s j cs d
+
+    inner : (j : ℕ) → i < j → j ≤ length s → (o : Option Cursor) → inToken s i j cs d ≡ o → atEnd s i ≡ false → tokenEnd s i ≡ some j → IH → checkLoop (suc n) s i cs d ≡ checkLoop (suc m) s i cs d
+    inner j g k none w x q ih = rw (x, q, w, checkLoop) refl
+    inner j g k (some c) w x q ih = rw (x, q, w, checkLoop) (ih j (c .left) (c .differs) k (omega arith) (omega arith))
+
+    go : (x : Bool) → atEnd s i ≡ x → (o : Option ℕ) → tokenEnd s i ≡ o → IH → checkLoop (suc n) s i cs d ≡ checkLoop (suc m) s i cs d
+    go true x o q ih = rw (x, checkLoop) refl
+    go false x none q ih = rw (x, q, checkLoop) refl
+    go false x (some j) q ih = let O = token-on s i j (leb-false (length s) i x) q in inner j (O .2) (O .3) (inToken s i j cs d) refl x q ih
+
+module _ (s : List ℕ) (i : ℕ) (cs : List ℕ) (d : Bool) where
+  pub check-end : length s ≤ i → checkAt s i cs d ≡ some d
+  unfolding checkLoop
+  check-end h = rw (le-leb (length s) i h, checkLoop) refl
+
+  module _ (h : i < length s) where
+    pub check-refused : tokenEnd s i ≡ none → checkAt s i cs d ≡ none
+    unfolding checkLoop
+    check-refused e = rw (lt-leb (length s) i h, e, checkLoop) refl
+
+    module _ (j : ℕ) (e : tokenEnd s i ≡ some j) where
+      -- a cut within the token
+      pub check-within : inToken s i j cs d ≡ none → checkAt s i cs d ≡ none
+      unfolding checkLoop
+      check-within w = rw (lt-leb (length s) i h, e, w, checkLoop) refl
+
+      -- none: on with those that are left
+      pub check-on : (k : Cursor) → inToken s i j cs d ≡ some k → checkAt s i cs d ≡ checkAt s j (k .left) (k .differs)
+      unfolding checkLoop
+      check-on k w =
+          let O = token-on s i j h e in
+          rw (lt-leb (length s) i h, e, w, checkLoop) (check-fuel s (length s) (suc (length s)) j (k .left) (k .differs) (O .3) (omega (arith, O .2)) (omega (arith, O .2)))

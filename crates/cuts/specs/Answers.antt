@@ -1,0 +1,42 @@
+-- What the planner, the pass over a token and the check answer.
+use Prim.Native.Nat.{ℕ, _≤_}
+use mathlib.Core.Path.{_≡_}
+use mathlib.Core.Bool.{Bool}
+use mathlib.Core.List.{List, [], _∷_, _++_}
+use mathlib.Core.Option.{Option, none, some}
+use lib.ListN.{length, drop, replicate}
+use Rattle.definition.specs.Numbers.{tooLittleCutRoom}
+use Rattle.definition_cuts.specs.Plan.{PlanCall, planNumbers}
+use Rattle.cuts.specs.OnePass.{Cursor}
+use Rattle.buffers.specs.Over.{over}
+use Rattle.cuts.specs.declared.Passing.{Passing}
+use Rattle.cuts.specs.declared.Passing.the-variants.{At, Inside}
+use Rattle.cuts.specs.declared.Verdict.{Verdict}
+use Rattle.cuts.specs.declared.Verdict.the-variants.{Passed, Refused as Not}
+use Rattle.cuts.specs.declared.Planned.{Planned}
+use Rattle.cuts.specs.declared.Planned.the-variants as planned
+use Rattle.cuts.specs.declared.Made.{Made}
+use Rattle.cuts.specs.declared.Made.the-variants.{Cuts, Nothing}
+
+-- a planner's call: its numbers, and the list afterwards
+abbrev pub says : Planned → List ℕ
+says (planned.Cuts n) = 0 ∷ 1 ∷ n ∷ []
+says planned.Nothing = 0 ∷ 0 ∷ []
+says (planned.Short n) = tooLittleCutRoom ∷ replicate 8 0 ++ (n ∷ [])
+
+abbrev pub PlannedIs : PlanCall → List ℕ → Planned → Type 0
+PlannedIs call list′ r = (says r ≡ planNumbers (call .result)) × (list′ ≡ call .list)
+
+-- a plan, and the list before and after
+abbrev pub PlanIs : Option (List ℕ) → List ℕ → List ℕ → Made → Type 0
+PlanIs o list list′ Nothing = (o ≡ none) × (length list′ ≡ length list)
+PlanIs o list list′ (Cuts n) = (cs : List ℕ) × (o ≡ some cs) × (n ≡ length cs) × (list′ ≡ over list 0 cs)
+
+-- the cursor over the cuts after a token, from number `from` on
+abbrev pub PassIs : Option Cursor → List ℕ → (from : ℕ) → Passing → Type 0
+PassIs o cuts from Inside = o ≡ none
+PassIs o cuts from (At k d) = (o ≡ some (record { left = drop k cuts; differs = d })) × (from ≤ k) × (k ≤ length cuts)
+
+abbrev pub VerdictIs : Option Bool → Verdict → Type 0
+VerdictIs o Not = o ≡ none
+VerdictIs o (Passed d) = o ≡ some d

@@ -1,0 +1,382 @@
+// Long templates broken over lines: the check of cut offsets in a body of kind 1, and the planner.
+use buffers::fill_words;
+use buffers::put_word;
+use plain::plain_end;
+use tokens::Token;
+use tokens::token_end;
+ghost use mathlib.Core.Path.{_≡_};
+ghost use mathlib.Core.Bool.{true, false};
+ghost use Prim.Native.Nat.{_≤_, _<_};
+ghost use lib.Dec.{leb};
+ghost use lib.ListN.{length, drop};
+ghost use Rattle.definition.specs.Chars.{wellFormed};
+ghost use Rattle.definition.specs.Escapes.{heldNames};
+ghost use Rattle.definition.specs.Reading.{readAlone};
+ghost use Rattle.definition_cuts.specs.Cuts.{rise, pieces, allShort, allRead, isRead, checked};
+ghost use Rattle.definition_cuts.specs.Standing.{octalAt};
+ghost use Rattle.definition_cuts.specs.Plan.{planInto};
+ghost use Rattle.cuts.specs.OnePass.{planAt, inToken, checkAt};
+ghost use Rattle.cuts.specs.Answers.{PlanIs, PassIs, VerdictIs, PlannedIs};
+
+const LARGEST_BODY: usize = 1048576;
+
+const WRONG_OFFSETS: u32 = 64;
+
+const PIECE_TOO_LONG: u32 = 65;
+
+const PIECE_REFUSED: u32 = 66;
+
+const READINGS_DIFFER: u32 = 67;
+
+// The kind of bytes: what is plain there is plain ASCII, of which each byte is a token.
+const BYTES: u32 = 2;
+
+// How many cuts a plan has; or there is none.
+enum Made {
+    Cuts(usize),
+    Nothing,
+}
+
+// The plan's cuts, written from the front of a list as far as there is room.
+fn plan_into(s: &[u8], limit: u32, list: &mut [u32]) -> Made
+    requires { ⌜ length (now s) ≤ 1048576 ⌝ }
+    ensures { λ r. ⌜ PlanIs (planAt (now (s .entry)) limit 0 0) (now (list .entry)) (now (list .exit)) r ⌝ }
+{
+    let room = limit as usize;
+    let mut start = 0;
+    let mut i = 0;
+    let mut n = 0;
+    let mut plain = 0;
+    while i < s.len() {
+        let end = start + room;
+        if i < plain {
+            if plain <= end {
+                i = plain;
+                continue;
+            }
+            if room == 0 {
+                return Made::Nothing;
+            }
+            put_word(list, n, end as u32);
+            n += 1;
+            start = end;
+            i = end + 1;
+            continue;
+        }
+        let run = plain_end(s, i, BYTES);
+        if i < run {
+            plain = run;
+            continue;
+        }
+        let t = token_end(s, i);
+        match t {
+            Token::TooLong => {
+                return Made::Nothing;
+            }
+            Token::Refused => {
+                return Made::Nothing;
+            }
+            Token::Ends(j) => {
+                if j <= end {
+                    i = j;
+                    continue;
+                }
+                if i + room < j {
+                    return Made::Nothing;
+                }
+                put_word(list, n, i as u32);
+                n += 1;
+                start = i;
+                i = j;
+                continue;
+            }
+        }
+    }
+    Made::Cuts(n)
+}
+
+// Whether an octal escape stands at an index.
+fn octal_at(s: &[u8], at: usize) -> bool
+    requires { ⌜ at < length (now s) ⌝ }
+    ensures { λ r. ⌜ r ≡ octalAt (now (s .entry)) at ⌝ }
+{
+    if s[at] != 0x5C {
+        return false;
+    }
+    let past = at + 1;
+    if s.len() <= past {
+        return false;
+    }
+    let b = s[past];
+    if b < 0x30 {
+        return false;
+    }
+    if b < 0x38 {
+        return true;
+    }
+    false
+}
+
+fn wide(x: u32) -> usize
+    ensures { λ r. ⌜ r ≡ x ⌝ }
+{
+    x as usize
+}
+
+// The cut after those of a token, and whether one stood among octal digits; or one stands within the token.
+enum Passing {
+    At(usize, bool),
+    Inside,
+}
+
+fn pass_token(s: &[u8], i: usize, j: usize, cuts: &[u32], from: usize, flag: bool) -> Passing
+    requires { ⌜ (i < length (now s)) × (length (now s) ≤ 1048576) × (from ≤ length (now cuts)) ⌝ }
+    ensures { λ r. ⌜ PassIs (inToken (now (s .entry)) i j (drop from (now (cuts .entry))) flag) (now (cuts .entry)) from r ⌝ }
+{
+    let octal = octal_at(s, i);
+    let mut k = from;
+    let mut differs = flag;
+    while k < cuts.len() {
+        let c = wide(cuts[k]);
+        if j <= c {
+            return Passing::At(k, differs);
+        }
+        if c == i {
+            k += 1;
+            continue;
+        }
+        if octal {
+            if c < i + 2 {
+                return Passing::Inside;
+            }
+            differs = true;
+            k += 1;
+            continue;
+        }
+        return Passing::Inside;
+    }
+    Passing::At(k, differs)
+}
+
+// Whether one of the cuts stood among octal digits; or one stands within a token, or a token is refused.
+enum Verdict {
+    Passed(bool),
+    Refused,
+}
+
+fn check_cuts(s: &[u8], cuts: &[u32]) -> Verdict
+    requires { ⌜ length (now s) ≤ 1048576 ⌝ }
+    ensures { λ r. ⌜ VerdictIs (checkAt (now (s .entry)) 0 (now (cuts .entry)) false) r ⌝ }
+{
+    let mut i = 0;
+    let mut k = 0;
+    let mut differs = false;
+    let mut plain = 0;
+    while i < s.len() {
+        if i < plain {
+            if cuts.len() <= k {
+                i = plain;
+                continue;
+            }
+            let c = wide(cuts[k]);
+            if plain <= c {
+                i = plain;
+                continue;
+            }
+            if c < i {
+                return Verdict::Refused;
+            }
+            i = c;
+            k += 1;
+            continue;
+        }
+        let run = plain_end(s, i, BYTES);
+        if i < run {
+            plain = run;
+            continue;
+        }
+        let t = token_end(s, i);
+        match t {
+            Token::TooLong => {
+                return Verdict::Refused;
+            }
+            Token::Refused => {
+                return Verdict::Refused;
+            }
+            Token::Ends(j) => {
+                let p = pass_token(s, i, j, cuts, k, differs);
+                match p {
+                    Passing::Inside => {
+                        return Verdict::Refused;
+                    }
+                    Passing::At(next, d) => {
+                        k = next;
+                        differs = d;
+                        i = j;
+                        continue;
+                    }
+                }
+            }
+        }
+    }
+    Verdict::Passed(differs)
+}
+
+// Whether the offsets rise strictly inside a body.
+fn rises(s: &[u8], cuts: &[u32]) -> bool
+    ensures { λ r. ⌜ r ≡ rise (length (now (s .entry))) 0 (now (cuts .entry)) ⌝ }
+{
+    let mut from = 0;
+    let mut k = 0;
+    while k < cuts.len() {
+        let c = wide(cuts[k]);
+        if c <= from {
+            return false;
+        }
+        if s.len() <= c {
+            return false;
+        }
+        from = c;
+        k += 1;
+    }
+    true
+}
+
+// Whether each piece has at most so many bytes.
+fn all_short(s: &[u8], limit: u32, cuts: &[u32]) -> bool
+    requires { ⌜ rise (length (now s)) 0 (now cuts) ≡ true ⌝ }
+    ensures { λ r. ⌜ r ≡ allShort limit (pieces (now (s .entry)) 0 (now (cuts .entry))) ⌝ }
+{
+    let most = wide(limit);
+    let mut from = 0;
+    let mut k = 0;
+    while k < cuts.len() {
+        let c = wide(cuts[k]);
+        if most < c - from {
+            return false;
+        }
+        from = c;
+        k += 1;
+    }
+    s.len() - from <= most
+}
+
+// Whether a body is well-formed.
+fn is_formed(s: &[u8]) -> bool
+    ensures { λ r. ⌜ r ≡ leb (length (now (s .entry))) (wellFormed (now (s .entry))) ⌝ }
+{
+    let prefix = utf8::well_formed(s);
+    s.len() <= prefix.len
+}
+
+// Whether a piece is read alone.
+fn reads(s: &[u8]) -> bool
+    ensures { λ r. ⌜ r ≡ isRead (readAlone heldNames (now (s .entry))) ⌝ }
+{
+    if LARGEST_BODY < s.len() {
+        return false;
+    }
+    if is_formed(s) {
+        let none = [0u32; 0];
+        match check_cuts(s, &none) {
+            Verdict::Refused => false,
+            Verdict::Passed(_) => true,
+        }
+    } else {
+        false
+    }
+}
+
+// Whether each piece is read alone.
+fn all_read(s: &[u8], cuts: &[u32]) -> bool
+    requires { ⌜ rise (length (now s)) 0 (now cuts) ≡ true ⌝ }
+    ensures { λ r. ⌜ r ≡ allRead (pieces (now (s .entry)) 0 (now (cuts .entry))) ⌝ }
+{
+    let mut from = 0;
+    let mut k = 0;
+    while k < cuts.len() {
+        let c = wide(cuts[k]);
+        if reads(&s[from..c]) {
+            from = c;
+            k += 1;
+            continue;
+        }
+        return false;
+    }
+    reads(&s[from..s.len()])
+}
+
+// The check of a body that is not over the size limit.
+fn check_short(s: &[u8], limit: u32, cuts: &[u32]) -> u32
+    requires { ⌜ (length (now s) ≤ 1048576) × (rise (length (now s)) 0 (now cuts) ≡ true) × (allShort limit (pieces (now s) 0 (now cuts)) ≡ true) ⌝ }
+    ensures { λ r. ⌜ r ≡ checked (now (s .entry)) limit (now (cuts .entry)) ⌝ }
+{
+    if is_formed(s) {
+        match check_cuts(s, cuts) {
+            Verdict::Refused => PIECE_REFUSED,
+            Verdict::Passed(differs) => {
+                if differs {
+                    return READINGS_DIFFER;
+                }
+                0
+            }
+        }
+    } else {
+        PIECE_REFUSED
+    }
+}
+
+// The check of cut offsets in a body of kind 1: 0, or its first refusal. Over the size limit each piece is read alone.
+pub fn check(s: &[u8], limit: u32, cuts: &[u32]) -> u32
+    ensures { λ r. ⌜ r ≡ checked (now (s .entry)) limit (now (cuts .entry)) ⌝ }
+{
+    if rises(s, cuts) {
+        if all_short(s, limit, cuts) {
+            if s.len() <= LARGEST_BODY {
+                return check_short(s, limit, cuts);
+            }
+            if all_read(s, cuts) {
+                return READINGS_DIFFER;
+            }
+            return PIECE_REFUSED;
+        }
+        return PIECE_TOO_LONG;
+    }
+    WRONG_OFFSETS
+}
+
+// A plan: how many cuts it has; there is none; or the list is short, and how many there are.
+pub enum Planned {
+    Cuts(u32),
+    Nothing,
+    Short(u32),
+}
+
+// The plan of cuts for a body of kind 1, written from the front of a list; zeros throughout if there is none, or too little room.
+pub fn plan(s: &[u8], limit: u32, list: &mut [u32]) -> Planned
+    ensures { λ r. ⌜ PlannedIs (planInto (now (s .entry)) limit (now (list .entry))) (now (list .exit)) r ⌝ }
+{
+    if LARGEST_BODY < s.len() {
+        fill_words(list, 0);
+        return Planned::Nothing;
+    }
+    if is_formed(s) {
+        match plan_into(s, limit, list) {
+            Made::Nothing => {
+                fill_words(list, 0);
+                Planned::Nothing
+            }
+            Made::Cuts(n) => {
+                let count = n as u32;
+                if list.len() < n {
+                    fill_words(list, 0);
+                    return Planned::Short(count);
+                }
+                Planned::Cuts(count)
+            }
+        }
+    } else {
+        fill_words(list, 0);
+        Planned::Nothing
+    }
+}
