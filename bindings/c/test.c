@@ -1356,6 +1356,106 @@ static void edits_and_refuses_to_write(void)
     write_refused(STUMPGARRET_NOT_READ_BACK, 0, 0);
 }
 
+enum { CUTS = 8 };
+
+static uint32_t cuts[CUTS];
+
+static void checks_cuts(void)
+{
+    static const struct {
+        const char *body;
+        uint32_t limit, count, offsets[3], number;
+    } rows[] = {
+        {"abcd", 2, 1, {2}, STUMPGARRET_ACCEPTED},
+        {"abcd", 4, 0, {0}, STUMPGARRET_ACCEPTED},
+        {"", 0, 0, {0}, STUMPGARRET_ACCEPTED},
+        {"{x}a{y}", 4, 1, {3}, STUMPGARRET_ACCEPTED},
+        {"{{{x}", 3, 1, {2}, STUMPGARRET_ACCEPTED},
+        {"abcd", 9, 1, {0}, STUMPGARRET_WRONG_OFFSETS},
+        {"abcd", 9, 1, {4}, STUMPGARRET_WRONG_OFFSETS},
+        {"abcd", 9, 2, {2, 2}, STUMPGARRET_WRONG_OFFSETS},
+        {"ab}", 1, 2, {2, 1}, STUMPGARRET_WRONG_OFFSETS},
+        {"abcd", 3, 0, {0}, STUMPGARRET_PIECE_TOO_LONG},
+        {"abcd", 1, 2, {1, 2}, STUMPGARRET_PIECE_TOO_LONG},
+        {"ab}", 1, 1, {1}, STUMPGARRET_PIECE_TOO_LONG},
+        {"ab}", 2, 1, {1}, STUMPGARRET_PIECE_REFUSED},
+        {"{{", 9, 1, {1}, STUMPGARRET_PIECE_REFUSED},
+        {"{x:a}", 9, 1, {4}, STUMPGARRET_PIECE_REFUSED},
+        {"\xc3\xa9", 9, 1, {1}, STUMPGARRET_PIECE_REFUSED},
+        {"\\101", 9, 1, {2}, STUMPGARRET_READINGS_DIFFER},
+        {"\\101", 9, 2, {2, 3}, STUMPGARRET_READINGS_DIFFER},
+        {"\\101}", 9, 1, {2}, STUMPGARRET_PIECE_REFUSED},
+    };
+    for (size_t i = 0; i < COUNT(rows); i++) {
+        memset(answer, FILL, sizeof answer);
+        stumpgarret_cuts_check((const uint8_t *)rows[i].body, strlen(rows[i].body), rows[i].limit,
+                               rows[i].offsets, rows[i].count, answer);
+        numbers_are("answer", answer, &rows[i].number, 1);
+        filled("byte of the answer", answer, sizeof *answer, sizeof answer, 0);
+    }
+}
+
+/* Plans with room for so many cuts, all filled before: the numbers, and zeros up to twelve; and the
+   cuts in front and nothing else changed, or zeros in what was lent. */
+static void plan_is(const char *body, uint32_t limit, size_t room, const uint32_t *numbers,
+                    size_t count, const uint32_t *offsets)
+{
+    memset(cuts, FILL, sizeof cuts);
+    memset(answer, FILL, sizeof answer);
+    stumpgarret_cuts_plan((const uint8_t *)body, strlen(body), limit, cuts, room, answer);
+    numbers_are("answer", answer, numbers, count);
+    filled("byte of the answer", answer, count * sizeof *answer, sizeof answer, 0);
+    size_t kept = 0;
+    if (numbers[0] == STUMPGARRET_ACCEPTED && numbers[STUMPGARRET_PLAN_EXISTS]) {
+        kept = numbers[STUMPGARRET_PLAN_CUTS];
+        numbers_are("cut", cuts, offsets, kept);
+    } else {
+        kept = room;
+        filled("byte of the cuts", cuts, 0, room * sizeof *cuts, 0);
+    }
+    filled("byte of the cuts", cuts, kept * sizeof *cuts, sizeof cuts, FILL);
+}
+
+static void plans_cuts(void)
+{
+    static const struct {
+        const char *body;
+        uint32_t limit, count, offsets[3];
+    } rows[] = {
+        {"abcd", 4, 0, {0}},
+        {"abcd", 3, 1, {3}},
+        {"abcd", 1, 3, {1, 2, 3}},
+        {"", 0, 0, {0}},
+        {"ab{x}", 3, 1, {2}},
+        {"a{{b", 2, 2, {1, 3}},
+        {"\\101\\1", 5, 1, {4}},
+        {"a\\{{", 3, 1, {1}},
+        {"\xc3\xa9\xc3\xa9", 3, 1, {2}},
+    };
+    for (size_t i = 0; i < COUNT(rows); i++) {
+        const uint32_t numbers[] = {STUMPGARRET_ACCEPTED, 1, rows[i].count};
+        for (size_t room = rows[i].count; room <= CUTS; room++)
+            plan_is(rows[i].body, rows[i].limit, room, numbers, COUNT(numbers), rows[i].offsets);
+        const uint32_t short_of[] = {
+            STUMPGARRET_TOO_LITTLE_CUT_ROOM, 0, 0, 0, 0, 0, 0, 0, 0, rows[i].count,
+        };
+        for (size_t room = 0; room < rows[i].count; room++)
+            plan_is(rows[i].body, rows[i].limit, room, short_of, COUNT(short_of), cuts);
+        memset(answer, FILL, sizeof answer);
+        stumpgarret_cuts_check((const uint8_t *)rows[i].body, strlen(rows[i].body), rows[i].limit,
+                               rows[i].offsets, rows[i].count, answer);
+        numbers_are("answer", answer, numbers, 1);
+    }
+    static const uint32_t none[] = {STUMPGARRET_ACCEPTED, 0};
+    static const struct {
+        const char *body;
+        uint32_t limit;
+    } without[] = {{"abcd", 0}, {"ab{x}", 2}, {"a\\}}", 2}, {"}", 9}, {"a\xff", 9}};
+    for (size_t i = 0; i < COUNT(without); i++)
+        for (size_t room = 0; room <= CUTS; room++)
+            plan_is(without[i].body, without[i].limit, room, none, COUNT(none), cuts);
+}
+
 int main(void)
 {
     reads_two();
@@ -1385,6 +1485,8 @@ int main(void)
     compares();
     writes();
     edits_and_refuses_to_write();
+    checks_cuts();
+    plans_cuts();
     printf("bindings/c: %d checks passed\n", checks);
     return 0;
 }

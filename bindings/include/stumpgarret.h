@@ -2,7 +2,8 @@
    texts, formatted fields, format specs; tells where the signs of each field stand; lists the
    literals of a script from an offset on; takes the names of characters from a file that is lent;
    reads format specs; replays recorded readings through a template; compares two revisions of such a
-   run; and writes the body of an f-string back from its records.
+   run; writes the body of an f-string back from its records; and plans and checks where a long
+   template may be broken over lines.
    For C99 and C++11 on x86-64 Linux:
 
        cc -I bindings/include program.c target/staticlib/libstumpgarret.a
@@ -190,6 +191,13 @@ enum stumpgarret_refusal {
     STUMPGARRET_WRONG_INDEX = 63,       /* the lent index is not the file's; or the file has 2^32 bytes
                                            or more */
 
+    /* Of stumpgarret_cuts_check, each over the whole list before the next, with all else of the answer 0. */
+    STUMPGARRET_WRONG_OFFSETS = 64,     /* they do not rise strictly inside the body */
+    STUMPGARRET_PIECE_TOO_LONG = 65,
+    STUMPGARRET_PIECE_REFUSED = 66,     /* stumpgarret_read refuses a piece */
+    STUMPGARRET_READINGS_DIFFER = 67,   /* the pieces joined do not read as the body does, or the body
+                                           is refused */
+
     /* Of stumpgarret_replay, and 68 of stumpgarret_spec too, with no literal, no place, no details and
        no characters; see STUMPGARRET_REPLAY_TOLD. The template comes before the trace: its first field
        that is refused, for 68 before 69. Then the first row that is refused, for 70 before 71 before
@@ -202,6 +210,9 @@ enum stumpgarret_refusal {
     STUMPGARRET_WRONG_COLUMNS = 71,     /* not as many columns as the template has fields */
     STUMPGARRET_OUT_OF_RANGE = 72,      /* a number below -2,147,483,648 or above 2,147,483,647 */
     STUMPGARRET_TOO_LITTLE_LINE_ROOM = 73,
+
+    /* Of stumpgarret_cuts_plan, only where there is a plan; see STUMPGARRET_PLAN_NEEDED. */
+    STUMPGARRET_TOO_LITTLE_CUT_ROOM = 74,
 
     /* Of stumpgarret_fields: 49, and 53, see STUMPGARRET_FIELDS_NEEDED; 6, 10 to 28, 50 and 51 as rows,
        and as a row only: */
@@ -587,6 +598,50 @@ void stumpgarret_write(const uint32_t *words, size_t words_length,
                        const uint32_t reading[STUMPGARRET_ANSWER_NUMBERS],
                        uint8_t *body, size_t body_length,
                        uint32_t answer[STUMPGARRET_ANSWER_NUMBERS]);
+
+/* A long template over several lines: its body, of kind f'..', is cut at offsets, and the pieces stand
+   as adjacent literals. Offsets and lengths count bytes of the body, without prefix and quotes; the
+   first piece begins at 0, each cut begins the next, and the last ends with the body. No cuts make one
+   piece. A piece is read alone as stumpgarret_read reads an f-string with room, with the fourteen
+   names. The pieces' answers are joined: literals that touch become one.
+
+   Checks cuts: they rise strictly inside the body (0 < first < .. < last < body_length), each piece has
+   at most `limit` bytes, each is read without refusal, and the pieces joined have the kinds, texts,
+   conversions and parts of the body's own records. Refusals: 64 to 67, in this order. `answer` always
+   gets twelve numbers, of which all but the first are 0, and nothing else is written.
+
+   Quotes are not looked at: no reading does. Whoever puts a piece between quotes sees that it has none
+   of them, as the body has none.
+
+   The caller sees to the same as for stumpgarret_read; `body` and `offsets` may overlap. Any bytes,
+   numbers and lengths get an answer. Time grows with the bytes of the body and the cuts. */
+void stumpgarret_cuts_check(const uint8_t *body, size_t body_length,
+                            uint32_t limit,
+                            const uint32_t *offsets, size_t offsets_length,
+                            uint32_t answer[STUMPGARRET_ANSWER_NUMBERS]);
+
+/* The answer of stumpgarret_cuts_plan. */
+enum stumpgarret_plan_answer {
+    STUMPGARRET_PLAN_EXISTS = 1,  /* 1 if there is a plan, 0 if no cuts pass the check */
+    STUMPGARRET_PLAN_CUTS,        /* how many cuts it has */
+
+    STUMPGARRET_PLAN_NEEDED = 9   /* of 74: how many cuts it has */
+};
+
+/* Plans cuts: a list that passes the check, with no cut where the rest needs none, and else each in
+   turn as late as a list that passes allows. There is one such list, or none passes at all; that is no
+   refusal. A plan has fewer cuts than the body has bytes.
+
+   Refusal: 74, if `offsets` has room for fewer numbers than there are cuts, and only where there is a
+   plan. With a plan its cuts stand in front in `offsets`, and what follows them is unchanged. Without
+   one, and after 74, every one of `offsets` is 0. `answer` always gets twelve numbers.
+
+   The caller sees to the same as for stumpgarret_read: `offsets` and `answer` overlap nothing else that
+   is passed. Any bytes, numbers and lengths get an answer. */
+void stumpgarret_cuts_plan(const uint8_t *body, size_t body_length,
+                           uint32_t limit,
+                           uint32_t *offsets, size_t offsets_length,
+                           uint32_t answer[STUMPGARRET_ANSWER_NUMBERS]);
 
 #ifdef __cplusplus
 }

@@ -18,11 +18,12 @@ What people call:
     replay(script, literals, trace) the rows of a recorded trace in the fields of a template, a line for each
     compare(first, second)          where two answers of `read` differ: what is equal in front and behind, and what lies between
     Template.of(answer)             the parts of an f-string, to be changed and written back
+    plan_cuts(body, limit)          where a long template may be broken over lines; check_cuts(body, limit, cuts) checks it
 
 The library's calls behind them: `rows`, every row of a whole script by places; `read`, one run of literals; `literals`, the
 adjacent literals of a script from an offset on.
 
-At a shell: `python3 stumpgarret.py --help`, and `--help` behind the words replay and compare, say what is printed, and what
+At a shell: `python3 stumpgarret.py --help`, and `--help` behind the words replay, compare and wrap, say what is printed, and what
 the exit status means. Any Python from 3.7 on will do.
 
 The shared library is the one that the variable STUMPGARRET_LIBRARY names, else libstumpgarret.so beside this file,
@@ -58,6 +59,8 @@ __all__ = [
     "literals",
     "replay",
     "compare",
+    "plan_cuts",
+    "check_cuts",
     "text_of",
     "positions",
     "Names",
@@ -322,6 +325,10 @@ REFUSALS = {
     61: ("name twice", "a name stands twice in the file of names"),
     62: ("index buffer too short", "the index has no room, or the file of names has 2^32 bytes or more"),
     63: ("wrong index", "the index is not that of the file of names, or the file has 2^32 bytes or more"),
+    64: ("wrong offsets", "the cuts do not rise strictly inside the body"),
+    65: ("piece too long", "a piece between cuts is longer than the limit"),
+    66: ("piece refused", "a piece between cuts is refused by itself"),
+    67: ("readings differ", "the pieces joined do not read as the body does, or the body is refused"),
     68: ("spec not of the grammar", "the spec is not of the format specification mini-language"),
     69: (
         "spec or field outside the set",
@@ -332,6 +339,7 @@ REFUSALS = {
     71: ("column count", "the row has not as many columns as the template has fields"),
     72: ("number out of range", "a number is below -2,147,483,648 or above 2,147,483,647"),
     73: ("output buffer too short", "the lines need {told} bytes"),
+    74: ("cut list too short", "the plan has {told} cuts"),
     75: (
         "read otherwise by Python",
         "Python reads this field otherwise or not at all, by {cause}",
@@ -347,6 +355,7 @@ OF_A_COMPARISON = range(57, 60)
 OF_NAMES = range(60, 64)
 OF_A_WRITING = range(54, 57)
 NO_LINE_ROOM = 73
+OF_CUTS = *range(64, 68), 74
 OF_A_REPLAY = range(68, 74)
 # What a refusal of a replay tells beside its number.
 TELLS = {68: "field", 69: "field", 70: "row", 71: "row", 72: "row"}
@@ -368,7 +377,7 @@ UNCLOSED = {
 
 
 class Refusal(Exception):
-    """The library refused a run, a file of names, a trace, or a comparison: a number of `REFUSALS` and its name, the index of the literal
+    """The library refused a run, a file of names, a trace, cuts, or a comparison: a number of `REFUSALS` and its name, the index of the literal
     from 0, the place, two details, the place's line and column in the literal's body, both from 0, the place just after
     the bracket that is closed by another, how many characters were read, and what is told of a replay: the field or the
     row, from 0, or the bytes that are needed. What has no literal, place, details, line, column, bracket, characters or
@@ -409,7 +418,7 @@ class Refusal(Exception):
         return line + self.line, self.column + (1 if self.line else column)
 
     def __str__(self) -> str:
-        if self.number in OF_NAMES or self.number in OF_A_COMPARISON or self.number in OF_A_WRITING:
+        if any(self.number in numbers for numbers in (OF_NAMES, OF_A_COMPARISON, OF_A_WRITING, OF_CUTS)):
             return f"refused: {self.meaning}"
         if self.number in OF_A_REPLAY:
             at = f" at {TELLS[self.number]} {self.told}" if self.number in TELLS else ""
@@ -774,6 +783,40 @@ def _fits(quotes: str, body: str) -> bool:
         return False
 
 
+def plan_cuts(body: bytes | str, limit: int) -> list[int] | None:
+    """Where the body of an f'..' is cut, so that its pieces, of at most so many bytes each, stand as adjacent literals and
+    read as it does: offsets in bytes, or None if no cuts do that. A str stands for its UTF-8 bytes.
+
+    The list passes `check_cuts`. It has no cut where the rest needs none, and else each in turn as late as a list that
+    passes allows; no other list has both. Bytes count without prefix and quotes, and quotes are not looked at.
+
+    >>> plan_cuts("VDD {mv / 1000:.3f} V, code {code:#06x}", 20)
+    [20]
+
+    ValueError for a limit that does not fit into 32 bits."""
+    body, limit = _bytes(body, "a body"), _number("the limit", limit)
+    offsets = (ctypes.c_uint32 * (0 if len(body) > MOST_BODY_BYTES else len(body)))()
+    answer = (ctypes.c_uint32 * 12)()
+    _function("cuts_plan")(body, len(body), limit, offsets, len(offsets), answer)
+    if answer[0]:
+        raise _refusal(list(answer))
+    return offsets[: answer[2]] if answer[1] else None
+
+
+def check_cuts(body: bytes | str, limit: int, cuts: Iterable[int]) -> None:
+    """Checks where the body of an f'..' is cut: the offsets rise strictly inside it, each piece has at most so many bytes,
+    each reads without refusal, and the pieces joined read as the body does, in kinds, texts, conversions and parts.
+
+    Raises `Refusal`, the first of 64 to 67. ValueError for a number that does not fit into 32 bits."""
+    body, limit = _bytes(body, "a body"), _number("the limit", limit)
+    numbers = [_number(f"cut {index}", cut) for index, cut in enumerate(cuts)]
+    offsets = (ctypes.c_uint32 * len(numbers))(*numbers)
+    answer = (ctypes.c_uint32 * 12)()
+    _function("cuts_check")(body, len(body), limit, offsets, len(offsets), answer)
+    if answer[0]:
+        raise _refusal(list(answer))
+
+
 def _refusal(answer: list[int]) -> Refusal:
     number, literal, place, a, b, opened, line, column, chars, told, *_ = answer
     return Refusal(number, literal, place, (a, b), line, column, opened, chars, told)
@@ -967,6 +1010,7 @@ CALLS = {
     ),
     "fields_named": [TEXT, LENGTH, TEXT, LENGTH, NUMBERS, LENGTH, NUMBERS, LENGTH, NUMBERS],
     "spec": [TEXT, LENGTH, NUMBERS],
+    **dict.fromkeys(["cuts_check", "cuts_plan"], [TEXT, LENGTH, ctypes.c_uint32, NUMBERS, LENGTH, NUMBERS]),
     "compare": [NUMBERS, LENGTH, TEXT, LENGTH, NUMBERS] * 2 + [NUMBERS, LENGTH, NUMBERS],
     "replay": [TEXT, LENGTH, NUMBERS, LENGTH, TEXT, LENGTH, NUMBERS, LENGTH, TEXT, LENGTH, TEXT, LENGTH, NUMBERS],
     "write": [NUMBERS, LENGTH, TEXT, LENGTH, NUMBERS, TEXT, LENGTH, NUMBERS],
@@ -1345,6 +1389,10 @@ def main(arguments: list[str] | None = None) -> int:
         import stumpgarret_compare
 
         return stumpgarret_compare.main(arguments[1:])
+    if arguments[:1] == ["wrap"]:
+        import stumpgarret_wrap
+
+        return stumpgarret_wrap.main(arguments[1:])
     import stumpgarret_command
 
     return stumpgarret_command.main(arguments[1:] if arguments[:1] == ["fields"] else arguments)

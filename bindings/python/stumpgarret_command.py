@@ -62,6 +62,7 @@ USAGE = """%(prog)s [fields] [--why] [--json] [--html FILE] [--sarif FILE] [--na
                    [--exclude GLOB] [--files-from FILE] [--isolated] [--quiet] SCRIPT...
        %(prog)s replay [--lf] SCRIPT:LINE[:COLUMN] TRACE   (%(prog)s replay --help)
        %(prog)s compare OLD[:LINE[:COLUMN]] NEW[:LINE[:COLUMN]]   (%(prog)s compare --help)
+       %(prog)s wrap [--limit N] [--check OLD:LINE[:COLUMN]] SCRIPT:LINE[:COLUMN]   (%(prog)s wrap --help)
        %(prog)s --explain NUMBER"""
 
 

@@ -59,11 +59,12 @@ class Told(Exception):
 
 @dataclass(frozen=True)
 class Template:
-    """A run of literals in a script, under a name that is shown."""
+    """A run of literals in a script, under a name that is shown; `within` says that it stands in brackets."""
 
     name: str
     script: bytes
     literals: tuple[Literal, ...]
+    within: bool = False
 
     @property
     def numbers(self) -> list[int]:
@@ -90,10 +91,11 @@ class Template:
 @dataclass(frozen=True)
 class Run:
     """Literals that Python joins. `torn` says that Python joins them with a neighbour, too, which the library does not list
-    with them: a backslash or a form feed stands between."""
+    with them: a backslash or a form feed stands between. `within` says that they stand in brackets."""
 
     literals: tuple[Literal, ...]
     torn: bool
+    within: bool
 
     @property
     def start(self) -> int:
@@ -137,7 +139,7 @@ def runs(script: bytes, end: int) -> Iterator[Run]:
             for literals in _statements(script, listed, depth > 0):
                 at = literals[-1].end
                 goes_on = bool(OPENING.match(script, BETWEEN[depth > 0].match(script, at).end()))
-                yield Run(literals, torn or goes_on)
+                yield Run(literals, torn or goes_on, depth > 0)
                 torn = goes_on
 
 
@@ -181,7 +183,7 @@ def template_at(script: bytes, name: str, line: int, column: int | None) -> Temp
             f"{where}: Python joins this string with one behind a backslash or a form feed, and the library does not: "
             "put them in parentheses, without it"
         )
-    return Template(name, script, found[0].literals)
+    return Template(name, script, found[0].literals, found[0].within)
 
 
 def template_of(text: str) -> Template:
@@ -471,17 +473,21 @@ def _complain(said: str, status: int) -> int:
 
 
 def _template(given: argparse.Namespace) -> Template:
-    if given.template is not None:
-        return template_of(given.template)
-    name = stumpgarret._one_line(given.script)
+    return template_of(given.template) if given.template is not None else template_in(given.place)
+
+
+def template_in(place: re.Match) -> Template:
+    """The run at a place of a script, which is read."""
+    path = place["script"]
+    name = stumpgarret._one_line(path)
     try:
-        with open(given.script, "rb") as file:
+        with open(path, "rb") as file:
             script = stumpgarret._bytes(stumpgarret.text_of(file.read()))
     except OSError as error:
         raise Unusable(f"{name}: {error.strerror}") from error
     except stumpgarret.Undecodable as error:
         raise Unusable(f"{name}: {error}") from error
-    return template_at(script, name, given.line, given.column)
+    return template_at(script, name, int(place["line"]), int(place["column"]) if place["column"] else None)
 
 
 def _arguments(arguments: list[str]) -> argparse.Namespace:
@@ -503,9 +509,7 @@ def _arguments(arguments: list[str]) -> argparse.Namespace:
         parser.error("TRACE alone is wanted beside --template TEXT")
     given.trace = given.given[-1]
     if given.template is None:
-        place = PLACE.fullmatch(given.given[0])
-        if not place:
+        given.place = PLACE.fullmatch(given.given[0])
+        if not given.place:
             parser.error(f"SCRIPT:LINE[:COLUMN] is wanted, such as bench.py:3, and this is {given.given[0]}")
-        given.script, given.line = place["script"], int(place["line"])
-        given.column = int(place["column"]) if place["column"] else None
     return given

@@ -89,6 +89,12 @@ class Server:
         head = struct.pack("<4I", 2**32 - 11, words_length, text_length, body_length)
         self.ask(head + bytes(words) + text[:text_length] + bytes(reading) + bytes(body), answer, body)
 
+    def cuts_check(self, body, body_length, limit, offsets, offsets_length, answer):
+        self.ask_script(2**32 - 12, body[:body_length], limit, offsets, answer)
+
+    def cuts_plan(self, body, body_length, limit, offsets, offsets_length, answer):
+        self.ask_script(2**32 - 13, body[:body_length], limit, offsets, answer)
+
     def ask_named(self, verb, lent, *written):
         self.ask(struct.pack("<7I", verb, *map(len, lent)) + b"".join(map(bytes, lent)), *written)
 

@@ -20,6 +20,7 @@ OF_OTHER_CALLS = {
     *stumpgarret.OF_A_COMPARISON,
     *stumpgarret.OF_NAMES,
     *stumpgarret.OF_A_REPLAY,
+    *stumpgarret.OF_CUTS,
 }
 
 

@@ -20,6 +20,7 @@ FROM, ROOM, AT = re.compile(r"from (\d+)"), re.compile(r"room for (\d+) (?:numbe
 CHANGED = re.compile(r"(word|number|byte) (\d+) as (\d+)")
 LENT = re.compile(r"script '(.*)' list \[(.*)\](?: room (\d+) words, (\d+) bytes)?", re.DOTALL)
 LENT_ANSWER = re.compile(r"sort (\d+) words \[(.*)\] text '(.*)'", re.DOTALL)
+LIMIT, CUTS = re.compile(r"limit (\d+)"), re.compile(r"at \[(.*)\]")
 LENT_FILE = re.compile(r"file '(.*)' index \[(.*)\]", re.DOTALL)
 MARK = re.compile(r"<(?:(LF|CR|TAB|NUL)|([0-9A-F]{2})|U\+([0-9A-F]{4,6})|(\d+) times (.+?))>")
 CHARACTERS = {"LF": "\n", "CR": "\r", "TAB": "\t", "NUL": "\0"}
@@ -132,6 +133,21 @@ def write(words, text, reading, room=ROOM_FOR_ALL):
     body = lent(ctypes.c_char, room)
     stumpgarret._function("write")(lent_words, len(words), text, len(text), numbers, body, room, answer)
     return list(answer), body.raw
+
+
+def check_cuts(cell, spans):
+    body, cuts = plain(spans[0]), [int(cut) for cut in filter(None, CUTS.search(cell)[1].split(", "))]
+    offsets, answer = (ctypes.c_uint32 * len(cuts))(*cuts), numbers_of(12)
+    stumpgarret._function("cuts_check")(body, len(body), int(LIMIT.search(cell)[1]), offsets, len(cuts), answer)
+    return numbers_shown(list(answer), 2)
+
+
+def plan_cuts(cell, spans):
+    """The numbers, of 74 ten, and the list afterwards."""
+    body, room = plain(spans[0]), ROOM.search(cell)
+    offsets, answer = numbers_of(int(room[1]) if room else 4), numbers_of(12)
+    stumpgarret._function("cuts_plan")(body, len(body), int(LIMIT.search(cell)[1]), offsets, len(offsets), answer)
+    return f"{numbers_shown(list(answer), 10 if answer[0] else 3)}; {in_words(list(offsets))}"
 
 
 def literals_of(script):
@@ -404,6 +420,8 @@ TABLES = {
     ("Written", "Body"): asked_write(body_of),
     ("Written", "Numbers"): asked_write(lambda answer, body: numbers_shown(answer, 10)),
     ("Written", "Buffer"): asked_write(lambda answer, body: in_words(body)),
+    ("Cuts", "Numbers"): check_cuts,
+    ("Plan", "Numbers and list"): plan_cuts,
     ("Body", "Line"): lambda cell, spans: lines(plain(spans[0])).rstrip("\n"),
 }
 ASKING = {headings[0] for headings in TABLES}

@@ -92,6 +92,22 @@ extern "C" {
         body_length: usize,
         answer: *mut u32,
     );
+    fn stumpgarret_cuts_check(
+        body: *const u8,
+        body_length: usize,
+        limit: u32,
+        offsets: *const u32,
+        offsets_length: usize,
+        answer: *mut u32,
+    );
+    fn stumpgarret_cuts_plan(
+        body: *const u8,
+        body_length: usize,
+        limit: u32,
+        offsets: *mut u32,
+        offsets_length: usize,
+        answer: *mut u32,
+    );
     fn stumpgarret_spec(spec: *const u8, spec_length: usize, answer: *mut u32);
     fn stumpgarret_replay(
         script: *const u8,
@@ -364,6 +380,38 @@ pub(crate) fn write(
             reading.as_ptr(),
             body.as_mut_ptr(),
             body.len(),
+            answer.as_mut_ptr(),
+        );
+    }
+    answer
+}
+
+pub(crate) fn cuts_check(body: &[u8], limit: u32, offsets: &[u32]) -> [u32; ANSWER] {
+    let mut answer = [0; ANSWER];
+    // SAFETY: as above.
+    unsafe {
+        stumpgarret_cuts_check(
+            body.as_ptr(),
+            body.len(),
+            limit,
+            offsets.as_ptr(),
+            offsets.len(),
+            answer.as_mut_ptr(),
+        );
+    }
+    answer
+}
+
+pub(crate) fn cuts_plan(body: &[u8], limit: u32, offsets: &mut [u32]) -> [u32; ANSWER] {
+    let mut answer = [0; ANSWER];
+    // SAFETY: as above.
+    unsafe {
+        stumpgarret_cuts_plan(
+            body.as_ptr(),
+            body.len(),
+            limit,
+            offsets.as_mut_ptr(),
+            offsets.len(),
             answer.as_mut_ptr(),
         );
     }

@@ -79,6 +79,8 @@
 //!
 //! [`Template`] has the parts of an f-string, to be changed and written back.
 //!
+//! [`plan_cuts`] plans where a long template may be broken over lines, and [`check_cuts`] checks it.
+//!
 //! Of the names of characters in `\N{..}` the library itself has fourteen. [`Names`] is a file with all
 //! of them, which [`fields_named`], [`parse_strings_named`], [`read_into_named`] and
 //! [`read_at_named`] take.
@@ -86,6 +88,7 @@
 mod answer;
 mod call;
 mod compare;
+mod cuts;
 mod listing;
 mod literal;
 mod names;
@@ -98,6 +101,7 @@ mod template;
 
 pub use answer::{Answer, ConversionFlag, Field, Record, Records, Sort, Spec};
 pub use compare::Comparison;
+pub use cuts::{check_cuts, plan_cuts};
 pub use listing::{
     fields, fields_named, fields_of_text, Listed, ListedField, ListedRefusal, Listing, Row, Rows,
 };

@@ -2,7 +2,7 @@ use crate::call;
 use std::error::Error;
 use std::fmt;
 
-/// Why literals, a script, a file of names, a format spec, a trace, a comparison or a template were refused. Where rustpython-parser has such an error,
+/// Why literals, a script, a file of names, cuts, a format spec, a trace, a comparison or a template were refused. Where rustpython-parser has such an error,
 /// the name is its.
 #[derive(Clone, Debug, PartialEq, Eq, Hash)]
 #[non_exhaustive]
@@ -95,6 +95,14 @@ pub enum Reason {
     TooLittleIndexRoom,
     /// An index that is not that of its file of names, or one of a file of 2^32 bytes or more.
     WrongIndex,
+    /// Cuts do not rise strictly inside the body.
+    WrongOffsets,
+    /// A piece between cuts has more bytes than the limit.
+    PieceTooLong,
+    /// A piece between cuts is refused by itself.
+    PieceRefused,
+    /// The pieces joined do not read as the body does, or the body is refused.
+    ReadingsDiffer,
     /// A format spec is not of the grammar: that of the template's field, from 0; of
     /// [`Spec::parse`](crate::Spec::parse) it is 0.
     NotOfGrammar {
@@ -120,6 +128,11 @@ pub enum Reason {
     /// The lines have so many bytes, 4,294,967,295 for that many or more.
     TooLittleLineRoom {
         bytes: usize,
+    },
+    /// The list buffer lent has room for fewer cuts than the plan has, which
+    /// [`plan_cuts`](crate::plan_cuts) never lends.
+    TooLittleCutRoom {
+        cuts: usize,
     },
     /// Python 3.11 reads a field otherwise, or not at all: only in a [`Listing`](crate::Listing).
     ReadOtherwise,
@@ -220,6 +233,13 @@ impl fmt::Display for Reason {
                 "wrong index: the index is not that of the file of names, or the file has 2^32 \
                  bytes or more"
             }
+            Self::WrongOffsets => "wrong offsets: the cuts do not rise strictly inside the body",
+            Self::PieceTooLong => "piece too long: a piece between cuts is longer than the limit",
+            Self::PieceRefused => "piece refused: a piece between cuts is refused by itself",
+            Self::ReadingsDiffer => {
+                "readings differ: the pieces joined do not read as the body does, or the body is \
+                 refused"
+            }
             Self::NotOfGrammar { .. } => {
                 "spec not of the grammar: the spec is not of the format specification mini-language"
             }
@@ -237,6 +257,9 @@ impl fmt::Display for Reason {
             }
             Self::OutOfRange { .. } => {
                 "number out of range: a number is below -2,147,483,648 or above 2,147,483,647"
+            }
+            Self::TooLittleCutRoom { cuts } => {
+                return write!(f, "cut list too short: the plan has {} cuts", cuts)
             }
             Self::TooLittleLineRoom { bytes } => {
                 return write!(f, "output buffer too short: the lines need {} bytes", bytes)
@@ -444,12 +467,17 @@ pub(crate) fn reason(number: u32, [a, b]: [u32; 2], needed: u32) -> Option<Reaso
         61 => Reason::NameTwice,
         62 => Reason::TooLittleIndexRoom,
         63 => Reason::WrongIndex,
+        64 => Reason::WrongOffsets,
+        65 => Reason::PieceTooLong,
+        66 => Reason::PieceRefused,
+        67 => Reason::ReadingsDiffer,
         68 => Reason::NotOfGrammar { field: needed as usize },
         69 => Reason::OutsideSet { field: needed as usize },
         70 => Reason::RowMalformed { row: needed as usize },
         71 => Reason::WrongColumns { row: needed as usize },
         72 => Reason::OutOfRange { row: needed as usize },
         73 => Reason::TooLittleLineRoom { bytes: needed as usize },
+        74 => Reason::TooLittleCutRoom { cuts: needed as usize },
         75 => Reason::ReadOtherwise,
         _ => return None,
     })
@@ -473,7 +501,7 @@ impl fmt::Display for Refusal {
             | Reason::OutOfRange { row } => {
                 return write!(f, "{} (refusal {}, row {})", reason, number, row)
             }
-            _ if (54..=73).contains(number) => {
+            _ if (54..=74).contains(number) => {
                 return write!(f, "{} (refusal {})", reason, number);
             }
             _ => {}

@@ -17,6 +17,9 @@
    The same with u32 FFFFFFFE in front asks for every field of the script: the numbers are lent for
    the rows, and the offset is not used.
 
+   The same with u32 FFFFFFF4 in front checks the numbers as cuts in a body, which is sent as the
+   script, and with FFFFFFF3 plans cuts into the numbers; the offset is the limit.
+
    Requests with a file of names: u32 FFFFFFFD to build its index, FFFFFFFC to check a lent one,
    FFFFFFFB to read with both checked, FFFFFFFA to read with both searched, FFFFFFF9 for every field
    of a script; then u32 file bytes, u32 index numbers, u32 list length, u32 script bytes, u32
@@ -48,6 +51,7 @@ static const uint32_t LITERALS = UINT32_MAX, FIELDS = UINT32_MAX - 1, ROWS = UIN
 static const uint32_t BUILD = UINT32_MAX - 2, CHECK = UINT32_MAX - 3,
                       SEARCHED = UINT32_MAX - 5, FIELDS_NAMED = UINT32_MAX - 6;
 static const uint32_t REPLAY = UINT32_MAX - 7, SPEC = UINT32_MAX - 8, COMPARE = UINT32_MAX - 9, WRITE = UINT32_MAX - 10;
+static const uint32_t CUTS_CHECK = UINT32_MAX - 11, CUTS_PLAN = UINT32_MAX - 12;
 
 static void *lend(size_t size)
 {
@@ -141,16 +145,24 @@ static void answer_script(const uint32_t size[4])
     uint32_t *numbers = lend(numbers_size);
     take(script, size[1]);
     take(numbers, numbers_size);
-    void *script_before = lend(size[1]);
+    void *script_before = lend(size[1]), *numbers_before = lend(numbers_size);
     memcpy(script_before, script, size[1]);
+    memcpy(numbers_before, numbers, numbers_size);
     uint32_t *answer = lend(48);
     memset(answer, 0xFF, 48);
     if (size[0] == LITERALS)
         stumpgarret_literals(script, size[1], size[3], numbers, size[2], answer);
-    else
+    else if (size[0] == FIELDS)
         stumpgarret_fields(script, size[1], numbers, size[2], answer);
+    else if (size[0] == CUTS_PLAN)
+        stumpgarret_cuts_plan(script, size[1], size[3], numbers, size[2], answer);
+    else {
+        stumpgarret_cuts_check(script, size[1], size[3], numbers, size[2], answer);
+        unchanged(numbers, numbers_before, numbers_size, "the cuts");
+    }
     put(answer, 48);
     put(numbers, numbers_size);
+    give_back(numbers_before, numbers_size, "a copy of the numbers");
     unchanged(script, script_before, size[1], "the script");
     give_back(script_before, size[1], "a copy of the script");
     give_back(answer, 48, "the answer");
@@ -333,7 +345,7 @@ int main(void)
     while (more()) {
         uint32_t size[4];
         take(size, sizeof size);
-        if (size[0] == LITERALS || size[0] == FIELDS)
+        if (size[0] == LITERALS || size[0] == FIELDS || size[0] == CUTS_CHECK || size[0] == CUTS_PLAN)
             answer_script(size);
         else if (size[0] >= FIELDS_NAMED)
             answer_named(size);

@@ -1,6 +1,7 @@
 //! Real readings through the library.
 mod common;
 mod compare;
+mod cuts;
 mod fields;
 mod literals;
 mod names;
