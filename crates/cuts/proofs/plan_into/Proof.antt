@@ -24,7 +24,7 @@ plan-into-spec =
     (λ c. planning _ _ _)  -- loop-holds
     (λ c. search needs)  -- add-end
     (λ c. on-less _ _ _ _ (c .before .if1 .taken) (c .before .before .before .loop .inv .run .within))  -- loop-less
-    (λ c. run-on _ _ _ _ _ _ _ _ (c .before .before .before .loop .inv) (c .before .if1 .taken) (c .if2 .taken))  -- loop-again
+    (λ c. run-on _ _ _ _ _ _ _ _ (c .before .before .before .loop .inv) (c .before .if1 .taken) (search needs))  -- loop-again
     (λ c. same-list _ _ _ _ _ _ _ _ (c .before .before .before .before .loop .inv))  -- same-length
     (λ c. run-none _ _ _ _ _ _ _ _ (c .before .before .before .before .loop .inv) (c .before .before .if1 .taken) (c .if3 .taken))  -- returns
     (λ c. let w = c .before .before .before .before .before .loop .inv .run .within in search needs)  -- cast-put-word
