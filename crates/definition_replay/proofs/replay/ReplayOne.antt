@@ -19,7 +19,7 @@ use Rattle.definition.proofs.moves.CharLaws.{cases, no, either}
 use Rattle.definition_replay.proofs.spec.SpecLaws.{both-true}
 use Rattle.definition.proofs.outcomes.Outcomes.{Listed}
 use Rattle.definition.proofs.formed.Held.{numbers-held}
-use Rattle.definition_replay.proofs.replay.ReplayShown.{Told, replay-told, accepted-left}
+use Rattle.definition_replay.proofs.replay.ReplayShown.{Told, replay-told, accepted-holds}
 
 -- the numbers of a table are at most its greatest
 abbrev allMost : ℕ → List ℕ → Bool
@@ -60,11 +60,11 @@ good look script ns trace words text output =
     record {
       told = replay-told look script ns trace words text output;
       answer = λ x n l e.
-          let r = accepted-left look script ns trace words text output x n l e in
-          (λ i. heldFrom (numbers (sym (r .reading) i)) (r .words-left i) (r .text-left i)) ∙ numbers-held look script ns words text x (r .reading) .0;
+          let r = accepted-holds look script ns trace words text output x n l e in
+          (λ i. heldFrom (numbers (sym (r .accepted) i)) (r .words-held i) (r .text-held i)) ∙ numbers-held look script ns words text x (r .accepted) .0;
       lines = λ x n l e.
-          let r = accepted-left look script ns trace words text output x n l e in
-          ap (take (length l)) (r .lines-left) ∙ take-append-seam l (drop (length l) output);
+          let r = accepted-holds look script ns trace words text output x n l e in
+          ap (take (length l)) (r .lines-held) ∙ take-append-seam l (drop (length l) output);
     }
 
 same-refusal : (r r′ : Refusal) → ((k : ℕ) → word (numbers (refuses r)) k ≡ word (numbers (refuses r′)) k) → r ≡ r′

@@ -1,22 +1,24 @@
 -- EVERY REPLAY: its numbers, what a refusal leaves, the room it needs, and that calls that leave the same have one result. Assumes nothing.
-use mathlib.Core.Path.{_≡_, refl, sym, ap}
+use mathlib.Core.Path.{_≡_, refl, sym, ap, subst}
 use mathlib.Core.List.{List, [], _∷_}
 use mathlib.Core.Option.{Option, none, some}
-use Prim.Native.Nat.{ℕ, suc, _≤_, _<_, min}
+use Prim.Native.Nat.{ℕ, suc, _*_, _≤_, _<_, min}
 use native.Mathlib.Omega.{arith}
 use lib.Dec.{ltb, eqb}
 use lib.ListN.{length, replicate}
 use borrow.Author.Tests.{ltb-false, le-ltb, lt-ltb}
 use Rattle.definition.specs.Escapes.{Naming}
 use Rattle.definition.specs.Records.{Record, Answer}
-use Rattle.definition.specs.Reading.{Outcome, accepts, refuses, inFront, zeros, numbers, readNumbers}
+use Rattle.definition.specs.Reading.{Outcome, accepts, refuses, inFront, zeros, numbers, Call, readNumbers}
+use Rattle.definition.specs.Words.{word}
+use Rattle.definition.specs.Left.{Left}
 use Rattle.definition_replay.specs.Spec.{Spec, specOf}
 use Rattle.definition_replay.specs.Integers.{Integer, Form, formOf}
 use Rattle.definition_replay.specs.Trace.{rowsOf}
-use Rattle.definition_replay.specs.Replay.{Made, made, stopped, followed, Part, TopItem, itemsFrom, nested, textsOf, formMade, partOf, fieldsPast, partsFrom, templateOf, fieldCount, allInRange, rowMade, linesFrom, concat, Replayed, replays, unread, stops, mostBytes, roomedLines, linesOf, replayed, ReplayCall, linesAfter, keptAfter, replayCall, replayNumbers}
+use Rattle.definition_replay.specs.Replay.{Made, made, stopped, followed, Part, TopItem, itemsFrom, nested, textsOf, formMade, partOf, fieldsPast, partsFrom, templateOf, fieldCount, allInRange, rowMade, linesFrom, concat, Replayed, replays, unread, stops, mostBytes, roomedLines, linesOf, replayed, ReplayCall, linesAfter, keptAfter, replayCall, replayNumbers, replayNumbersOf}
 use Rattle.definition.proofs.moves.CharLaws.{cases}
 use Rattle.definition.proofs.outcomes.Outcomes.{Listed, Sane, numbers-sane}
-use Rattle.definition.proofs.outcomes.Leaving.{CallLeft, numbers-left}
+use Rattle.definition.proofs.outcomes.Leaving.{left-zeros, left-front, listed-nonzero, CallLeft, numbers-left}
 
 -- THE NUMBERS: a refusal's lies within two
 abbrev pub Between : {A : Type 0} → ℕ → ℕ → Made A → Type 0
@@ -182,43 +184,45 @@ module _ (look : Naming) (script ns trace words text output : List ℕ) where
   unfolding replayNumbers replayCall
   replay-told = replayed-told (readNumbers look script ns words text .outcome) trace (length output) (numbers-sane look script ns words text)
 
-  -- AFTER A REFUSAL all three buffers hold zeros
-  abbrev Zeros : Replayed → ReplayCall → Type 0
-  Zeros (replays x n l) c = Unit {0}
-  Zeros (unread r) c = (c .words ≡ zeros words) × (c .text ≡ zeros text) × (c .output ≡ zeros output)
-  Zeros (stops n k) c = (c .words ≡ zeros words) × (c .text ≡ zeros text) × (c .output ≡ zeros output)
+  abbrev reading : Call
+  reading = readNumbers look script ns words text
 
-  pub refused-zeros : Zeros (call .result) call
-  unfolding replayNumbers replayCall keptAfter linesAfter
-  refused-zeros = go (replayed (readNumbers look script ns words text .outcome) trace (length output)) refl
+  -- AFTER EVERY CALL, in each of the three buffers
+  abbrev Leaves : Replayed → ReplayCall → Type 0
+  Leaves o c =
+      let ns = replayNumbersOf o in
+      Left (word ns 0) (word ns 5 * 8) words (c .words) × Left (word ns 0) (word ns 6) text (c .text) × Left (word ns 0) (word ns 10) output (c .output)
+
+  pub replay-left : Leaves (call .result) call
+  unfolding replayNumbers replayCall keptAfter linesAfter replayNumbersOf numbers
+  replay-left = go (replayed (reading .outcome) trace (length output)) refl replay-told
     where
-      left : CallLeft words text (readNumbers look script ns words text)
+      gone : (number n : ℕ) (buffer lent : List ℕ) → length lent ≡ length buffer → 1 ≤ number → Left number n buffer (zeros lent)
+      gone number n buffer lent e h = subst (λ m. Left number n buffer (replicate m 0)) (sym e) (left-zeros number n buffer h)
+
+      left : CallLeft words text reading
       left = numbers-left look script ns words text
 
-      same : (buffer lent : List ℕ) → length buffer ≡ length lent → zeros buffer ≡ zeros lent
-      same buffer lent e = ap (λ n. replicate n 0) e
-
-      go : (o : Replayed) → replayed (readNumbers look script ns words text .outcome) trace (length output) ≡ o → Zeros (call .result) call
-      go (replays x n l) e = rw e tt
-      go (unread r) e = rw e (same (readNumbers look script ns words text .words) words (left .0 .kept), same (readNumbers look script ns words text .text) text (left .1 .kept), refl)
-      go (stops n k) e = rw e (same (readNumbers look script ns words text .words) words (left .0 .kept), same (readNumbers look script ns words text .text) text (left .1 .kept), refl)
+      go : (o : Replayed) → replayed (reading .outcome) trace (length output) ≡ o → Told o → Leaves (call .result) call
+      go (replays x n l) e t =
+          let r = replayed-is (reading .outcome) trace (length output) x n l e in
+          let f = r .fits in
+          let b = subst (λ y. CallLeft words text (record { outcome = y; words = reading .words; text = reading .text })) (r .reading) left in
+          rw e (b .0, b .1, left-front (length l) l output refl (omega arith))
+      go (unread r) e t =
+          let h = listed-nonzero r t in
+          rw e (gone (r .number) (r .opened * 8) words (reading .words) (left .0 .kept) h, gone (r .number) (r .line) text (reading .text) (left .1 .kept) h, left-zeros (r .number) 0 output h)
+      go (stops n k) e t = rw e (gone n 0 words (reading .words) (left .0 .kept) (omega arith), gone n 0 text (reading .text) (left .1 .kept) (omega arith), left-zeros n 0 output (omega arith))
 
   -- AFTER AN ACCEPTANCE words and text are the reading's, and the lines stand in front of the output
-  pub record Left (x : Answer) (n : ℕ) (l : List ℕ) : Type 0 where
-    pub reading : readNumbers look script ns words text .outcome ≡ accepts x
-    pub words-left : call .words ≡ readNumbers look script ns words text .words
-    pub text-left : call .text ≡ readNumbers look script ns words text .text
-    pub lines-left : call .output ≡ inFront l output
-    pub fits : length l ≤ length output
+  pub record Holds (x : Answer) (n : ℕ) (l : List ℕ) : Type 0 where
+    pub accepted : reading .outcome ≡ accepts x
+    pub words-held : call .words ≡ reading .words
+    pub text-held : call .text ≡ reading .text
+    pub lines-held : call .output ≡ inFront l output
 
-  pub accepted-left : (x : Answer) (n : ℕ) (l : List ℕ) → call .result ≡ replays x n l → Left x n l
+  pub accepted-holds : (x : Answer) (n : ℕ) (l : List ℕ) → call .result ≡ replays x n l → Holds x n l
   unfolding replayNumbers replayCall keptAfter linesAfter
-  accepted-left x n l e =
-      let r = replayed-is (readNumbers look script ns words text .outcome) trace (length output) x n l e in
-      record {
-        reading = r .reading;
-        words-left = rw e;
-        text-left = rw e;
-        lines-left = rw e;
-        fits = let f = r .fits in omega arith;
-      }
+  accepted-holds x n l e =
+      let r = replayed-is (reading .outcome) trace (length output) x n l e in
+      record { accepted = r .reading; words-held = rw e; text-held = rw e; lines-held = rw e }
