@@ -454,9 +454,9 @@ pub fn write_by(out: &mut [u8], s: &[u8], form: Form, negative: bool, size: u32)
         return 0;
     }
     if form.fill == 0 {
-        let pad = [form.pad];
-        return integers::write(out, &pad, form.shape, negative, size);
+        return integers::write_one(out, form.pad, form.shape, negative, size);
     }
     let fill = least(form.fill, s.len());
-    integers::write(out, &s[0..fill], form.shape, negative, size)
+    let shape = integers::anew(form.shape);
+    integers::write(out, &s[0..fill], shape, negative, size)
 }

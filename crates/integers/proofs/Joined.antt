@@ -54,6 +54,20 @@ pub piece-both : (out : List ℕ) (at : ℕ) (s t : List ℕ) {mid now : List �
     → result ≡ next + length t → now ≡ over mid next t → (result ≡ at + length (s ++ t)) × (now ≡ over out at (s ++ t))
 piece-both out at s t n m r w = let l = length-append s t in (omega arith, rw (w, n, m) (over-append out at s t))
 
+-- and five
+pub five-pieces : (out : List ℕ) (at : ℕ) (a b c d e : List ℕ) {one two three four five : ℕ} {out1 out2 out3 out4 out5 : List ℕ}
+    → one ≡ at + length a → out1 ≡ over out at a
+    → two ≡ one + length b → out2 ≡ over out1 one b
+    → three ≡ two + length c → out3 ≡ over out2 two c
+    → four ≡ three + length d → out4 ≡ over out3 three d
+    → five ≡ four + length e → out5 ≡ over out4 four e
+    → (five ≡ at + length (a ++ b ++ c ++ d ++ e)) × (out5 ≡ over out at (a ++ b ++ c ++ d ++ e))
+five-pieces out at a b c d e r1 o1 r2 o2 r3 o3 r4 o4 r5 o5 =
+    let s2 = piece-both out at a b r1 o1 r2 o2 in
+    let s3 = piece-both out at (a ++ b) c (s2 .0) (s2 .1) r3 o3 in
+    let s4 = piece-both out at (a ++ b ++ c) d (s3 .0) (s3 .1) r4 o4 in
+    piece-both out at (a ++ b ++ c ++ d) e (s4 .0) (s4 .1) r5 o5
+
 -- a fill of one byte
 one-byte : (l : List ℕ) → length l ≡ 1 → l ≡ getD l 0 0 ∷ []
 one-byte [] e = absurd (omega arith)
@@ -208,7 +222,7 @@ module _ (fill : List ℕ) (f : Shape) where
       zeroed-more n least (formed fill f) ds (omega arith) ∙ ih ∙ sym (zeroed-more n least (bare (f .kind) (f .grouping)) ds l))
 
   module _ (negative : Bool) (size : ℕ) where
-    abbrev head : List ℕ
+    abbrev pub head : List ℕ
     head = headFrom (f .sign) (f .alternate) (f .kind) negative
 
     head-is : headOf (formed fill f) (integer negative size) ≡ head
@@ -219,7 +233,7 @@ module _ (fill : List ℕ) (f : Shape) where
     unfolding leastOf leastFrom zeroPads padsFrom headOf prefixOf headFrom prefixFrom
     least-is = refl
 
-    abbrev units : ℕ → List ℕ
+    abbrev pub units : ℕ → List ℕ
     units least = numeralUnits (f .kind) (f .grouping) least size
 
     numeral-is : numeralOf (formed fill f) (integer negative size) ≡ reverse (units (leastFrom fill (f .align) (f .width) (length head)))
@@ -230,7 +244,7 @@ module _ (fill : List ℕ) (f : Shape) where
         ∙ ap (figures (bare (f .kind) (f .grouping))) (zeroed-bare (leastFrom fill (f .align) (f .width) (length head)) (leastFrom fill (f .align) (f .width) (length head)) (digits (baseOf (f .kind)) size))))
 
     -- the five pieces
-    abbrev pieces : (least pad : ℕ) → List ℕ
+    abbrev pub pieces : (least pad : ℕ) → List ℕ
     pieces least pad =
         copies (leftOf (f .align) pad) fill
         ++ head
@@ -264,7 +278,7 @@ module _ (fill : List ℕ) (f : Shape) where
         let l4 = length-append (copies left fill ++ head ++ copies inner fill ++ reverse (units least)) (copies (pad - (left + inner)) fill) in
         omega arith
 
-    pieces-are : (least pad : ℕ) → least ≡ leastFrom fill (f .align) (f .width) (length head) → pad ≡ f .width - (length head + length (units least))
+    pub pieces-are : (least pad : ℕ) → least ≡ leastFrom fill (f .align) (f .width) (length head) → pad ≡ f .width - (length head + length (units least))
         → written (formed fill f) (integer negative size) ≡ pieces least pad
     pieces-are least pad l p = pieces-at ∙ ap₂ pieces (sym l) (ap (λ x. f .width - (length head + length (units x))) (sym l) ∙ sym p)
 
@@ -299,12 +313,7 @@ module _ (fill : List ℕ) (f : Shape) where
             let w = pieces-are least pad lh ph in
             let n : four ≡ three + length (reverse (units least)) = r4 ∙ ap (λ x. three + x) (c ∙ sym (length-reverse (units least))) in
             let m = o4 ∙ ap (λ x. over out3 three (reverse x)) u in
-            let a = copies left fill in
-            let b = copies inner fill in
-            let s2 = piece-both out at a head r1 o1 r2 o2 in
-            let s3 = piece-both out at (a ++ head) b (s2 .0) (s2 .1) r3 o3 in
-            let s4 = piece-both out at (a ++ head ++ b) (reverse (units least)) (s3 .0) (s3 .1) n m in
-            let s5 = piece-both out at (a ++ head ++ b ++ reverse (units least)) (copies (pad - (left + inner)) fill) (s4 .0) (s4 .1) r5 o5 in
+            let s5 = five-pieces out at (copies left fill) head (copies inner fill) (reverse (units least)) (copies (pad - (left + inner)) fill) r1 o1 r2 o2 r3 o3 n m r5 o5 in
             rw w (rw (q, i) at s5)
 
 pub count-bound : (kind grouping least size : ℕ) {count : ℕ} → count ≡ length (numeralUnits kind grouping least size) → 1 < baseOf kind → least ≤ 64 → size < 0x100000000 → count ≤ 66

@@ -3,3 +3,4 @@ pub mod Bounds
 pub mod Joined
 pub mod Digits
 pub mod Fitting
+pub mod Plain

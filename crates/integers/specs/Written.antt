@@ -1,7 +1,7 @@
 -- Figures one at a time, in the definition's terms.
 use Prim.Native.Nat.{ℕ, zero, suc, _+_, _-_}
 use mathlib.Core.Bool.{Bool, true, false, _&&_, not}
-use mathlib.Core.List.{List, [], _∷_, _++_, map}
+use mathlib.Core.List.{List, [], _∷_, _++_, map, reverse}
 use lib.Dec.{leb, eqb}
 use lib.ListN.{length}
 use Rattle.definition.specs.Chars.{if_then_else_, same}
@@ -50,6 +50,10 @@ unfoldable pub numeralUnits : (kind grouping least number : ℕ) → List ℕ
 numeralUnits kind grouping least number =
     let f = bare kind grouping in
     figures f (zeroed least least f (digits (baseOf kind) number))
+
+-- the figures of a number without separators, as they are written
+unfoldable pub figuresOf : (kind base number : ℕ) → List ℕ
+figuresOf kind base number = reverse (map (figure kind) (digits base number))
 
 -- the head's parts, by themselves
 unfoldable pub prefixFrom : (alternate : Bool) (kind : ℕ) → List ℕ

@@ -1,12 +1,13 @@
 // Integers by a format specification: figures are written the units first.
 ghost use mathlib.Core.Path.{_≡_};
 ghost use Prim.Native.Nat.{_+_, _-_, _/_, _%_, _<_, _≤_};
+ghost use mathlib.Core.Bool.{true};
 ghost use mathlib.Core.List.{[], _∷_, reverse};
 ghost use lib.ListN.{length, take, drop};
 ghost use Rattle.definition_replay.specs.Spec.{isDigit, front, behind};
 ghost use Rattle.definition_replay.specs.Integers.{digits, baseOf, figure, copies, signOf, leftOf, innerOf, written};
 ghost use Rattle.buffers.specs.Over.{over};
-ghost use Rattle.integers.specs.Written.{oneMore, comeAfter, comesAfter, restOf, zerosN, groupOf, numeralUnits, prefixFrom, headFrom, padsFrom, leastFrom, formed, integer, fitting, writtenIn};
+ghost use Rattle.integers.specs.Written.{oneMore, comeAfter, comesAfter, restOf, zerosN, groupOf, numeralUnits, figuresOf, prefixFrom, headFrom, padsFrom, leastFrom, formed, integer, fitting, writtenIn};
 ghost use Rattle.definition_replay.specs.SpecNumbers.{toldOf};
 ghost use Rattle.integers.specs.Told.{moreValue, toldAt};
 
@@ -431,6 +432,149 @@ pub fn write(out: &mut [u8], fill: &[u8], shape: Shape, negative: bool, size: u3
         return 0;
     }
     write_at(out, 0, fill, shape, negative, size)
+}
+
+// How many figures a number has in base ten.
+fn count_ten(n: u32) -> usize
+    ensures { λ r. ⌜ r ≡ length (digits 10 n) ⌝ }
+{
+    if n < 10 {
+        return 1;
+    }
+    if n < 100 {
+        return 2;
+    }
+    if n < 1000 {
+        return 3;
+    }
+    if n < 10000 {
+        return 4;
+    }
+    if n < 100000 {
+        return 5;
+    }
+    if n < 1000000 {
+        return 6;
+    }
+    if n < 10000000 {
+        return 7;
+    }
+    if n < 100000000 {
+        return 8;
+    }
+    if n < 1000000000 {
+        return 9;
+    }
+    10
+}
+
+// How many figures a number has in a base.
+fn count_figures(number: u32, base: u32) -> usize
+    requires { ⌜ (1 < base) × (base ≤ 16) ⌝ }
+    ensures { λ r. ⌜ r ≡ length (digits base number) ⌝ }
+{
+    if base == 10 {
+        return count_ten(number);
+    }
+    let mut n = number;
+    let mut count: usize = 1;
+    while base <= n {
+        let parts = last_digit(n, base);
+        n = parts.rest;
+        count = count + 1;
+    }
+    count
+}
+
+// Writes the figures of a number in a base, so many, from an index on, the units last; says where they end.
+fn put_figures(out: &mut [u8], from: usize, count: usize, number: u32, base: u32, kind: u8) -> usize
+    requires { ⌜ (1 < base) × (base ≤ 16) × (count ≡ length (digits base number)) × (from + count ≤ length (now out)) ⌝ }
+    ensures { λ r. ⌜ (r ≡ from + count) × (now (out .exit) ≡ over (now (out .entry)) from (figuresOf kind base number)) ⌝ }
+{
+    let to = from + count;
+    let mut n = number;
+    let mut at = to;
+    while base <= n {
+        let parts = last_digit(n, base);
+        let fig = figure_of(kind, parts.digit);
+        at = at - 1;
+        out[at] = fig;
+        n = parts.rest;
+    }
+    let last = n as u8;
+    let fig = figure_of(kind, last);
+    out[from] = fig;
+    to
+}
+
+// Whether a form is within the set and has neither groups nor a sign, and any integer by it has room.
+fn is_plain(shape: Shape, room: usize) -> bool
+    ensures { λ r. ⌜ (r ≡ true → (shape .grouping ≡ 0) × (1 < baseOf (shape .kind)) × (shape .width ≤ 64) × (128 ≤ room)) ⌝ }
+{
+    if room < 128 {
+        return false;
+    }
+    if shape.grouping != 0 {
+        return false;
+    }
+    if shape.sign != 0 {
+        return false;
+    }
+    if 64 < shape.width {
+        return false;
+    }
+    let base = base_of(shape.kind);
+    base != 0
+}
+
+// Writes an integer by a form within the set, without groups and with a fill of one byte, from the front on, where there is room for any; says how many bytes it has.
+fn write_plain(out: &mut [u8], byte: u8, shape: Shape, negative: bool, size: u32) -> usize
+    requires { ⌜ (shape .grouping ≡ 0) × (1 < baseOf (shape .kind)) × (shape .width ≤ 64) × (128 ≤ length (now out)) ⌝ }
+    ensures { λ r. ⌜ (r ≡ length (written (formed (byte ∷ []) shape) (integer negative size))) × (now (out .exit) ≡ over (now (out .entry)) 0 (written (formed (byte ∷ []) shape) (integer negative size))) ⌝ }
+{
+    let align = shape.align;
+    let sign = shape.sign;
+    let alternate = shape.alternate;
+    let kind = shape.kind;
+    let mut space = [0u8; 4];
+    let head = put_head(&mut space, 0, sign, alternate, kind, negative);
+    let base = base_of(kind);
+    let count = count_figures(size, base);
+    let pad = rest_of(shape.width, head + count);
+    let left = left_of(align, pad);
+    let inner = inner_of(align, pad);
+    let one = add_bytes(out, 0, left, byte);
+    let two = put_head(out, one, sign, alternate, kind, negative);
+    let three = add_bytes(out, two, inner, byte);
+    let four = put_figures(out, three, count, size, base, kind);
+    add_bytes(out, four, pad - (left + inner), byte)
+}
+
+// A form once more. One that is handed on is made only there.
+pub fn anew(shape: Shape) -> Shape
+    ensures { λ r. ⌜ r ≡ shape ⌝ }
+{
+    Shape {
+        align: shape.align,
+        sign: shape.sign,
+        alternate: shape.alternate,
+        width: shape.width,
+        grouping: shape.grouping,
+        kind: shape.kind,
+    }
+}
+
+// Writes an integer by a form with a fill of one byte from the front on, nothing by one outside the set; says how many bytes it has.
+pub fn write_one(out: &mut [u8], byte: u8, shape: Shape, negative: bool, size: u32) -> usize
+    ensures { λ r. ⌜ (r ≡ length (writtenIn (byte ∷ []) shape (integer negative size))) × (now (out .exit) ≡ over (now (out .entry)) 0 (writtenIn (byte ∷ []) shape (integer negative size))) ⌝ }
+{
+    let plain = is_plain(shape, out.len());
+    if plain {
+        return write_plain(out, byte, shape, negative, size);
+    }
+    let fill = [byte];
+    let form = anew(shape);
+    write(out, &fill, form, negative, size)
 }
 
 // Digits that were read: 0 for none, else 1 more than their value, at most 4,294,967,295; and where they end.

@@ -9,14 +9,14 @@ write-by-spec =
     tie.close
     (tie.spec
     (λ c. as-refused (c .before .before .before .before .args .s .now) (c .before .before .before .before .args .form) (c .before .before .before .before .args .negative) (c .before .before .before .before .args .size) _ (c .if1 .taken))  -- returns
-    (λ c. search needs)  -- slice-aggregate-write
-    (λ c κs. search needs)  -- write-requires
+    (λ c κs. search needs)  -- write-one-requires
     (λ c. search needs)  -- same-length
-    (λ c. as-pad (c .before .before .before .before .before .before .before .before .before .before .before .args .s .now) (c .before .before .before .before .before .before .before .before .before .before .before .args .form) (c .before .before .before .before .before .before .before .before .before .before .before .args .negative) (c .before .before .before .before .before .before .before .before .before .before .before .args .size) (search needs) (c .before .before .before .before .before .before .before .before .before .before .before .fits .size .fits) _ (c .before .before .before .before .before .if2 .taken) (c .before .before .write .ensures))  -- returns-2
+    (λ c. as-pad (c .before .before .before .before .before .before .before .before .before .before .args .s .now) (c .before .before .before .before .before .before .before .before .before .before .args .form) (c .before .before .before .before .before .before .before .before .before .before .args .negative) (c .before .before .before .before .before .before .before .before .before .before .args .size) (search needs) (c .before .before .before .before .before .before .before .before .before .before .fits .size .fits) _ (c .before .before .before .before .if2 .taken) (c .before .before .write-one .ensures))  -- returns-2
     (λ c κs. search needs)  -- least-requires
+    (λ c κs. search needs)  -- anew-requires
     (λ c. search needs)  -- sub-write
     (λ c. search needs)  -- part-write-start
     (λ c. search needs)  -- part-write-end
-    (λ c κs. search needs)  -- write-requires-2
+    (λ c κs. search needs)  -- write-requires
     (λ c. search needs)  -- same-length-2
-    (λ c. as-fill (c .before .before .before .before .before .before .before .before .before .before .before .before .args .s .now) (c .before .before .before .before .before .before .before .before .before .before .before .before .args .form) (c .before .before .before .before .before .before .before .before .before .before .before .before .args .negative) (c .before .before .before .before .before .before .before .before .before .before .before .before .args .size) (search needs) (c .before .before .before .before .before .before .before .before .before .before .before .before .fits .size .fits) _ (c .before .before .before .before .before .before .if2 .left) (c .before .before .before .before .before .least .ensures) (c .before .before .write2 .ensures)))  -- returns-3
+    (λ c. as-fill (c .before .before .before .before .before .before .before .before .before .before .before .before .before .args .s .now) (c .before .before .before .before .before .before .before .before .before .before .before .before .before .args .form) (c .before .before .before .before .before .before .before .before .before .before .before .before .before .args .negative) (c .before .before .before .before .before .before .before .before .before .before .before .before .before .args .size) (search needs) (c .before .before .before .before .before .before .before .before .before .before .before .before .before .fits .size .fits) _ (c .before .before .before .before .before .before .before .if2 .left) (c .before .before .before .before .before .before .least .ensures) (rw (c .before .before .before .before .before .anew .ensures) at (c .before .before .write .ensures))))  -- returns-3
