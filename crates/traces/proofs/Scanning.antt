@@ -153,13 +153,13 @@ clip-fits v e = go (v .negative) refl
     go true f = small 0x80000000 (omega arith) (rw f at e)
     go false f = small 0x7FFFFFFF (omega arith) (rw f at e)
 
-fit-clip : (x : Cell) → fitCell (clipCell x) ≡ fitCell x
+pub fit-clip : (x : Cell) → fitCell (clipCell x) ≡ fitCell x
 unfolding fitCell clipCell
 fit-clip wrong = refl
 fit-clip (more v u) = cases (inRange v) (λ e. rw (range-clip v, e) (ap (λ w. more w u) (clip-fits v e))) (λ e. rw (range-clip v, e))
 fit-clip (last v u) = cases (inRange v) (λ e. rw (range-clip v, e) (ap (λ w. last w u) (clip-fits v e))) (λ e. rw (range-clip v, e))
 
-fit-ended : (v : Integer) (b : Behind) → inRange v ≡ true → fitCell (endedWith v b) ≡ endedWith v b
+pub fit-ended : (v : Integer) (b : Behind) → inRange v ≡ true → fitCell (endedWith v b) ≡ endedWith v b
 unfolding fitCell endedWith
 fit-ended v (comma u) e = rw e
 fit-ended v (ends u) e = rw e

@@ -7,6 +7,7 @@ ghost use lib.ListN.{length, drop};
 ghost use Rattle.definition_replay.specs.Spec.{first, past};
 ghost use Rattle.definition_replay.specs.Trace.{behindColumn, rowOf};
 ghost use Rattle.definition_replay.specs.Replay.{inRange};
+ghost use Rattle.integers.proofs.Digits.{Valued};
 ghost use Rattle.traces.specs.Cells.{saysBehind, cellOf, clipCell, fitCell, integer, saysCell, endedBy, verdictOf, checkOf};
 
 // What stands behind a column: 0 for what may not, 1 for a comma, 2 for the row's end; and where it ends.
@@ -160,8 +161,8 @@ fn in_range(negative: bool, size: u32) -> bool
     size <= 0x7FFFFFFF
 }
 
-// The column at an index, whose number is one of 32 bits; none past the end.
-pub fn read_column(s: &[u8], at: usize) -> Column
+// The column at an index, whose number is one of 32 bits, whatever it looks like; none past the end.
+fn read_any(s: &[u8], at: usize) -> Column
     ensures { λ r. ⌜ (saysCell (now (s .entry)) (r .ends) (r .negative) (r .size) (r .next) ≡ fitCell (cellOf (drop at (now (s .entry))))) × ((r .ends ≡ 0 → ⊥) → at < r .next) × (r .next ≤ length (now (s .entry))) ⌝ }
 {
     if s.len() < at {
@@ -181,6 +182,78 @@ pub fn read_column(s: &[u8], at: usize) -> Column
             size: 0,
             next: at,
         };
+    }
+    column
+}
+
+// Digits that were read, nine at most: their value, and where they end.
+pub(crate) struct Short {
+    value: u32,
+    next: usize,
+}
+
+// Where nine bytes from a place on end, at most at the end of all.
+fn short_end(at: usize, size: usize) -> usize
+    requires { ⌜ at ≤ size ⌝ }
+    ensures { λ r. ⌜ (at ≤ r) × (r ≤ size) × (r ≤ at + 9) ⌝ }
+{
+    if size - at <= 9 {
+        return size;
+    }
+    at + 9
+}
+
+// Reads the digits at an index, nine at most.
+fn read_short(s: &[u8], at: usize) -> Short
+    requires { ⌜ at ≤ length (now s) ⌝ }
+    ensures { λ r. ⌜ Valued (now (s .entry)) at (r .value) (r .next) × (r .value < 1000000000) × (r .next ≤ length (now (s .entry))) ⌝ }
+{
+    let end = short_end(at, s.len());
+    let mut value: u32 = 0;
+    let mut i = at;
+    while i < end {
+        let b = s[i];
+        if b < 48 {
+            return Short {
+                value: value,
+                next: i,
+            };
+        }
+        let d = b - 48;
+        if 9 < d {
+            return Short {
+                value: value,
+                next: i,
+            };
+        }
+        value = value * 10 + d as u32;
+        i = i + 1;
+    }
+    Short {
+        value: value,
+        next: i,
+    }
+}
+
+// The column at an index, whose number is one of 32 bits; none past the end. Most columns are not in quotes and have nine digits at most.
+pub fn read_column(s: &[u8], at: usize) -> Column
+    ensures { λ r. ⌜ (saysCell (now (s .entry)) (r .ends) (r .negative) (r .size) (r .next) ≡ fitCell (cellOf (drop at (now (s .entry))))) × ((r .ends ≡ 0 → ⊥) → at < r .next) × (r .next ≤ length (now (s .entry))) ⌝ }
+{
+    if s.len() <= at {
+        return read_any(s, at);
+    }
+    let b = s[at];
+    if b == 34 {
+        return read_any(s, at);
+    }
+    let start = skip_minus(s, at);
+    let number = read_short(s, start);
+    if number.next == start {
+        return read_any(s, at);
+    }
+    let column = column_end(s, number.next, start != at, number.value);
+    if column.ends == 0 {
+        return read_any(s, at);
     }
     column
 }
