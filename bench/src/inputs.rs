@@ -34,27 +34,43 @@ const MIB: usize = 1 << 20;
 const LINE: &str =
     "{rail:<8} {mv / 1000:7.3f} V  step {code:>3d}  {mv - target:+.1f} mV  {status!r}\\n";
 
+const PLAIN: &str = "The quick brown fox jumps over the lazy dog. 0123456789, ";
+const FIELDS: &str = "{x}{y!r}{z:>5}{a[0]}{b(c)}";
+const UTF8: &str =
+    "\u{3a9} = 47 \u{b5}\u{3a9}, \u{394}T \u{2264} 5 \u{b0}C, \u{6e2c}\u{5b9a}\u{5024} ";
+const ESCAPES: &str = "\\t\\x41\\u03a9 \\N{DEGREE SIGN}\\n\\101\\\\ ";
+const WIDE: &str = "\u{6e2c}\u{5b9a}\u{5024}\u{3a9}\u{b5}\u{b0}\u{1f600}";
+
 pub fn all() -> Vec<Input> {
     vec![
         plain(),
         bench_lines("bench", MIB, 4),
         bench_lines("line", LINE.len(), 20_000),
-        repeated("fields", 1, "{x}{y!r}{z:>5}{a[0]}{b(c)}", MIB, 4),
-        repeated(
-            "utf8",
-            1,
-            "\u{3a9} = 47 \u{b5}\u{3a9}, \u{394}T \u{2264} 5 \u{b0}C, \u{6e2c}\u{5b9a}\u{5024} ",
-            MIB,
-            4,
-        ),
-        repeated("escapes", 0, "\\t\\x41\\u03a9 \\N{DEGREE SIGN}\\n\\101\\\\ ", MIB, 4),
+        repeated("fields", 1, FIELDS, MIB, 4),
+        repeated("utf8", 1, UTF8, MIB, 4),
+        repeated("escapes", 0, ESCAPES, MIB, 4),
         lists(),
     ]
 }
 
 /// Plain text in an f-string.
 pub fn plain() -> Input {
-    repeated("plain", 1, "The quick brown fox jumps over the lazy dog. 0123456789, ", MIB, 8)
+    repeated("plain", 1, PLAIN, MIB, 8)
+}
+
+/// One f-string of a size each: plain text, text without ASCII, both, bench lines, fields, escapes, doubled braces.
+pub fn bodies(size: usize, times: usize) -> Vec<Input> {
+    [
+        ("plain", PLAIN),
+        ("wide", WIDE),
+        ("utf8", UTF8),
+        ("bench", LINE),
+        ("fields", FIELDS),
+        ("escapes", ESCAPES),
+        ("braces", "{{}}"),
+    ]
+    .map(|(name, unit)| repeated(name, 1, unit, size, times))
+    .into()
 }
 
 /// Bench lines up to a size, each line whole.

@@ -11,6 +11,7 @@
 #[path = "../../bindings/rust/src/call.rs"]
 mod call;
 mod compare;
+mod cuts;
 mod inputs;
 mod listing;
 mod names;
@@ -76,6 +77,7 @@ fn main() {
     replay::measure(&std::fs::read(trace).expect("the trace can be read"));
     compare::measure();
     written::measure(&mut buffers);
+    cuts::measure(&mut buffers);
     if let Some(names) = argument(5) {
         names::measure(&std::fs::read(names).expect("the file of names can be read"));
     }

@@ -90,7 +90,7 @@ class Checks(unittest.TestCase):
     def test_each_condition_for_every_list_of_cuts(self):
         alphabet = [b"a", b"{", b"}", b"\\", b"0", b"7", b"n", "é".encode(), b"x"]
         bodies = [b"".join(letters) for size in range(5) for letters in itertools.product(alphabet, repeat=size)]
-        bodies = random.Random(10).sample(bodies, 700) + [b"{x}a{y!r}", b"\\N{OHM SIGN}", b"\\1012", b"{{{x:{w}}}}"]
+        bodies = random.Random(10).sample(bodies, 700) + [b"{x}a{y!r}", b"\\N{OHM SIGN}", b"\\1012", b"{{{x:{w}}}}", "aΩ測😀b".encode()]
         for body in bodies:
             inside = range(1, len(body))
             every = itertools.chain(*(itertools.combinations(inside, size) for size in range(min(len(body), 4))))

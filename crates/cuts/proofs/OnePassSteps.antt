@@ -1,11 +1,11 @@
 -- The one passes with the one number of tokens that serves every place of a body: what a proof of code cites. Assumes nothing.
-use mathlib.Core.Path.{_≡_, refl, ap}
+use mathlib.Core.Path.{_≡_, refl, sym, ap, _∙_}
 use mathlib.Core.Bool.{Bool, true, false}
 use mathlib.Core.List.{List, []}
 use mathlib.Core.Option.{Option, none, some}
 use Prim.Native.Nat.{ℕ, zero, suc, _+_, _≤_, _<_}
 use native.Mathlib.Omega.{arith}
-use borrow.Author.Tests.{leb-false, le-leb, lt-leb}
+use borrow.Author.Tests.{leb-true, leb-false, le-leb, lt-leb}
 use lib.Dec.{leb}
 use lib.ListN.{length}
 use Rattle.definition.specs.Chars.{atEnd}
@@ -61,6 +61,14 @@ module _ (s : List ℕ) (limit start i : ℕ) where
       pub plan-none : start + limit < j → i + limit < j → planAt s limit start i ≡ none
       unfolding planLoop
       plan-none k g = rw (lt-leb (length s) i h, e, lt-leb j (start + limit) k, lt-leb j (i + limit) g, planLoop) refl
+
+-- a token that does not fit is planned as in a piece that begins with it
+pub plan-again : (s : List ℕ) (limit start i : ℕ) (h : i < length s) (j : ℕ) → tokenEnd s i ≡ some j → start + limit < j → planAt s limit start i ≡ withFirst i (planAt s limit i i)
+unfolding withFirst
+plan-again s limit start i h j e k =
+    cases (leb j (i + limit))
+    (λ t. let l = leb-true j (i + limit) t in plan-cut s limit start i h j e k l ∙ ap (withFirst i) (sym (plan-on s limit i i h j e l)))
+    (λ t. let l = leb-false j (i + limit) t in plan-none s limit start i h j e k l ∙ sym (ap (withFirst i) (plan-none s limit i i h j e l l)))
 
 -- THE CHECK at a boundary i, with the cuts that are left
 check-fuel : (s : List ℕ) (n m i : ℕ) (cs : List ℕ) (d : Bool) → i ≤ length s → length s < i + n → length s < i + m → checkLoop n s i cs d ≡ checkLoop m s i cs d

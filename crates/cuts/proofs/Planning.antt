@@ -6,15 +6,18 @@ use Prim.Native.Nat.{ℕ, suc, _+_, _≤_, _<_, zero-le}
 use native.Mathlib.Nat.{zero-add}
 use native.Mathlib.Omega.{arith}
 use lib.ListN.{length, length-append}
+use Rattle.definition.specs.Chars.{wellFormed}
 use Rattle.definition_cuts.specs.Tokens.{tokenEnd, withFirst}
 use Rattle.cuts.specs.OnePass.{planAt}
 use Rattle.cuts.proofs.OnePassSteps.{plan-end, plan-refused, plan-on, plan-cut, plan-none}
 use Rattle.buffers.specs.Over.{over}
 use Rattle.buffers.proofs.Over.{over-nil, over-append, length-over}
+use Rattle.definition_cuts.proofs.tokens.FormedPaths.{Formed, formed-front, formed-head, formed-at, all-formed}
+use Rattle.definition_cuts.proofs.tokens.TokenMarks.{token-formed}
 use Rattle.plain.specs.Plain.{plainEnd}
-use Rattle.cuts.proofs.PlainRuns.{Run, no-run, run-found, run-later, plan-run, plan-run-cut, plan-run-none}
+use Rattle.cuts.proofs.PlainRuns.{Run, no-run, run-found, run-later, start-path, plan-run, plan-run-cut, plan-run-none}
 use Rattle.cuts.specs.declared.Made.the-variants.{Cuts, Nothing}
-use Rattle.cuts.specs.Answers.{PlanIs}
+use Rattle.cuts.specs.Answers.{PlanIs, StartIs}
 
 -- a plan with cuts in front
 abbrev onto : List ℕ → Option (List ℕ) → Option (List ℕ)
@@ -30,7 +33,7 @@ unfolding withFirst
 onto-first cs i none = refl
 onto-first cs i (some ds) = ap some (sym (append-assoc cs (i ∷ []) ds))
 
--- n cuts written, tokens read up to i, a piece begun at `start`; what stands from i up to `plain` is plain ASCII
+-- n cuts written, tokens read up to i, a piece begun at `start`; what stands from i up to `plain` is plain
 pub record Planning (s : List ℕ) (limit : ℕ) (list₀ list : List ℕ) (start i n plain : ℕ) : Type 0 where
   pub cuts : List ℕ
   pub is : planAt s limit 0 0 ≡ onto cuts (planAt s limit start i)
@@ -39,11 +42,12 @@ pub record Planning (s : List ℕ) (limit : ℕ) (list₀ list : List ℕ) (star
   pub inside : i ≤ length s
   pub begun : start ≤ i
   pub reach : i ≤ start + limit
-  pub few : n ≤ i
+  pub few : n ≤ start
+  pub formed : Formed s i (length s)
   pub run : Run s i plain
 
-pub planning : (s : List ℕ) (limit : ℕ) (list : List ℕ) → Planning s limit list list 0 0 0 0
-planning s limit list = record {
+pub planning : (s : List ℕ) (limit : ℕ) (list : List ℕ) → length s ≤ wellFormed s → Planning s limit list list 0 0 0 0
+planning s limit list f = record {
   cuts = [];
   is = onto-none _;
   count = refl;
@@ -52,7 +56,8 @@ planning s limit list = record {
   begun = zero-le;
   reach = zero-le;
   few = zero-le;
-  run = no-run s 0 zero-le;
+  formed = all-formed s f;
+  run = no-run s 0 zero-le (formed-head s 0 (length s) (all-formed s f) refl);
 }
 
 module _ (s : List ℕ) (limit : ℕ) (list₀ list : List ℕ) (start i n plain : ℕ) (g : Planning s limit list₀ list start i n plain) where
@@ -63,8 +68,8 @@ module _ (s : List ℕ) (limit : ℕ) (list₀ list : List ℕ) (start i n plain
   nothing e = (g .is ∙ ap (onto (g .cuts)) e, same-list)
 
   -- on to j in the same piece
-  onward : (j : ℕ) → planAt s limit start i ≡ planAt s limit start j → i ≤ j → j ≤ length s → j ≤ start + limit → Planning s limit list₀ list start j n plain
-  onward j e l k r = record {
+  onward : (j : ℕ) → planAt s limit start i ≡ planAt s limit start j → i ≤ j → j ≤ length s → j ≤ start + limit → Formed s j (length s) → Planning s limit list₀ list start j n plain
+  onward j e l k r f = record {
     cuts = g .cuts;
     is = g .is ∙ ap (onto (g .cuts)) e;
     count = g .count;
@@ -72,44 +77,50 @@ module _ (s : List ℕ) (limit : ℕ) (list₀ list : List ℕ) (start i n plain
     inside = k;
     begun = let b = g .begun in omega arith;
     reach = r;
-    few = let f = g .few in omega arith;
+    few = g .few;
+    formed = f;
     run = run-later s i j plain l (g .run);
   }
 
   -- a cut at c, and on to j
-  cut-at : (c j : ℕ) → planAt s limit start i ≡ withFirst c (planAt s limit c j) → i ≤ c → c < j → j ≤ length s → j ≤ c + limit
+  cut-at : (c j : ℕ) → planAt s limit start i ≡ withFirst c (planAt s limit c j) → start < c → i ≤ j → c ≤ j → j ≤ length s → j ≤ c + limit → Formed s j (length s)
       → (list′ : List ℕ) → list′ ≡ over list n (c ∷ []) → Planning s limit list₀ list′ c j (n + 1) plain
-  cut-at c j e a b k r list′ w = record {
+  cut-at c j e a l b k r f list′ w = record {
     cuts = g .cuts ++ (c ∷ []);
     is = g .is ∙ ap (onto (g .cuts)) e ∙ onto-first (g .cuts) c (planAt s limit c j);
     count = let x = g .count in let z = length-append (g .cuts) (c ∷ []) in omega arith;
     wrote = w ∙ ap (λ l. over l n (c ∷ [])) (g .wrote) ∙ ap (λ m. over (over list₀ 0 (g .cuts)) m (c ∷ [])) (g .count ∙ sym (zero-add (length (g .cuts)))) ∙ over-append list₀ 0 (g .cuts) (c ∷ []);
     inside = k;
-    begun = omega arith;
+    begun = b;
     reach = r;
-    few = let f = g .few in omega arith;
-    run = run-later s i j plain (omega arith) (g .run);
+    few = let x = g .few in omega arith;
+    formed = f;
+    run = run-later s i j plain l (g .run);
   }
 
   pub done : length s ≤ i → PlanIs (planAt s limit 0 0) list₀ list (Cuts n)
   done h = (g .cuts, g .is ∙ ap (onto (g .cuts)) (plan-end s limit start i h) ∙ ap some (append-nil (g .cuts)), g .count, g .wrote)
 
-  -- A RUN is found; it fits into the piece; it is cut at the limit; or nothing may be as long as a byte
-  pub found : (e : ℕ) → e ≡ plainEnd 2 s i → Planning s limit list₀ list start i n e
-  found e q = record { cuts = g .cuts; is = g .is; count = g .count; wrote = g .wrote; inside = g .inside; begun = g .begun; reach = g .reach; few = g .few; run = run-found s i e (g .inside) q }
+  -- A RUN is found; it fits into the piece; it is cut; or a character of it is longer than the limit
+  pub found : (e : ℕ) → e ≡ plainEnd 1 s i → Planning s limit list₀ list start i n e
+  found e q = record { cuts = g .cuts; is = g .is; count = g .count; wrote = g .wrote; inside = g .inside; begun = g .begun; reach = g .reach; few = g .few; formed = g .formed; run = run-found s i e (g .inside) q }
 
   module _ (h : i < plain) where
     pub run-on : plain ≤ start + limit → Planning s limit list₀ list start plain n plain
-    run-on l = onward plain (plan-run s limit start i plain (omega arith) (g .run) l) (omega arith) (g .run .within) l
+    run-on l =
+        let p = formed-at s i (length s) plain (g .formed) refl (omega arith) (g .run .within) (g .run .ends) in
+        onward plain (plan-run s limit start i plain p (g .run .bytes) (g .run .within) l) (omega arith) (g .run .within) l (formed-front s i plain (length s) p (g .formed) refl)
 
-    pub run-cut : start + limit < plain → (limit ≡ 0 → ⊥) → (list′ : List ℕ) → list′ ≡ over list n ((start + limit) ∷ []) → Planning s limit list₀ list′ (start + limit) (start + limit + 1) (n + 1) plain
-    run-cut l z list′ w =
-        let k = g .run .within in
-        let p : 0 < limit = omega arith in
-        cut-at (start + limit) (start + limit + 1) (plan-run-cut s limit start i plain (g .run) (start + limit) (g .reach) l refl p) (g .reach) (omega arith) (omega arith) (omega arith) list′ w
+    module _ (c : ℕ) (f : StartIs s i (start + limit) c) (l : start + limit < plain) where
+      pub run-cut : start < c → (list′ : List ℕ) → list′ ≡ over list n (c ∷ []) → Planning s limit list₀ list′ c c (n + 1) plain
+      run-cut z list′ w =
+          let k = g .run .within in
+          let y = f .within in
+          let p = start-path s i (start + limit) c (g .formed) f (omega arith) in
+          cut-at c c (plan-run-cut s limit start i plain (g .run) (g .formed) c f l) z (f .on) (omega arith) (omega arith) (omega arith) (formed-front s i c (length s) p (g .formed) refl) list′ w
 
-    pub run-none : limit ≡ 0 → PlanIs (planAt s limit 0 0) list₀ list Nothing
-    run-none z = nothing (plan-run-none s limit start i plain (g .run) h (g .begun) z)
+      pub run-none : c ≤ start → PlanIs (planAt s limit 0 0) list₀ list Nothing
+      run-none z = nothing (plan-run-none s limit start i plain (g .run) (g .formed) c f l z)
 
   module _ (h : i < length s) where
     pub refused : tokenEnd s i ≡ none → PlanIs (planAt s limit 0 0) list₀ list Nothing
@@ -117,10 +128,10 @@ module _ (s : List ℕ) (limit : ℕ) (list₀ list : List ℕ) (start i n plain
 
     module _ (j : ℕ) (e : tokenEnd s i ≡ some j) (l : i < j) (k : j ≤ length s) where
       pub on : j ≤ start + limit → Planning s limit list₀ list start j n plain
-      on f = onward j (plan-on s limit start i h j e f) (omega arith) k f
+      on f = onward j (plan-on s limit start i h j e f) (omega arith) k f (token-formed s i j h e (g .formed))
 
       pub too-long : start + limit < j → i + limit < j → PlanIs (planAt s limit 0 0) list₀ list Nothing
       too-long a b = nothing (plan-none s limit start i h j e a b)
 
       pub cut : start + limit < j → j ≤ i + limit → (list′ : List ℕ) → list′ ≡ over list n (i ∷ []) → Planning s limit list₀ list′ i j (n + 1) plain
-      cut a b list′ w = cut-at i j (plan-cut s limit start i h j e a b) (omega arith) l k b list′ w
+      cut a b list′ w = cut-at i j (plan-cut s limit start i h j e a b) (omega arith) (omega arith) (omega arith) k b (token-formed s i j h e (g .formed)) list′ w

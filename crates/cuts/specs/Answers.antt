@@ -1,11 +1,12 @@
 -- What the planner, the pass over a token and the check answer.
-use Prim.Native.Nat.{ℕ, _≤_}
+use Prim.Native.Nat.{ℕ, _≤_, _<_}
 use mathlib.Core.Path.{_≡_}
-use mathlib.Core.Bool.{Bool}
+use mathlib.Core.Bool.{Bool, true, false}
 use mathlib.Core.List.{List, [], _∷_, _++_}
 use mathlib.Core.Option.{Option, none, some}
 use lib.ListN.{length, drop, replicate}
 use Rattle.definition.specs.Numbers.{tooLittleCutRoom}
+use Rattle.definition.specs.Chars.{byte, _to_, inside}
 use Rattle.definition_cuts.specs.Plan.{PlanCall, planNumbers}
 use Rattle.cuts.specs.OnePass.{Cursor}
 use Rattle.buffers.specs.Over.{over}
@@ -26,6 +27,17 @@ says (planned.Short n) = tooLittleCutRoom ∷ replicate 8 0 ++ (n ∷ [])
 
 abbrev pub PlannedIs : PlanCall → List ℕ → Planned → Type 0
 PlannedIs call list′ r = (says r ≡ planNumbers (call .result)) × (list′ ≡ call .list)
+
+-- the bytes after i and up to j are of 80 to BF, with which no character begins
+abbrev pub Tails : List ℕ → ℕ → ℕ → Type 0
+Tails s i j = (k : ℕ) → i < k → k ≤ j → inside (0x80 to 0xBF) (byte s k) ≡ true
+
+-- the last place no later than j where a character may begin; i, if there is none after it
+pub record StartIs (s : List ℕ) (i j r : ℕ) : Type 0 where
+  pub on : i ≤ r
+  pub within : r ≤ j
+  pub tails : Tails s r j
+  pub first : i < r → inside (0x80 to 0xBF) (byte s r) ≡ false
 
 -- a plan, and the list before and after
 abbrev pub PlanIs : Option (List ℕ) → List ℕ → List ℕ → Made → Type 0

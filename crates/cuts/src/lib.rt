@@ -1,6 +1,7 @@
 // Long templates broken over lines: the check of cut offsets in a body of kind 1, and the planner.
 use buffers::fill_words;
 use buffers::put_word;
+use plain::is_plain_at;
 use plain::plain_end;
 use tokens::Token;
 use tokens::token_end;
@@ -9,14 +10,14 @@ ghost use mathlib.Core.Bool.{true, false};
 ghost use Prim.Native.Nat.{_≤_, _<_};
 ghost use lib.Dec.{leb};
 ghost use lib.ListN.{length, drop};
-ghost use Rattle.definition.specs.Chars.{wellFormed};
+ghost use Rattle.definition.specs.Chars.{byte, _to_, inside, wellFormed};
 ghost use Rattle.definition.specs.Escapes.{heldNames};
 ghost use Rattle.definition.specs.Reading.{readAlone};
 ghost use Rattle.definition_cuts.specs.Cuts.{rise, pieces, allShort, allRead, isRead, checked};
 ghost use Rattle.definition_cuts.specs.Standing.{octalAt};
 ghost use Rattle.definition_cuts.specs.Plan.{planInto};
 ghost use Rattle.cuts.specs.OnePass.{planAt, inToken, checkAt};
-ghost use Rattle.cuts.specs.Answers.{PlanIs, PassIs, VerdictIs, PlannedIs};
+ghost use Rattle.cuts.specs.Answers.{StartIs, PlanIs, PassIs, VerdictIs, PlannedIs};
 
 const LARGEST_BODY: usize = 1048576;
 
@@ -28,8 +29,8 @@ const PIECE_REFUSED: u32 = 66;
 
 const READINGS_DIFFER: u32 = 67;
 
-// The kind of bytes: what is plain there is plain ASCII, of which each byte is a token.
-const BYTES: u32 = 2;
+// The kind of an f-string: each character of what is plain there is a token.
+const F_STRING: u32 = 1;
 
 // How many cuts a plan has; or there is none.
 enum Made {
@@ -37,9 +38,37 @@ enum Made {
     Nothing,
 }
 
+// Whether the byte at an index is one of 80 to BF, with which no character begins.
+fn is_tail(s: &[u8], at: usize) -> bool
+    requires { ⌜ at < length (now s) ⌝ }
+    ensures { λ r. ⌜ r ≡ inside (0x80 to 0xBF) (byte (now (s .entry)) at) ⌝ }
+{
+    let b = s[at];
+    if b < 0x80 {
+        return false;
+    }
+    b <= 0xBF
+}
+
+// The last index no later than one, and no earlier than another, where a character begins; else that other.
+fn start_at(s: &[u8], from: usize, at: usize) -> usize
+    requires { ⌜ (from ≤ at) × (at < length (now s)) ⌝ }
+    ensures { λ r. ⌜ StartIs (now (s .entry)) from at r ⌝ }
+{
+    let mut i = at;
+    while from < i {
+        if is_tail(s, i) {
+            i -= 1;
+            continue;
+        }
+        return i;
+    }
+    i
+}
+
 // The plan's cuts, written from the front of a list as far as there is room.
 fn plan_into(s: &[u8], limit: u32, list: &mut [u32]) -> Made
-    requires { ⌜ length (now s) ≤ 1048576 ⌝ }
+    requires { ⌜ (length (now s) ≤ 1048576) × (length (now s) ≤ wellFormed (now s)) ⌝ }
     ensures { λ r. ⌜ PlanIs (planAt (now (s .entry)) limit 0 0) (now (list .entry)) (now (list .exit)) r ⌝ }
 {
     let room = limit as usize;
@@ -54,18 +83,18 @@ fn plan_into(s: &[u8], limit: u32, list: &mut [u32]) -> Made
                 i = plain;
                 continue;
             }
-            if room == 0 {
+            let c = start_at(s, i, end);
+            if c <= start {
                 return Made::Nothing;
             }
-            put_word(list, n, end as u32);
+            put_word(list, n, c as u32);
             n += 1;
-            start = end;
-            i = end + 1;
+            start = c;
+            i = c;
             continue;
         }
-        let run = plain_end(s, i, BYTES);
-        if i < run {
-            plain = run;
+        if is_plain_at(s, i, F_STRING) {
+            plain = plain_end(s, i, F_STRING);
             continue;
         }
         let t = token_end(s, i);
@@ -133,7 +162,6 @@ fn pass_token(s: &[u8], i: usize, j: usize, cuts: &[u32], from: usize, flag: boo
     requires { ⌜ (i < length (now s)) × (length (now s) ≤ 1048576) × (from ≤ length (now cuts)) ⌝ }
     ensures { λ r. ⌜ PassIs (inToken (now (s .entry)) i j (drop from (now (cuts .entry))) flag) (now (cuts .entry)) from r ⌝ }
 {
-    let octal = octal_at(s, i);
     let mut k = from;
     let mut differs = flag;
     while k < cuts.len() {
@@ -145,7 +173,7 @@ fn pass_token(s: &[u8], i: usize, j: usize, cuts: &[u32], from: usize, flag: boo
             k += 1;
             continue;
         }
-        if octal {
+        if octal_at(s, i) {
             if c < i + 2 {
                 return Passing::Inside;
             }
@@ -165,7 +193,7 @@ enum Verdict {
 }
 
 fn check_cuts(s: &[u8], cuts: &[u32]) -> Verdict
-    requires { ⌜ length (now s) ≤ 1048576 ⌝ }
+    requires { ⌜ (length (now s) ≤ 1048576) × (length (now s) ≤ wellFormed (now s)) ⌝ }
     ensures { λ r. ⌜ VerdictIs (checkAt (now (s .entry)) 0 (now (cuts .entry)) false) r ⌝ }
 {
     let mut i = 0;
@@ -186,13 +214,15 @@ fn check_cuts(s: &[u8], cuts: &[u32]) -> Verdict
             if c < i {
                 return Verdict::Refused;
             }
+            if is_tail(s, c) {
+                return Verdict::Refused;
+            }
             i = c;
             k += 1;
             continue;
         }
-        let run = plain_end(s, i, BYTES);
-        if i < run {
-            plain = run;
+        if is_plain_at(s, i, F_STRING) {
+            plain = plain_end(s, i, F_STRING);
             continue;
         }
         let t = token_end(s, i);

@@ -6,11 +6,11 @@ use Prim.Native.Nat.{ℕ, zero, suc, _+_, _-_, _*_, _≤_, _<_}
 use native.Mathlib.Omega.{arith}
 use borrow.Author.Tests.{ltb-true, ltb-false, leb-true, leb-false, le-leb, eqb-true, eqb-false}
 use lib.Dec.{ltb, leb, eqb}
-use lib.ListN.{length, drop}
+use lib.ListN.{length, drop, List·getD-eq-default}
 use Rattle.definition.specs.Chars.{_is_, byte, part, noCode, atEnd, inside, _to_, width, code, next, char, formedFrom, wellFormed, before}
 use Rattle.definition.specs.Escapes.{Naming, Fault, fault, Read, got, refused, Meaning, stands, stays, vanishes, octalDigit, octalFrom, hexDigit, scalar, hexFrom, named, unicodeName, EscapeCase, ended, simple, octal, hex, name, newline, foreign, other, escapeCase, escape}
 use Rattle.definition.specs.Body.{Piece, Move, goes, stops, calls, ends, withEscape, TextCase, deep, opens, last, doubled, lone, textCase, textMove, fresh, enough}
-use Rattle.definition.proofs.moves.CharLaws.{cases, between, next-past, next-in, next-from, width-in, width-end, width-ascii, code-end, first-passes}
+use Rattle.definition.proofs.moves.CharLaws.{cases, no, inside-yes, inside-not, tail-none, between, next-past, next-in, next-from, next-ascii, width-in, width-end, code-end, first-passes}
 use Rattle.definition_cuts.proofs.windows.Window.{Window, At, width-like}
 use Rattle.definition_cuts.proofs.windows.WindowEscapes.{not-got}
 use Rattle.definition_cuts.proofs.windows.Closed.{field-closed}
@@ -61,7 +61,7 @@ module _ (s : List ℕ) where
   formed-front i j k (char-on w x F) done e = let z = width-end s i (omega arith) in absurd (omega arith)
   formed-front i j k (char-on w x F) (char-on w′ x′ G) e = let z : suc w ≡ suc w′ = sym x ∙ x′ in formed-front (i + suc w) j k F (subst (λ (n : ℕ). Formed (i + n) k) (sym z) G) e
 
-  next-wide : (i w : ℕ) → width s i ≡ suc w → next s i ≡ i + suc w
+  pub next-wide : (i w : ℕ) → width s i ≡ suc w → next s i ≡ i + suc w
   unfolding next
   next-wide i w e = cases (leb (length s) i) (λ t. let z = width-end s i (leb-true _ _ t) in absurd (omega arith)) (λ t. rw (t, e) (omega arith))
 
@@ -71,22 +71,32 @@ module _ (s : List ℕ) where
   formed-next i k done e l = rw (le-leb (length s) i (omega arith)) done
   formed-next i k (char-on w x F) e l = subst (λ (n : ℕ). Formed i n) (sym (next-wide i w x)) (char-on w x done)
 
+  -- characters begin at the bytes that are not 80 to BF, and at no other
+  abbrev pub Head : ℕ → Type 0
+  Head i = inside (0x80 to 0xBF) (byte s i) ≡ false
+
+  pub formed-head : (i k : ℕ) → Formed i k → k ≡ length s → Head i
+  formed-head i k done e = let h : length s ≤ i = omega arith in rw (List·getD-eq-default s 256 h) refl
+  formed-head i k (char-on w x F) e = inside-not 0x80 0xBF (byte s i) (λ a b. let z = tail-none s i (a, b) in omega arith)
+
+  pub formed-at : (i k c : ℕ) → Formed i k → k ≡ length s → i ≤ c → c ≤ length s → Head c → Formed i c
+  formed-at i k c done e a b h = let z : i ≡ c = omega arith in subst (λ (n : ℕ). Formed i n) z done
+  formed-at i k c (char-on w x F) e a b h =
+      cases (ltb c (i + suc w))
+      (λ t.
+      let l = ltb-true c (i + suc w) t in
+      cases (eqb i c) (λ q. subst (λ (n : ℕ). Formed i n) (eqb-true i c q) done)
+      (λ q.
+      let ne = eqb-false i c q in
+      let v = between s i c (omega arith) (omega (arith, next-wide i w x)) in
+      no (sym h ∙ inside-yes 0x80 0xBF (byte s c) (v .0) (v .1))))
+      (λ t. char-on w x (formed-at (i + suc w) k c F e (ltb-false c (i + suc w) t) b h))
+
   -- after an ASCII byte
   pub formed-ascii : (i k r : ℕ) → Formed i k → k ≡ length s → i ≤ r → r < length s → byte s r < 0x80 → Formed i (r + 1)
-  formed-ascii i k r done e h l b = absurd (omega arith)
-  formed-ascii i k r (char-on w x F) e h l b =
-      cases (ltb r (i + suc w))
-      (λ t.
-      let rt = ltb-true r (i + suc w) t in
-      cases (eqb r i)
-      (λ q.
-      let z = eqb-true r i q in
-      let y : width s i ≡ 1 = ap (width s) (sym z) ∙ width-ascii s r b in
-      subst (λ (n : ℕ). Formed i n) (omega arith) (char-on {i = i} w x done))
-      (λ q.
-      let ne = eqb-false r i q in
-      absurd (let v = between s i r (omega arith) (omega (arith, next-wide i w x)) in omega (arith, v .0))))
-      (λ t. char-on w x (formed-ascii (i + suc w) k r F e (ltb-false r (i + suc w) t) l b))
+  formed-ascii i k r F e h l b =
+      let G = formed-at i k r F e h (omega arith) (inside-not 0x80 0xBF (byte s r) (λ a c. omega arith)) in
+      formed-append i r (r + 1) G (subst (λ (n : ℕ). Formed r n) (next-ascii s r b) (formed-next r k (formed-front i r k G F e) e (omega arith)))
 
   -- ESCAPES
   digit-in : (f : ℕ → ℕ) (n p : ℕ) → f noCode ≡ n → f (code s p) < n → p < length s

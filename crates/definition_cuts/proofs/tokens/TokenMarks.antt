@@ -15,6 +15,7 @@ use Rattle.definition_cuts.specs.Tokens.{endOf, moveEnd, staying, tokenE
 use Rattle.definition.proofs.moves.CharLaws.{cases}
 use Rattle.definition_cuts.proofs.tokens.TokenSteps.{step, step-goes, step-stops, step-calls, step-ends, step-ahead}
 use Rattle.definition_cuts.proofs.tokens.TokenPaths.{Tokens, one, two, tokens-steps, steps-later, staying-next, staying-step, staying-to}
+use Rattle.definition_cuts.proofs.tokens.FormedPaths.{Formed, formed-front, steps-formed}
 use Rattle.definition_cuts.proofs.cuts.AloneLaws.{Fit}
 
 pub no-some : {P A : Type 0} (a : A) → _≡_ {A = Option A} none (some a) → P
@@ -67,6 +68,13 @@ module _ (s : List ℕ) where
       let B = end-got (step heldNames s i) j (sym (move-step i) ∙ e′) in
       let a = step-ahead heldNames s i j (B .0) (omega arith) (B .1) in
       (B .0, (λ k qs T. one y h (B .1) T), a .0, a .1))
+
+  -- in well-formed text it ends where a character does
+  pub token-formed : (i j : ℕ) → i < length s → tokenEnd s i ≡ some j → Formed s i (length s) → Formed s j (length s)
+  token-formed i j h e F =
+      let O = token-on i j h e in
+      let S = tokens-steps heldNames s i j (O .0 ++ []) (O .1 j [] Tokens.none) in
+      formed-front s i j (length s) (steps-formed s heldNames i j (O .0 ++ []) S F (omega arith)) F refl
 
   -- the first token of some
   pub first-token : (i k : ℕ) (ps : List Piece) → Tokens heldNames s i k ps → i < k → (j : ℕ) × (qs : List Piece) × (tokenEnd s i ≡ some j) × Tokens heldNames s j k qs × (i < length s)
