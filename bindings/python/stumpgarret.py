@@ -78,6 +78,7 @@ __all__ = [
     "Kind",
     "Sort",
     "Reason",
+    "FieldClass",
     "Literal",
     "Listing",
     "Text",
@@ -168,6 +169,23 @@ REASONS = {
     Reason.REPR: "repr: `=` with no spec",
     Reason.SPEC: "none: `=` with a spec",
 }
+
+
+class FieldClass(enum.Enum):
+    """Whether a field rounds a number, by its conversion and its spec alone: it rounds, by a type of e E f F g G n % or a
+    precision without a type; its spec has a field, so that its digits are decided when it runs; its spec is not of the
+    mini-language but a type's own, as dates have; what is formatted is text, by a conversion or the type s; it is none of
+    these. A type with a `__format__` of its own may round by any spec."""
+
+    ROUNDS = "rounds"
+    COMPUTED = "computed"
+    OWN = "own"
+    TEXT = "text"
+    EXACT = "exact"
+
+    @property
+    def may_round(self) -> bool:
+        return self in (FieldClass.ROUNDS, FieldClass.COMPUTED, FieldClass.OWN)
 
 
 @dataclass(frozen=True)
@@ -1075,7 +1093,7 @@ class ScriptField:
     count from 1, columns by characters (those of `ast` count from 0, by UTF-8 bytes). `expression` and `spec` are as
     they are written; `spec` is None if there is no `:`. `documented` says whether a self-documenting `=` follows the
     expression; of one that goes on after it (75) `expression` is all of the source. `depth` says in how many other
-    fields, by expression or spec, it stands."""
+    fields, by expression or spec, it stands; `class_` whether it rounds."""
 
     line: int
     column: int
@@ -1087,6 +1105,28 @@ class ScriptField:
     spec: str | None
     depth: int
     row: FieldRow
+
+    @property
+    def class_(self) -> FieldClass:
+        """Whether it rounds. A conversion comes first: what is formatted is text then, whatever the spec."""
+        if self.conversion is not None:
+            return FieldClass.TEXT
+        return FieldClass.EXACT if self.spec is None else _class_of(self.spec)
+
+
+@functools.lru_cache(maxsize=4096)
+def _class_of(spec: str) -> FieldClass:
+    """By a spec as it is written. One with a brace has a field, or asks for a name of a character, which is 75 too; one with
+    an escape is of the mini-language only as a fill, before an align, where Python has no escape."""
+    if "{" in spec:
+        return FieldClass.COMPUTED
+    try:
+        told = Spec.parse(spec)
+    except Refusal:
+        return FieldClass.OWN
+    if told.type == "s":
+        return FieldClass.TEXT
+    return FieldClass.ROUNDS if told.rounds else FieldClass.EXACT
 
 
 @dataclass(frozen=True)

@@ -23,8 +23,9 @@ from dataclasses import dataclass
 import stumpgarret
 import stumpgarret_files
 import stumpgarret_notebook
+import stumpgarret_rounds
 import stumpgarret_rules
-from stumpgarret import COMPLETE, INCOMPLETE, NAME_NOT_HELD, UNREAD, Refused, ScriptField, _one_line
+from stumpgarret import COMPLETE, INCOMPLETE, NAME_NOT_HELD, UNREAD, FieldClass, Refused, ScriptField, _one_line
 
 INTERRUPTED = 130
 PATIENCE_SECONDS = 2
@@ -32,6 +33,11 @@ CLOSED = "standard output is closed"
 NAME = re.compile(rb"[^}\n]*")
 PLACE = re.compile(r"(?P<line>[0-9]+)(?::(?P<column>[0-9]+))?: (?P<said>.*)", re.DOTALL)
 RED, GREEN, CYAN, YELLOW = 31, 32, 36, 33
+CLASSES = {
+    FieldClass.ROUNDS: "rounds",
+    FieldClass.COMPUTED: "may round: its spec has a field",
+    FieldClass.OWN: "may round: its spec is a type's own",
+}
 DESCRIPTION = """
 Lists every formatted field of the f-strings of Python scripts. The operator `%`, `str.format` and `format()` format
 too, and are not listed.
@@ -51,15 +57,23 @@ A name of a character, as in \N{DEGREE SIGN}, is looked for in a file of names, 
 SYSTEM_NAMES (Debian: unicode-data) if it is there; else fourteen names are known.
 A name that is not found is refused (13), and so is a file that is none (60, 61): nothing is listed by another then.
 
-The table [tool.stumpgarret] of the nearest pyproject.toml, from the working folder upwards, may have `exclude`, a list of
-patterns, and `names`, a path; both count from its folder.
+A field is of one of five classes, by its conversion and its spec alone. `rounds`: by a type of e E f F g G n %, or by a
+precision without a type. `computed`: its spec has a field, so its digits are decided when it runs. `own`: its spec is a
+type's own, as dates have. `text`: a conversion is written or implied, or the type is s; what is formatted is text.
+`exact`: none of these. --rounds prints the first three, and is not passed while there is one.
 
-Exit status: 0 if these are all fields of all scripts, 1 if something was refused (or --check found a difference),
-2 for a wrong use, for a script that cannot be read or decoded, for a file of names that cannot be read or is refused,
+A line of the FILE of --allow is `path:expression  # reason`: a field of this expression, as it is listed, may round in that
+script, whose path counts from the folder of FILE. It needs a reason. One that nothing is met by is told.
+
+The table [tool.stumpgarret] of the nearest pyproject.toml, from the working folder upwards, may have `exclude`, a list of
+patterns, `names`, a path, and `allow`, a list of paths; all count from its folder.
+
+Exit status: 0 if these are all fields of all scripts, 1 if something was refused (or --check found a difference, or
+--rounds something that is not allowed), 2 for a wrong use, for a script that cannot be read or decoded, for a file of names that cannot be read or is refused,
 without the shared library, and for any other failure; 130 if it was interrupted.
 """.replace("SYSTEM_NAMES", stumpgarret.SYSTEM_NAMES)
-USAGE = """%(prog)s [fields] [--why] [--json] [--html FILE] [--sarif FILE] [--names FILE] [--check]
-                   [--exclude GLOB] [--files-from FILE] [--isolated] [--quiet] SCRIPT...
+USAGE = """%(prog)s [fields] [--why] [--classes] [--rounds] [--allow FILE] [--json] [--html FILE] [--sarif FILE]
+                   [--names FILE] [--check] [--exclude GLOB] [--files-from FILE] [--isolated] [--quiet] SCRIPT...
        %(prog)s replay [--lf] SCRIPT:LINE[:COLUMN] TRACE   (%(prog)s replay --help)
        %(prog)s compare OLD[:LINE[:COLUMN]] NEW[:LINE[:COLUMN]]   (%(prog)s compare --help)
        %(prog)s wrap [--limit N] [--check OLD:LINE[:COLUMN]] SCRIPT:LINE[:COLUMN]   (%(prog)s wrap --help)
@@ -107,6 +121,11 @@ def _arguments(arguments: list[str]) -> argparse.Namespace:
         allow_abbrev=False,
     )
     parser.add_argument("--why", action="store_true", help="add the reason of each conversion")
+    parser.add_argument("--classes", action="store_true", help="add the class of each field: whether it rounds")
+    parser.add_argument("--rounds", action="store_true", help="list only what rounds or may round; status 1 if there is any")
+    parser.add_argument(
+        "--allow", metavar="FILE", action="append", default=[], help="accept what a list names, with reasons; repeatable"
+    )
     parser.add_argument("--json", action="store_true", help="a JSON object for each field, refusal and failure, and one last")
     parser.add_argument("--html", metavar="FILE", help="in place of the list write a page, to a file that ends in .html")
     parser.add_argument("--sarif", metavar="FILE", help="write what is refused to a file too, as SARIF 2.1.0")
@@ -129,14 +148,18 @@ def _arguments(arguments: list[str]) -> argparse.Namespace:
     except stumpgarret_files.Unusable as error:
         parser.exit(_fail(str(error)))
     given.names = given.project.names if given.names is None else given.names
+    try:
+        given.allowed = stumpgarret_rounds.allowed([*given.allow, *given.project.allow])
+    except stumpgarret_rounds.Unusable as error:
+        parser.exit(_fail(str(error)))
     given.names_path = _names_path(given.names)
     given.lent_names = functools.lru_cache(maxsize=None)(lambda: _names_of(given.names_path))
     if given.version:
         _say(parser, "\n".join([*_version_lines(), f"names of characters: {_names_said(given.names_path)}\n"]))
     if given.html is not None and not given.html.endswith(".html"):
         parser.error(f"--html needs a file that ends in .html before the scripts, and this is {given.html}")
-    if given.html and (given.json or given.why):
-        parser.error("--html goes with neither --json nor --why: the page says why, and there is no list")
+    if given.html and (given.json or given.why or given.classes):
+        parser.error("--html goes with none of --json, --why and --classes: the page says both, and there is no list")
     if given.check and sys.version_info[:2] != stumpgarret.PYTHON_OF_THE_CHECK:
         parser.error("--check needs Python 3.11, and this is {}.{}".format(*sys.version_info))
     if [*given.scripts, given.files_from].count(stumpgarret.STANDARD_INPUT) > 1:
@@ -288,6 +311,21 @@ class Counts:
     unreadable: int = 0
     differences: int = 0
     left_out: int = 0
+    rounding: int = 0
+    allowed: int = 0
+
+
+@dataclass(frozen=True)
+class Finding:
+    """What SARIF tells: by the number of a refusal or the name of another rule, in words, at a place; why it is allowed, if
+    it is."""
+
+    rule: int | str
+    said: str
+    part: Part
+    line: int
+    column: int | None
+    allowed: str | None = None
 
 
 class Report:
@@ -342,6 +380,7 @@ class Report:
         names = self.given.lent_names() if asks else None
         found = stumpgarret._list(script, names, names and _names_said(self.given.names_path))
         differing = stumpgarret.differences(source, found) if self.given.check else None
+        self.given.allowed.saw(part.path)
         self.counts.fields += len(found.fields)
         self.counts.refusals += len(found.refused)
         self.counts.differences += len(differing or ())
@@ -351,37 +390,62 @@ class Report:
             self.entry(part, script, entry)
         for one in found.refused:
             self.told(part.name, f"{one.line}:{one.column}", one.reason, self.change(script, one))
-            self.findings.append((one.number, one.reason, part, one.line, one.column))
+            self.findings.append(Finding(one.number, one.reason, part, one.line, one.column))
         for said in differing or ():
             self.differing(part, said)
         if self.on_page is not None:
             shown = {"name": part.name, "content": part.content, "text": text, "differences": differing}
             if asks:
                 shown["names"] = _names_said(self.given.names_path), names and names.file
-            rows = [self.page_row(script, entry) for entry in found.entries]
+            rows = [self.page_row(part, script, entry) for entry in found.entries]
             self.on_page.append({**shown, "entries": found.entries, "rows": rows, "complete": complete})
 
     def entry(self, part: Part, script: bytes, entry: ScriptField | Refused) -> None:
         """A line or an object of the list."""
-        if self.on_page is not None:
+        if isinstance(entry, Refused):
+            if self.on_page is None:
+                self.object("refusal", part, **_json(entry), change=self.change(script, entry))
             return
-        if self.given.json and isinstance(entry, Refused):
-            self.object("refusal", part, **_json(entry), change=self.change(script, entry))
-        elif self.given.json:
-            self.object("field", part, **{**_json(entry), "reason": entry.reason.name.lower()})
-        elif isinstance(entry, ScriptField):
-            place = self.out.paint(CYAN, _one_line(f"{part.name}:{entry.line}:{entry.column}"))
-            expression, conversion, spec = map(_one_line, stumpgarret._columns(entry))
-            shown = [place, expression, conversion, spec and self.out.paint(YELLOW, spec)]
-            self.progress.clear()
-            print(*shown, *([stumpgarret.REASONS[entry.reason]] if self.given.why else []), sep="\t")
+        allowed = self.allowed(part, entry)
+        if entry.class_.may_round:
+            self.rounding(part, entry, allowed)
+        if self.on_page is not None or self.given.rounds and not entry.class_.may_round:
+            return
+        if self.given.json:
+            said = {"reason": entry.reason.name.lower(), "class": entry.class_.value, "allowed": allowed}
+            self.object("field", part, **{**_json(entry), **said})
+        else:
+            self.line(part, entry, allowed)
+
+    def line(self, part: Part, entry: ScriptField, allowed: str | None) -> None:
+        place = self.out.paint(CYAN, _one_line(f"{part.name}:{entry.line}:{entry.column}"))
+        expression, conversion, spec = map(_one_line, stumpgarret._columns(entry))
+        shown = [place, expression, conversion, spec and self.out.paint(YELLOW, spec)]
+        shown += [stumpgarret.REASONS[entry.reason]] if self.given.why else []
+        shown += [entry.class_.value] if self.given.classes or self.given.rounds else []
+        shown += [f"allowed: {_one_line(allowed)}"] if self.given.rounds and allowed is not None else []
+        self.progress.clear()
+        print(*shown, sep="\t")
+
+    def allowed(self, part: Part, field: ScriptField) -> str | None:
+        """Why a field may round, by a list; None for one that no list has, and for one that does not."""
+        expression, _, _ = stumpgarret._columns(field)
+        return self.given.allowed.reason(part.path, _one_line(expression)) if field.class_.may_round else None
+
+    def rounding(self, part: Part, field: ScriptField, allowed: str | None) -> None:
+        """Counts a field that rounds or may."""
+        self.counts.rounding += allowed is None
+        self.counts.allowed += allowed is not None
+        if self.given.rounds:
+            said = f"{stumpgarret._braced(field)} {CLASSES[field.class_]}"
+            self.findings.append(Finding(field.class_.value, said, part, field.line, field.column, allowed))
 
     def differing(self, part: Part, said: str) -> None:
         place = PLACE.fullmatch(said)
         line, column = int(place["line"]), int(place["column"]) if place["column"] else None
         self.told(part.name, f"{line}:{column}" if column else f"{line}", place["said"])
         self.object("difference", part, line=line, column=column, meaning=place["said"])
-        self.findings.append((None, place["said"], part, line, column))
+        self.findings.append(Finding("python", place["said"], part, line, column))
 
     def failed(self, name: str, error: Exception, part: Part | None = None) -> None:
         """A script, a part of one, or a folder, that is not read."""
@@ -420,14 +484,15 @@ class Report:
             said += " No file of names is there: Debian's package unicode-data has it (apt-get install unicode-data)."
         return said
 
-    def page_row(self, script: bytes, entry: ScriptField | Refused) -> tuple[str, ...]:
+    def page_row(self, part: Part, script: bytes, entry: ScriptField | Refused) -> tuple[str, ...]:
         """What the page's table shows: of a refusal its words, what to change and the literal; of a field why, too, if it is
-        by a `=`."""
+        by a `=`, and why it may round, if a list says so."""
         if isinstance(entry, Refused):
             return entry.reason, self.change(script, entry), _literal(script, entry)
         expression, conversion, spec = stumpgarret._columns(entry)
         by_equals = entry.reason in (stumpgarret.Reason.REPR, stumpgarret.Reason.SPEC)
-        return expression, conversion, stumpgarret.REASONS[entry.reason] if by_equals else "", spec
+        allowed = self.allowed(part, entry)
+        return expression, conversion, stumpgarret.REASONS[entry.reason] if by_equals else "", spec, allowed
 
     def end(self, failure: str = "") -> int:
         """Writes the files, and the last lines; gives the exit status."""
@@ -440,22 +505,25 @@ class Report:
         if self.given.sarif:
             self.write(self.given.sarif, self.sarif(failure))
         complete = self.status == COMPLETE
+        for where, said in self.given.allowed.unmet() if not failure else ():
+            self.told(where, "", said)
+        rounding = self.given.rounds and self.counts.rounding > 0
         self.object("end", None, complete=complete, **vars(self.counts))
         if not self.given.quiet:
-            _complain(self.err.paint(GREEN if complete else RED, _summary(self.counts, complete)))
-        return self.status
+            said = _summary(self.counts, complete) + (_rounding_said(self.counts) if self.given.rounds else "")
+            _complain(self.err.paint(GREEN if complete and not rounding else RED, said))
+        return max(self.status, INCOMPLETE if rounding else COMPLETE)
 
     def page(self) -> str:
         import stumpgarret_page
 
-        return stumpgarret_page.page([stumpgarret_page.Script(**one) for one in self.on_page], _version_lines())
+        scripts = [stumpgarret_page.Script(**one) for one in self.on_page]
+        return stumpgarret_page.page(scripts, _version_lines(), self.given.rounds)
 
     def sarif(self, failure: str) -> str:
         import stumpgarret_sarif as sarif
 
-        results = [
-            sarif.result(number, said, part.path, part.cell, line, column) for number, said, part, line, column in self.findings
-        ]
+        results = [sarif.result(one, one.part.path, one.part.cell) for one in self.findings]
         failures = [sarif.failure(said, part.path, part.cell) for part, said in self.failures]
         failures += [sarif.failure(failure)] if failure else []
         return sarif.sarif(results, failures, ", ".join(_version_lines()))
@@ -482,6 +550,13 @@ def _summary(counts: Counts, complete: bool) -> str:
     said += "complete" if complete else "not complete" + (f": {', '.join(missing)}" if missing else "")
     parts = "line or cell" if counts.left_out == 1 else "lines or cells"
     return said + (f"; {counts.left_out:,} {parts} left out, not Python" if counts.left_out else "")
+
+
+def _rounding_said(counts: Counts) -> str:
+    """What --rounds found."""
+    verb = "rounds" if counts.rounding == 1 else "round"
+    said = f"{counts.rounding:,} {verb} or may" if counts.rounding else "nothing rounds"
+    return f"; {said}" + (f", {counts.allowed:,} allowed" if counts.allowed else "")
 
 
 def _count(number: int, name: str) -> str:

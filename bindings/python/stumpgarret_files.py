@@ -34,6 +34,7 @@ class Project:
     folder: str = ""
     exclude: tuple[str, ...] = ()
     names: str | None = None
+    allow: tuple[str, ...] = ()
 
 
 def scripts(
@@ -135,17 +136,18 @@ def _project(path: str, folder: str) -> Project | None:
         return None
     if not isinstance(table, dict):
         raise Unusable(f"{path}: tool.{TABLE} is no table")
-    known = {"exclude": _texts, "names": _text}
+    known = {"exclude": (_texts, "a list of patterns"), "names": (_text, "a path"), "allow": (_texts, "a list of paths")}
     said = {}
     for key, value in table.items():
         if key not in known:
             raise Unusable(f"{path}: [tool.{TABLE}] has a key {key}, and knows {', '.join(known)}")
-        said[key] = known[key](value)
+        read, wanted = known[key]
+        said[key] = read(value)
         if said[key] is None:
-            wanted = "a list of patterns" if key == "exclude" else "a path"
             raise Unusable(f"{path}: {key} of [tool.{TABLE}] is to be {wanted}")
     if "names" in said:
         said["names"] = os.path.join(folder, said["names"])
+    said["allow"] = tuple(os.path.join(folder, one) for one in said.get("allow", ()))
     return Project(folder, **said)
 
 

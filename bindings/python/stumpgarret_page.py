@@ -32,6 +32,11 @@ li::marker { color: #767676 }
 mark { color: inherit; background: #fff0b3; box-shadow: inset 0 -2px #d4a600 }
 mark mark { background: #ffd9a0; box-shadow: inset 0 -2px #c46a00 }
 mark mark mark { background: #f9c2c0; box-shadow: inset 0 -2px #b0413e }
+mark.may { background: #ffc9c9; box-shadow: inset 0 -3px #c92a2a }
+mark.allowed { background: #e3f0d8; box-shadow: inset 0 -3px #6b9c3f }
+.may td:last-child { font-weight: 600; color: #a40e26 }
+#only:checked ~ .both tr.other { display: none }
+#only:checked ~ .both mark.other { background: none; box-shadow: none }
 mark:target, a:target, tr:target { outline: 3px solid #0969da; scroll-margin-top: 5rem }
 li .no { padding: 0 .2rem; border: 1px solid #cf222e; text-decoration: none }
 li .no::before { content: "\\2717" }
@@ -40,8 +45,8 @@ li .no::before { content: "\\2717" }
 table { border-collapse: collapse; width: 100% }
 th, td { text-align: left; vertical-align: top; border: 1px solid #ccc; padding: .2rem .45rem; font-size: .85rem }
 th { background: #f0f0f0 }
-.table th:nth-child(2) { width: 46% }
-.table th:nth-child(n + 3) { width: 22% }
+.table th:nth-child(2) { width: 40% }
+.table th:nth-child(n + 3) { width: 17% }
 td code { white-space: pre-wrap; background: #f3f3f3 }
 .table td:first-child { white-space: nowrap; overflow-wrap: normal }
 tr.no td { font-weight: 600; color: #a40e26; background: #fdecee }
@@ -67,8 +72,8 @@ TAB = "\t"
 @dataclass(frozen=True)
 class Script:
     """What the page shows of a script. `failure` says why it was not read; else `text` has its lines, `entries` are the
-    fields and refusals by place, and `rows` what the table shows of each: of a field expression, conversion, why, and
-    spec, of a refusal its words, what to change, and the literal. `differences` is None if Python was not asked. `names` is None if the script asks for no
+    fields and refusals by place, and `rows` what the table shows of each: of a field expression, conversion, why, spec, and
+    why it may round, of a refusal its words, what to change, and the literal. `differences` is None if Python was not asked. `names` is None if the script asks for no
     name of a character; else it says where they are taken from, and has the content of the file if it is one."""
 
     name: str
@@ -86,6 +91,11 @@ class Script:
         return sum(map(_is_field, self.entries))
 
     @property
+    def rounding(self) -> int:
+        """How many fields round or may."""
+        return sum(entry.class_.may_round for entry in self.entries if _is_field(entry))
+
+    @property
     def verdict(self) -> str:
         if self.failure:
             return f"Not read: {self.failure}"
@@ -98,8 +108,8 @@ class Script:
         return f"Not complete: {', '.join([found, *said])}"
 
 
-def page(scripts: list[Script], version: list[str]) -> str:
-    """The page of scripts, listed by a version, which is told in lines."""
+def page(scripts: list[Script], version: list[str], only_rounds: bool = False) -> str:
+    """The page of scripts, listed by a version, which is told in lines; at first it may show only what rounds."""
     lacking = sum(not script.complete for script in scripts)
     verdict = f"Complete: {_count(sum(script.fields for script in scripts), 'field')}, and these are all"
     if lacking:
@@ -121,6 +131,7 @@ def page(scripts: list[Script], version: list[str]) -> str:
             _verdict(not lacking, verdict),
             "<p>Listed are the fields of f-strings. The operator <code>%</code>, <code>str.format</code> and "
             "<code>format()</code> format too, and are not listed.</p>",
+            _filter(sum(script.rounding for script in scripts), only_rounds),
             f'<p class="small">Listed by {html.escape(", ".join(version))}, for the grammar of Python 3.11.</p>',
             *(_contents(scripts) if len(scripts) > 1 else []),
             *(line for number, script in enumerate(scripts, 1) for line in _section(script, f"s{number}")),
@@ -129,6 +140,13 @@ def page(scripts: list[Script], version: list[str]) -> str:
             "",
         ]
     )
+
+
+def _filter(rounding: int, is_set: bool) -> str:
+    """How many fields round or may, and a box that shows these alone, which the style does."""
+    checked = " checked" if is_set else ""
+    said = f"{rounding:,} {'rounds' if rounding == 1 else 'round'} or may" if rounding else "No field rounds"
+    return f'<input type="checkbox" id="only"{checked}><label for="only">{said}: show only what does</label>'
 
 
 def _contents(scripts: list[Script]) -> list[str]:
@@ -177,36 +195,45 @@ def _source(script: Script, key: str) -> list[str]:
     if not lines[-1] and len(lines) > 1 and len(lines) not in events:
         lines.pop()
     shown = [f'<ol style="--digits: {len(str(len(lines)))}">']
-    is_open = 0
+    opened = []
     for number, line in enumerate(lines, 1):
-        parts, at = [is_open * "<mark>"], 1
+        parts, at = [f'<mark class="{kind}">' for kind in opened], 1
         for column, event, entry in sorted(events[number]):
             parts.append(_shown(line[at - 1 : column - 1], TAB))
             at = column
             if event == POINT:
                 parts.append(f'<a class="no" id="{key}e{entry}" href="#{key}r{entry}" title="refused"></a>')
+            elif event == OPEN:
+                opened.append(_kind(script.entries[entry - 1], script.rows[entry - 1]))
+                parts.append(f'<mark class="{opened[-1]}" id="{key}e{entry}">')
             else:
-                parts.append(f'<mark id="{key}e{entry}">' if event == OPEN else "</mark>")
-                is_open += 1 if event == OPEN else -1
-        shown.append(f"<li>{''.join(parts)}{_shown(line[at - 1 :], TAB)}{is_open * '</mark>'}</li>")
+                opened.pop()
+                parts.append("</mark>")
+        shown.append(f"<li>{''.join(parts)}{_shown(line[at - 1 :], TAB)}{len(opened) * '</mark>'}</li>")
     return [*shown, "</ol>"]
 
 
 def _table(script: Script, key: str) -> list[str]:
-    lines = ["<table>", "<tr><th>Place</th><th>Expression</th><th>Conversion</th><th>Spec</th></tr>"]
+    lines = ["<table>", "<tr><th>Place</th><th>Expression</th><th>Conversion</th><th>Spec</th><th>Class</th></tr>"]
     for number, (entry, row) in enumerate(zip(script.entries, script.rows), 1):
         place = f'<td><a href="#{key}e{number}">{entry.line}:{entry.column}</a></td>'
         if _is_field(entry):
-            expression, conversion, why, spec = row
+            expression, conversion, why, spec, allowed = row
             cells = f'<td style="padding-left: {entry.depth + .45}rem">{_code(expression)}</td>'
             cells += f'<td>{_code(conversion)} <span class="small">{_worded(why)}</span></td><td>{_code(spec)}</td>'
-            lines.append(f'<tr id="{key}r{number}">{place}{cells}</tr>')
+            cells += f"<td>{entry.class_.value}{'' if allowed is None else f', allowed: {_shown(allowed)}'}</td>"
+            lines.append(f'<tr class="{_kind(entry, row)}" id="{key}r{number}">{place}{cells}</tr>')
         else:
             words, change, literal = row
             cell = _worded(words) + (f'<p class="small">Change: {_worded(change)}</p>' if change else "")
             cell += f"<p>{_code(literal)}</p>" if literal else ""
-            lines.append(f'<tr class="no" id="{key}r{number}">{place}<td colspan="3">{cell}</td></tr>')
+            lines.append(f'<tr class="no" id="{key}r{number}">{place}<td colspan="4">{cell}</td></tr>')
     return [*lines, "</table>"] if script.entries else ["<p>There is no field.</p>"]
+
+
+def _kind(entry: object, row: tuple) -> str:
+    """How a field is marked: whether it rounds or may, and is allowed to."""
+    return "other" if not entry.class_.may_round else "may" if row[-1] is None else "allowed"
 
 
 def _is_field(entry: object) -> bool:

@@ -1,6 +1,8 @@
-"""The file that `stumpgarret --sarif` writes: what was refused, as SARIF 2.1.0, for code hosts and editors.
+"""The file that `stumpgarret --sarif` writes: what was refused, and with --rounds what rounds, as SARIF 2.1.0, for code hosts
+and editors.
 
-A rule for each number of a refusal, and one for what Python's own `ast` has otherwise. The same scripts make the same file.
+A rule for each number of a refusal, one for what Python's own `ast` has otherwise, and one for each class of what rounds or
+may. The same scripts make the same file.
 """
 
 from __future__ import annotations
@@ -15,24 +17,23 @@ import stumpgarret
 import stumpgarret_rules
 
 SCHEMA = "https://json.schemastore.org/sarif-2.1.0.json"
-DIFFERENCE = "SG-python"
+# What has no number: its name here and for people, and what it means.
+OTHERS = {
+    "python": ("DifferentFromPython", "Python's own ast has another field, or does not take the script"),
+    "rounds": ("FieldRounds", "a field rounds a number: by a type of e E f F g G n %, or by a precision without a type"),
+    "computed": ("SpecComputed", "a field may round: its spec has a field, so its digits are decided when it runs"),
+    "own": ("SpecOfAType", "a field may round: its spec is not of the mini-language but a type's own"),
+}
 
 
-def rule_id(number: int) -> str:
-    return f"SG{number:02}"
+def rule_id(rule: int | str) -> str:
+    return f"SG{rule:02}" if isinstance(rule, int) else f"SG-{rule}"
 
 
 def sarif(results: list[dict[str, object]], failures: list[dict[str, object]], version: str) -> str:
     """The file of results and of scripts that could not be read, both made here."""
     rules = [_rule(number) for number in sorted(stumpgarret.REFUSALS)]
-    rules.append(
-        {
-            "id": DIFFERENCE,
-            "name": "DifferentFromPython",
-            "shortDescription": {"text": "Python's own ast has another field, or does not take the script"},
-            "defaultConfiguration": {"level": "error"},
-        }
-    )
+    rules += [_rule_of(rule_id(one), name, text) for one, (name, text) in OTHERS.items()]
     at = {rule["id"]: index for index, rule in enumerate(rules)}
     driver = {"name": "stumpgarret", "semanticVersion": stumpgarret.__version__, "version": version, "rules": rules}
     run = {
@@ -44,15 +45,18 @@ def sarif(results: list[dict[str, object]], failures: list[dict[str, object]], v
     return json.dumps({"$schema": SCHEMA, "version": "2.1.0", "runs": [run]}, indent=1, ensure_ascii=False) + "\n"
 
 
-def result(number: int | None, text: str, path: str, cell: int | None, line: int, column: int | None) -> dict[str, object]:
-    """What is refused by a number, or differs without one, at a place. The lines of a cell are not those of its file."""
-    place = _place(path, cell)
+def result(finding: object, path: str, cell: int | None) -> dict[str, object]:
+    """What was found by a rule at a place. The lines of a cell are not those of its file; what is allowed is suppressed."""
+    place, text = _place(path, cell), finding.said
     if cell is None:
-        place["physicalLocation"]["region"] = {"startLine": line, **({"startColumn": column} if column else {})}
+        column = {"startColumn": finding.column} if finding.column else {}
+        place["physicalLocation"]["region"] = {"startLine": finding.line, **column}
     else:
-        text = f"cell {cell}, line {line}: {text}"
-    rule = DIFFERENCE if number is None else rule_id(number)
-    return {"ruleId": rule, "level": "error", "message": {"text": text}, "locations": [place]}
+        text = f"cell {cell}, line {finding.line}: {text}"
+    found = {"ruleId": rule_id(finding.rule), "level": "error", "message": {"text": text}, "locations": [place]}
+    if finding.allowed is not None:
+        found["suppressions"] = [{"kind": "external", "justification": finding.allowed}]
+    return found
 
 
 def failure(text: str, path: str | None = None, cell: int | None = None) -> dict[str, object]:
@@ -76,12 +80,12 @@ def _rule(number: int) -> dict[str, object]:
     name, _ = stumpgarret.REFUSALS[number]
     chapter = stumpgarret_rules.chapters().get(number, "")
     change = stumpgarret_rules.change(number, 0)
-    rule = {
-        "id": rule_id(number),
-        "name": "".join(word[:1].upper() + word[1:] for word in re.findall(r"[A-Za-z0-9]+", name)),
-        "shortDescription": {"text": f"{number} {name}"},
-        "defaultConfiguration": {"level": "error"},
-    }
+    words = "".join(word[:1].upper() + word[1:] for word in re.findall(r"[A-Za-z0-9]+", name))
+    rule = _rule_of(rule_id(number), words, f"{number} {name}")
     if chapter:
         rule["help"] = {"text": f"Change: {change}" if change else f"{number} {name}", "markdown": chapter}
     return rule
+
+
+def _rule_of(name: str, words: str, text: str) -> dict[str, object]:
+    return {"id": name, "name": words, "shortDescription": {"text": text}, "defaultConfiguration": {"level": "error"}}

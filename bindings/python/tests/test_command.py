@@ -281,14 +281,15 @@ class Json(Command):
         self.assertEqual(last, {
             "kind": "end", "complete": status == 0, "scripts": 1, "fields": kinds["field"], "refusals": kinds["refusal"],
             "unreadable": kinds["unreadable"], "differences": kinds["difference"], "left_out": 0,
+            "rounding": sum(line.get("class") in ("rounds", "computed", "own") for line in lines), "allowed": 0,
         })
         return status, lines, err
 
     def test_fields(self):
         field = {"kind": "field", "file": "a.py", "line": 1, "column": 7, "end": [3, 2], "expression": "é\n", "documented": True}
-        field.update({"conversion": "r", "reason": "written", "spec": ">{w}\n", "depth": 0})
+        field.update({"conversion": "r", "reason": "written", "spec": ">{w}\n", "depth": 0, "class": "text", "allowed": None})
         nested = {"kind": "field", "file": "a.py", "line": 2, "column": 7, "end": [2, 9], "expression": "w", "documented": False}
-        nested.update({"conversion": None, "reason": "none", "spec": None, "depth": 1})
+        nested.update({"conversion": None, "reason": "none", "spec": None, "depth": 1, "class": "exact", "allowed": None})
         status, lines, err = self.lines("rf'''{é\n=!r:>{w}\n}'''")
         self.assertEqual((status, lines, err), (0, [field, nested], ""))
         self.assertEqual([*lines[0]], [*field])

@@ -12,7 +12,8 @@ from support import stumpgarret
 import stumpgarret_page
 import stumpgarret_rules
 
-TAGS = set("html head meta title style body h1 h2 p code a table tr th td div ol li mark span".split())
+TAGS = set("html head meta title style body h1 h2 p code a table tr th td div ol li mark span input label".split())
+VOID = "meta", "input"
 HOSTILE = ["</script>", "<script>alert(1)</script>", "</mark>", "</ol>", "&lt;", "&#0;", '"', "'", "<!--", "-->", "]]>", "\\"]
 HOSTILE += [*"\1\t\n\x0b\x0c\x7f\x85\xa0\u2028\u202e\u200b\ufeffé\U0001f50b"]
 FIELDS = ["f'{x}'", "f'{a:<{w}}'", "f'''{\nb!r}'''", "f'{f\"{c}\":>{d=}}'", "f'{(]}'", "f'}'", "f'{e#}'"]
@@ -36,7 +37,7 @@ class Page(html.parser.HTMLParser):
         self.ids += [given["id"]] if "id" in given else []
         self.links += [given["href"]] if "href" in given else []
         assert not {"src", "srcset", "onclick", "onload"} & set(given)
-        if tag != "meta":
+        if tag not in VOID:
             self.stack.append((tag, given))
         if tag == "li":
             self.lines.append("")
@@ -100,10 +101,10 @@ class Parts(Command):
         self.assertEqual("\n".join(page.lines), source[:-1])
         self.assertEqual([*page.marks.values()], ["{mv / 12.5:.0f}", "{n!r}", "{k=}"])
         head, *rows = page.rows
-        self.assertEqual(head, (None, ["Place", "Expression", "Conversion", "Spec"]))
-        table = [["2:10", "mv / 12.5", " ", ":.0f"], ["2:26", "n", "!r ", ""]]
-        table += [["2:32", "k=", "!r repr: = with no spec", ""]]
-        self.assertEqual(rows, [(None, row) for row in table])
+        self.assertEqual(head, (None, ["Place", "Expression", "Conversion", "Spec", "Class"]))
+        table = [("may", ["2:10", "mv / 12.5", " ", ":.0f", "rounds"]), ("other", ["2:26", "n", "!r ", "", "text"])]
+        table += [("other", ["2:32", "k=", "!r repr: = with no spec", "", "text"])]
+        self.assertEqual(rows, table)
         said = dict.fromkeys(text for _, text in page.said)
         self.assertEqual(page.said[0], ("yes", "Complete: 3 fields, and these are all"))
         self.assertIn(f"SHA-256 {hashlib.sha256(source.encode()).hexdigest()}, {len(source)} bytes", said)
@@ -114,7 +115,7 @@ class Parts(Command):
         page, err = self.page(status=1, a="f'{x}'\nf'}'\nf'{y}' '")
         words = [line.split(": ", 1)[1] for line in err.splitlines()]
         self.assertEqual(len(words), 2)
-        first, last = (None, ["1:4", "x", " ", ""]), (None, ["3:4", "y", " ", ""])
+        first, last = ("other", ["1:4", "x", " ", "", "exact"]), ("other", ["3:4", "y", " ", "", "exact"])
         changes = [stumpgarret_rules.change(number, 0).replace("`", "") for number in (25, 50)]
         shown = [f"{word}Change: {change}{text}" for word, change, text in zip(words, changes, ["f'}'", "'"])]
         self.assertEqual(page.rows[1:], [first, ("no", ["2:4", shown[0]]), last, ("no", ["3:8", shown[1]])])
@@ -220,8 +221,8 @@ class Use(Command):
         self.assertEqual(pathlib.Path("a.py").read_text(), "f'{x}'")
 
     def test_other_options(self):
-        for option in ("--json", "--why"):
-            self.assertIn("--html goes with neither", self.wrong_use("--html", "page.html", option, "a.py"))
+        for option in ("--json", "--why", "--classes"):
+            self.assertIn("--html goes with none of", self.wrong_use("--html", "page.html", option, "a.py"))
 
     def test_not_written(self):
         status, out, err = self.run_on("--html", "none/page.html", a="f'{x}'")

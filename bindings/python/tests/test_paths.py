@@ -158,7 +158,7 @@ class Project(Command):
     def test_wrong(self):
         self.put("a.py")
         for content, said in (
-            ("[tool.stumpgarret]\nexclud = []", r"\[tool.stumpgarret\] has a key exclud, and knows exclude, names"),
+            ("[tool.stumpgarret]\nexclud = []", r"\[tool.stumpgarret\] has a key exclud, and knows exclude, names, allow"),
             ("[tool.stumpgarret]\nexclude = 'a'", r"exclude of \[tool.stumpgarret\] is to be a list of patterns"),
             ("[tool.stumpgarret]\nnames = 3", r"names of \[tool.stumpgarret\] is to be a path"),
             ("[tool]\nstumpgarret = 3", "tool.stumpgarret is no table"),

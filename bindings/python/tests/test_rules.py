@@ -24,7 +24,7 @@ LIMIT, CUTS = re.compile(r"limit (\d+)"), re.compile(r"at \[(.*)\]")
 LENT_FILE = re.compile(r"file '(.*)' index \[(.*)\]", re.DOTALL)
 MARK = re.compile(r"<(?:(LF|CR|TAB|NUL)|([0-9A-F]{2})|U\+([0-9A-F]{4,6})|(\d+) times (.+?))>")
 CHARACTERS = {"LF": "\n", "CR": "\r", "TAB": "\t", "NUL": "\0"}
-FIRST_CHAPTER, REFUSALS, LAST_CHAPTER = 1, 11, 15
+FIRST_CHAPTER, REFUSALS, LAST_CHAPTER = 1, 11, 16
 NOT_OURS = ".git", "target"
 ROOM_FOR_ALL = 8192
 FILL = 7
@@ -285,6 +285,12 @@ def asked_script(shown):
     return ask
 
 
+def classes(script):
+    """The fields of a script with their classes, by the module."""
+    entries = stumpgarret.list_script(script).entries
+    return ", ".join(f"{one.expression} {one.class_.value}" if hasattr(one, "class_") else str(one.number) for one in entries)
+
+
 def asked_file(cell, spans):
     answer, index = build_index(plain(spans[0] if spans else ""), room_of(cell))
     return refusal(answer) if answer[0] else in_words(index[: answer[1]]) or "nothing"
@@ -409,6 +415,7 @@ TABLES = {
     ("Script", "Fields"): asked_script(
         lambda script, answer, rows: ", ".join(field(script, row) for row in groups(rows, 10, answer[1]))
     ),
+    ("Script", "Classes"): lambda cell, spans: classes(plain(spans[0])),
     ("File", "Index"): asked_file,
     ("Lent file", "Numbers"): asked_lent_file,
     ("Named", "Parts"): asked_named,

@@ -21,7 +21,8 @@ OBJECTS = {
     "configuration": (set(), {"level"}),
     "invocation": ({"executionSuccessful"}, {"toolExecutionNotifications"}),
     "notification": ({"message"}, {"level", "locations"}),
-    "result": ({"message"}, {"ruleId", "ruleIndex", "level", "locations"}),
+    "result": ({"message"}, {"ruleId", "ruleIndex", "level", "locations", "suppressions"}),
+    "suppression": ({"kind"}, {"justification"}),
     "location": (set(), {"physicalLocation", "logicalLocations"}),
     "physicalLocation": (set(), {"artifactLocation", "region"}),
     "artifactLocation": (set(), {"uri"}),
@@ -34,7 +35,7 @@ SORTS = {
     "help": "multiformatMessage", "defaultConfiguration": "configuration", "invocations": "invocation", "results": "result",
     "toolExecutionNotifications": "notification", "message": "message", "locations": "location",
     "physicalLocation": "physicalLocation", "artifactLocation": "artifactLocation", "region": "region",
-    "logicalLocations": "logicalLocation",
+    "logicalLocations": "logicalLocation", "suppressions": "suppression",
 }
 
 
@@ -74,11 +75,11 @@ class Sarif(test_command.Command):
         self.assertEqual(driver["version"], ", ".join(test_command.VERSION_LINES))
 
     def test_rules(self):
-        """One for each number, with its chapter and what to change, and one for Python's own reading."""
+        """One for each number, with its chapter and what to change, one for Python's own reading, and for what rounds."""
         run, _, _ = self.run_sarif(a="")
         rules = {rule["id"]: rule for rule in run["tool"]["driver"]["rules"]}
         ids = [f"SG{number:02}" for number in sorted(stumpgarret.REFUSALS)]
-        self.assertEqual([*rules], [*ids, "SG-python"])
+        self.assertEqual([*rules], [*ids, "SG-python", "SG-rounds", "SG-computed", "SG-own"])
         self.assertEqual(len({rule["name"] for rule in rules.values()}), len(rules))
         self.assertTrue(all(rule["name"].isidentifier() or rule["name"][0].isdigit() for rule in rules.values()))
         self.assertEqual(rules["SG25"]["shortDescription"], {"text": "25 SingleRbrace"})

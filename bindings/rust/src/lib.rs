@@ -103,7 +103,8 @@ pub use answer::{Answer, ConversionFlag, Field, Record, Records, Sort, Spec};
 pub use compare::Comparison;
 pub use cuts::{check_cuts, plan_cuts};
 pub use listing::{
-    fields, fields_named, fields_of_text, Listed, ListedField, ListedRefusal, Listing, Row, Rows,
+    fields, fields_named, fields_of_text, FieldClass, Listed, ListedField, ListedRefusal, Listing,
+    Row, Rows,
 };
 pub use literal::{Literal, StringKind};
 pub use names::Names;

@@ -4,6 +4,7 @@ use crate::names::Names;
 use crate::refusal::{self, Reason, Refusal};
 use crate::script;
 use crate::signs::FieldSigns;
+use crate::Spec;
 use crate::MOST_SCRIPT_BYTES;
 use std::borrow::Cow;
 use std::fmt;
@@ -159,6 +160,68 @@ pub struct ListedField<'a> {
     pub spec: Option<&'a str>,
     /// The reason of its conversion, and where its signs stand.
     pub signs: FieldSigns,
+}
+
+/// Whether a field rounds a number, by its conversion and its spec alone. A type with a `__format__` of
+/// its own may round by any spec.
+#[derive(Clone, Copy, Debug, PartialEq, Eq, Hash)]
+pub enum FieldClass {
+    /// By a type of `eEfFgGn%`, or by a precision without a type.
+    Rounds,
+    /// Its spec has a field, so its digits are decided when it runs.
+    Computed,
+    /// Its spec is not of the mini-language but a type's own, as dates have.
+    Own,
+    /// What is formatted is text: a conversion is written or implied, or the type is `s`.
+    Text,
+    /// None of these.
+    Exact,
+}
+
+impl FieldClass {
+    /// Whether it rounds, or may when it runs.
+    pub fn may_round(self) -> bool {
+        matches!(self, FieldClass::Rounds | FieldClass::Computed | FieldClass::Own)
+    }
+
+    /// By a spec as it is written. One with a brace has a field; one with an escape is of the
+    /// mini-language only as a fill, before an align, where Python has no escape.
+    fn of_spec(spec: &str) -> FieldClass {
+        if spec.contains('{') {
+            return FieldClass::Computed;
+        }
+        match Spec::parse(spec) {
+            Err(_) => FieldClass::Own,
+            Ok(told) if told.kind == Some('s') => FieldClass::Text,
+            Ok(told) if told.rounds => FieldClass::Rounds,
+            Ok(_) => FieldClass::Exact,
+        }
+    }
+}
+
+impl ListedField<'_> {
+    /// Whether it rounds. A conversion comes first: what is formatted is text then, whatever the spec.
+    ///
+    /// ```
+    /// use stumpgarret::{fields, FieldClass, Listed};
+    ///
+    /// let listing = fields("f'{mv / 12.5:.0f} {at:%H:%M} {n:>{w}} {rail!r:>9}'")?;
+    /// let classes: Vec<_> = listing.rows().filter_map(|row| match row.listed {
+    ///     Listed::Field(field) => Some(field.class()),
+    ///     _ => None,
+    /// }).collect();
+    /// use FieldClass::{Computed, Exact, Own, Rounds, Text};
+    /// assert_eq!(classes, [Rounds, Own, Computed, Exact, Text]);
+    /// assert!(classes[0].may_round());
+    /// # Ok::<(), stumpgarret::Refusal>(())
+    /// ```
+    pub fn class(&self) -> FieldClass {
+        match (self.conversion, self.spec) {
+            (ConversionFlag::None, Some(spec)) => FieldClass::of_spec(spec),
+            (ConversionFlag::None, None) => FieldClass::Exact,
+            _ => FieldClass::Text,
+        }
+    }
 }
 
 /// Why a literal's fields are not listed, or that Python reads a field otherwise.

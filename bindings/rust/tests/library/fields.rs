@@ -1,7 +1,7 @@
 //! Every field of whole scripts.
 use stumpgarret::ConversionReason::{None as NoReason, Repr, Spec, Written};
 use stumpgarret::{
-    field_signs, fields, fields_named, fields_of_text, literals_at, Listed, ListedField,
+    field_signs, fields, fields_named, fields_of_text, literals_at, FieldClass, Listed, ListedField,
     ListedRefusal, Listing, Names, Reason, Row, MOST_SCRIPT_BYTES,
 };
 
@@ -215,4 +215,22 @@ fn scripts_may_be_empty_or_long() {
     let refused = fields(&" ".repeat(MOST_SCRIPT_BYTES + 1)).unwrap_err();
     assert_eq!((refused.number(), refused.reason()), (49, &Reason::ScriptTooLong));
     assert!(fields(&"\r\n".repeat(MOST_SCRIPT_BYTES)).unwrap().is_complete());
+}
+
+#[test]
+fn classes() {
+    use FieldClass::{Computed, Exact, Own, Rounds, Text};
+    for (class, fields_of_it) in [
+        (Rounds, "{x:.3f} {x:e} {x:G} {x:n} {x:%} {x:.0} {x=:.2f} {x:,.1%}"),
+        (Computed, "{x:{w}} {x:.{n}f} {x=:{w}}"),
+        (Own, "{x:%Y-%m-%d} {x:.3q} {x:5q}"),
+        (Text, "{x!r} {x!s:.3f} {x!a:>9} {x=} {x=!s} {x!s:{w}} {x:s} {x:.3s}"),
+        (Exact, "{x} {x:} {x:d} {x:>8} {x:,} {x:#06x} {x:c} {x:*^9}"),
+    ] {
+        for one in fields_of_it.split(' ') {
+            let listing = fields(format!("f'{}'", one)).unwrap();
+            assert_eq!(field(&listing.rows().next().unwrap()).class(), class, "{}", one);
+        }
+        assert_eq!(class.may_round(), matches!(class, Rounds | Computed | Own));
+    }
 }

@@ -1,0 +1,101 @@
+"""What `stumpgarret --rounds` lets pass: lists of what is accepted, each entry with its reason.
+
+    bench.py:mv / 1000  # three digits are what the meter has
+
+A line is a path, a colon, an expression as it is listed, and behind a `#` the reason. The path counts from the folder of the
+list; - is standard input, and a cell of a notebook has the notebook's path.
+"""
+
+from __future__ import annotations
+
+import os
+import re
+from collections.abc import Iterable, Iterator
+from dataclasses import dataclass
+
+from stumpgarret import STANDARD_INPUT, _one_line
+
+ENTRY = re.compile(r"(?P<path>[^:#]+):(?P<text>[^#]*[^#\s][^#]*)#(?P<reason>.*\S.*)")
+WANTED = "path:expression  # reason"
+SHOWN_STANDARD_INPUT = "<stdin>"
+
+
+class Unusable(Exception):
+    """A list that cannot be read, or a line of one that is no entry, in words."""
+
+
+@dataclass(frozen=True)
+class Entry:
+    """What is accepted: a text in a script, for a reason; and where that is written."""
+
+    where: str
+    path: str
+    key: str
+    text: str
+    reason: str
+
+
+class Allowed:
+    """The entries of some lists, and which of them were met."""
+
+    def __init__(self, entries: Iterable[Entry] = ()):
+        self.entries = list(entries)
+        self.listed = set()
+        self.met = set()
+
+    def reason(self, path: str, text: str) -> str | None:
+        """Why a text of a script is accepted; None if it is not."""
+        key, text = _key(path, os.curdir), _plain(text)
+        found = [entry for entry in self.entries if (entry.key, entry.text) == (key, text)]
+        self.met.update(entry.where for entry in found)
+        return found[0].reason if found else None
+
+    def saw(self, path: str) -> None:
+        """A script that was listed."""
+        self.listed.add(_key(path, os.curdir))
+
+    def unmet(self) -> Iterator[tuple[str, str]]:
+        """Where an entry stands that met nothing, and what is said of it. One whose script is there and was not listed is
+        passed over."""
+        for entry in self.entries:
+            if entry.where in self.met:
+                continue
+            if entry.key in self.listed:
+                yield entry.where, f"nothing that rounds is met by {_one_line(entry.path)}:{entry.text}"
+            elif entry.key != SHOWN_STANDARD_INPUT and not os.path.exists(entry.key):
+                yield entry.where, f"there is no {_one_line(entry.key)}: a path counts from the folder of its list"
+
+
+def allowed(paths: Iterable[str]) -> Allowed:
+    """What the lists at some paths accept."""
+    return Allowed(entry for path in paths for entry in _entries(path))
+
+
+def _entries(path: str) -> Iterator[Entry]:
+    shown = _one_line(path)
+    try:
+        with open(path, encoding="utf-8-sig") as file:
+            lines = file.read().split("\n")
+    except (OSError, UnicodeError) as error:
+        raise Unusable(f"{shown}: {getattr(error, 'strerror', None) or error}") from error
+    for number, line in enumerate(lines, 1):
+        if not line.strip() or line.lstrip().startswith("#"):
+            continue
+        found = ENTRY.fullmatch(line)
+        if not found:
+            lacking = "a reason behind a #" if "#" not in line and ":" in line else WANTED
+            raise Unusable(f"{shown}:{number}: {lacking} is wanted: {_one_line(line)}")
+        own = found["path"].strip()
+        key = _key(own, os.path.dirname(path))
+        yield Entry(f"{shown}:{number}", own, key, _plain(found["text"]), found["reason"].strip())
+
+
+def _key(path: str, folder: str) -> str:
+    if path in (STANDARD_INPUT, SHOWN_STANDARD_INPUT):
+        return SHOWN_STANDARD_INPUT
+    return os.path.abspath(os.path.join(folder, path))
+
+
+def _plain(text: str) -> str:
+    """What is compared of a text: up to a `#`, without blanks around."""
+    return text.partition("#")[0].strip()
