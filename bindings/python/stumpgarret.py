@@ -23,8 +23,8 @@ What people call:
 The library's calls behind them: `rows`, every row of a whole script by places; `read`, one run of literals; `literals`, the
 adjacent literals of a script from an offset on.
 
-At a shell: `python3 stumpgarret.py --help`, and `--help` behind the words replay, compare and wrap, say what is printed, and what
-the exit status means. Any Python from 3.7 on will do.
+At a shell: `python3 stumpgarret.py --help`, and `--help` behind the words replay, compare, wrap and set-spec, say what is printed, and
+what the exit status means. Any Python from 3.7 on will do.
 
 The shared library is the one that the variable STUMPGARRET_LIBRARY names, else libstumpgarret.so beside this file,
 else the one under target/python of the clone, where `bindings/python/build` puts it.
@@ -39,6 +39,7 @@ import collections
 import ctypes
 import enum
 import functools
+import importlib
 import itertools
 import operator
 import os
@@ -174,8 +175,8 @@ REASONS = {
 class FieldClass(enum.Enum):
     """Whether a field rounds a number, by its conversion and its spec alone: it rounds, by a type of e E f F g G n % or a
     precision without a type; its spec has a field, so that its digits are decided when it runs; its spec is not of the
-    mini-language but a type's own, as dates have; what is formatted is text, by a conversion or the type s; it is none of
-    these. A type with a `__format__` of its own may round by any spec."""
+    mini-language but a type's own, as dates have; a conversion is written or implied, so that text is formatted; it is none
+    of these. A type with a `__format__` of its own may round by any spec."""
 
     ROUNDS = "rounds"
     COMPUTED = "computed"
@@ -610,11 +611,11 @@ class Template:
 
         Raises `Refusal` 55 if the spelling would be read otherwise, 54 for a text that is not UTF-8, ValueError for a
         conversion that there is none of, and TypeError for a part that is no str and no TemplateField."""
-        words, text = [], bytearray()
-        _put_parts(self.parts, words, text)
+        words, text = array.array("I"), bytearray()
+        _put(self.parts, _shape_of_part, words, text)
         count = len(words) // WORDS_OF_A_RECORD
         reading = [0, Sort.JOINED, 0, 0, 0, _number("the count", count), _number("the text", len(text)), *[0] * 5]
-        lent = (ctypes.c_uint32 * len(words))(*words)
+        lent = (ctypes.c_uint32 * len(words)).from_buffer_copy(words)
         body = (ctypes.c_char * (BODY_ROOM * (len(text) + count)))()
         answer = (ctypes.c_uint32 * 12)()
         _function("write")(lent, len(lent), bytes(text), len(text), (ctypes.c_uint32 * 12)(*reading), body, len(body), answer)
@@ -726,30 +727,41 @@ def _lent_answer(answer: Answer) -> tuple[ctypes.Array, bytes, ctypes.Array]:
     if not isinstance(answer, Answer):
         raise TypeError(f"an Answer is wanted, not {_type(answer)}")
     words, text = array.array("I"), bytearray()
-    for record in answer.records:
-        _lend(record, words, text)
+    _put(answer.records, _shape_of_record, words, text)
     reading = [0, answer.sort, 0, 0, 0, len(words) // WORDS_OF_A_RECORD, len(text), 0, 0, 0, 0, 0]
     return (ctypes.c_uint32 * len(words)).from_buffer_copy(words), bytes(text), (ctypes.c_uint32 * 12)(*reading)
 
 
-def _lend(record: Text | Field | Bytes, words: array.array, text: bytearray) -> None:
-    """Adds the words and the text of a record, and of its spec."""
+def _put(parts: Iterable[object], shape: Callable[[object], tuple], words: array.array, text: bytearray) -> None:
+    """Adds the records of parts and of their specs, and their text; ranges, places and u marks are 0. A shape is a kind, a
+    text, a conversion or None, and the parts of a spec or None."""
+    for part in parts:
+        kind, own, conversion, spec = shape(part)
+        words.extend([kind, len(text), len(own), 0, 0, ord(conversion) if conversion else 0, int(spec is not None), 0])
+        text += own
+        if spec is not None:
+            words.extend([3, len(text), 0, 0, 0, 0, len(spec), 0])
+            _put(spec, shape, words, text)
+
+
+def _shape_of_record(record: Text | Field | Bytes) -> tuple[int, bytes, str | None, tuple | None]:
     if isinstance(record, Text):
-        kind, own, conversion, spec = 1, _bytes(record.text, "a text"), None, None
-    elif isinstance(record, Field):
-        kind, own, conversion, spec = 2, _bytes(record.expression, "an expression"), record.conversion, record.spec
-    elif isinstance(record, Bytes):
-        kind, own, conversion, spec = 4, _undecoded(record.value, "a value"), None, None
-    else:
-        raise TypeError(f"a Text, a Field or Bytes is wanted, not {_type(record)}")
-    words.extend([kind, len(text), len(own), 0, 0, ord(conversion) if conversion else 0, int(spec is not None), 0])
-    text += own
-    if spec is not None:
-        words.extend([3, len(text), 0, 0, 0, 0, len(spec), 0])
-        for part in spec:
-            _lend(part, words, text)
+        return 1, _bytes(record.text, "a text"), None, None
+    if isinstance(record, Field):
+        return 2, _bytes(record.expression, "an expression"), record.conversion, record.spec
+    if isinstance(record, Bytes):
+        return 4, _undecoded(record.value, "a value"), None, None
+    raise TypeError(f"a Text, a Field or Bytes is wanted, not {_type(record)}")
 
 
+def _shape_of_part(part: str | TemplateField) -> tuple[int, bytes, str | None, list | None]:
+    if isinstance(part, str):
+        return 1, _bytes(part, "a text"), None, None
+    if not isinstance(part, TemplateField):
+        raise TypeError(f"a str or a TemplateField is wanted, not {_type(part)}")
+    if part.conversion not in CONVERSIONS:
+        raise ValueError(f"a conversion is s, r, a or None, not {part.conversion!r}")
+    return 2, _bytes(part.expression, "a text"), part.conversion, part.spec
 
 
 def _owned(records: Iterable[Text | Field]) -> list[str | TemplateField]:
@@ -766,29 +778,6 @@ def _fields_in(parts: list[str | TemplateField]) -> Iterator[TemplateField]:
         if isinstance(part, TemplateField):
             yield part
             yield from _fields_in(part.spec or [])
-
-
-def _put_parts(parts: list[str | TemplateField], words: list[int], text: bytearray) -> None:
-    """Appends the records of a template's parts, and their text; ranges, places and u marks are 0."""
-    for part in parts:
-        if isinstance(part, str):
-            _put_record(1, part, 0, 0, words, text)
-        elif isinstance(part, TemplateField):
-            if part.conversion not in CONVERSIONS:
-                raise ValueError(f"a conversion is s, r, a or None, not {part.conversion!r}")
-            mode = ord(part.conversion) if part.conversion else 0
-            _put_record(2, part.expression, mode, int(part.spec is not None), words, text)
-            if part.spec is not None:
-                _put_record(3, "", 0, len(part.spec), words, text)
-                _put_parts(part.spec, words, text)
-        else:
-            raise TypeError(f"a str or a TemplateField is wanted, not {_type(part)}")
-
-
-def _put_record(kind: int, own: str, mode: int, parts: int, words: list[int], text: bytearray) -> None:
-    own_text = _bytes(own, "a text")
-    words += [kind, len(text), len(own_text), 0, 0, mode, parts, 0]
-    text += own_text
 
 
 def _fits(quotes: str, body: str) -> bool:
@@ -1124,8 +1113,6 @@ def _class_of(spec: str) -> FieldClass:
         told = Spec.parse(spec)
     except Refusal:
         return FieldClass.OWN
-    if told.type == "s":
-        return FieldClass.TEXT
     return FieldClass.ROUNDS if told.rounds else FieldClass.EXACT
 
 
@@ -1416,26 +1403,22 @@ STANDARD_INPUT = "-"
 # Where Debian's package unicode-data puts it.
 SYSTEM_NAMES = "/usr/share/unicode/UnicodeData.txt"
 ASKS_FOR_A_NAME = b"\\N"
+# The module that has each word of the command.
+WORDS = {
+    "fields": "stumpgarret_command",
+    "replay": "stumpgarret_replay",
+    "compare": "stumpgarret_compare",
+    "wrap": "stumpgarret_wrap",
+    "set-spec": "stumpgarret_setspec",
+}
 
 
 def main(arguments: list[str] | None = None) -> int:
     """The command; gives its exit status."""
     arguments = sys.argv[1:] if arguments is None else arguments
-    if arguments[:1] == ["replay"]:
-        import stumpgarret_replay
-
-        return stumpgarret_replay.main(arguments[1:])
-    if arguments[:1] == ["compare"]:
-        import stumpgarret_compare
-
-        return stumpgarret_compare.main(arguments[1:])
-    if arguments[:1] == ["wrap"]:
-        import stumpgarret_wrap
-
-        return stumpgarret_wrap.main(arguments[1:])
-    import stumpgarret_command
-
-    return stumpgarret_command.main(arguments[1:] if arguments[:1] == ["fields"] else arguments)
+    word = arguments[0] if arguments and arguments[0] in WORDS else None
+    module = importlib.import_module(WORDS[word or "fields"])
+    return module.main(arguments[1:] if word else arguments)
 
 
 def _columns(field: ScriptField) -> tuple[str, str, str]:

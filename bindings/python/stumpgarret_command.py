@@ -25,7 +25,9 @@ import stumpgarret_files
 import stumpgarret_notebook
 import stumpgarret_rounds
 import stumpgarret_rules
+import stumpgarret_words
 from stumpgarret import COMPLETE, INCOMPLETE, NAME_NOT_HELD, UNREAD, FieldClass, Refused, ScriptField, _one_line
+from stumpgarret_words import UnusableNames
 
 INTERRUPTED = 130
 PATIENCE_SECONDS = 2
@@ -59,11 +61,11 @@ A name that is not found is refused (13), and so is a file that is none (60, 61)
 
 A field is of one of five classes, by its conversion and its spec alone. `rounds`: by a type of e E f F g G n %, or by a
 precision without a type. `computed`: its spec has a field, so its digits are decided when it runs. `own`: its spec is a
-type's own, as dates have. `text`: a conversion is written or implied, or the type is s; what is formatted is text.
-`exact`: none of these. --rounds prints the first three, and is not passed while there is one.
+type's own, as dates have. `text`: a conversion is written or implied, so what is formatted is text. `exact`: none of
+these. --rounds prints the first three, and is not passed while there is one.
 
 A line of the FILE of --allow is `path:expression  # reason`: a field of this expression, as it is listed, may round in that
-script, whose path counts from the folder of FILE. It needs a reason. One that nothing is met by is told.
+script; its path is as it is listed, or counts from the folder of FILE. It needs a reason. One that nothing is met by is told.
 
 The table [tool.stumpgarret] of the nearest pyproject.toml, from the working folder upwards, may have `exclude`, a list of
 patterns, `names`, a path, and `allow`, a list of paths; all count from its folder.
@@ -77,6 +79,7 @@ USAGE = """%(prog)s [fields] [--why] [--classes] [--rounds] [--allow FILE] [--js
        %(prog)s replay [--lf] SCRIPT:LINE[:COLUMN] TRACE   (%(prog)s replay --help)
        %(prog)s compare OLD[:LINE[:COLUMN]] NEW[:LINE[:COLUMN]]   (%(prog)s compare --help)
        %(prog)s wrap [--limit N] [--check OLD:LINE[:COLUMN]] SCRIPT:LINE[:COLUMN]   (%(prog)s wrap --help)
+       %(prog)s set-spec [--in-place] SCRIPT:LINE:COLUMN SPEC   (%(prog)s set-spec --help)
        %(prog)s --explain NUMBER"""
 
 
@@ -112,14 +115,7 @@ def _fail(said: str) -> int:
 
 
 def _arguments(arguments: list[str]) -> argparse.Namespace:
-    parser = argparse.ArgumentParser(
-        prog="stumpgarret",
-        usage=USAGE,
-        description=DESCRIPTION,
-        epilog=EPILOG,
-        formatter_class=argparse.RawDescriptionHelpFormatter,
-        allow_abbrev=False,
-    )
+    parser = stumpgarret_words.parser("stumpgarret", USAGE, DESCRIPTION, EPILOG)
     parser.add_argument("--why", action="store_true", help="add the reason of each conversion")
     parser.add_argument("--classes", action="store_true", help="add the class of each field: whether it rounds")
     parser.add_argument("--rounds", action="store_true", help="list only what rounds or may round; status 1 if there is any")
@@ -236,13 +232,14 @@ def _library_hash() -> str:
         return ""
 
 
-class UnusableNames(Exception):
-    """A file of names that cannot be read, or that is refused."""
-
-
 def _names_path(named: str | None) -> str | None:
     """The file that is named, else the system's if it is there."""
     return named if named is not None else stumpgarret.SYSTEM_NAMES if os.path.exists(stumpgarret.SYSTEM_NAMES) else None
+
+
+def names_for(script: bytes, named: str | None) -> stumpgarret.Names | None:
+    """Those of a file, or none where a script asks for none: its reading is the same, and no file is read."""
+    return _names_of(_names_path(named)) if stumpgarret.ASKS_FOR_A_NAME in script else None
 
 
 def _names_said(path: str | None) -> str:

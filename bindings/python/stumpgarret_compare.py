@@ -16,10 +16,11 @@ from typing import Optional, Tuple
 
 import stumpgarret
 from stumpgarret import Answer, Bytes, Comparison, Field, Literal, Names, Refusal, Sort, Text
-from stumpgarret_command import UnusableNames, _content, _names_of, _names_path
-from stumpgarret_replay import PLACE, Told, Unusable, _complain, _output, _write, runs, template_at
+from stumpgarret_command import _content, names_for
+from stumpgarret_replay import runs, template_at
+from stumpgarret_words import DONE, FAILED, PLACE, Told, Unusable, complain, parsed, parser, put, status_of
 
-EQUAL, DIFFERENT, FAILED, INTERRUPTED = 0, 1, 2, 130
+EQUAL, DIFFERENT = DONE, 1
 # Pairs of runs that are held against each other at most, where two scripts differ.
 MOST_TRIED = 2500
 NOTHING = Answer(Sort.JOINED, False, 0, 0, (), 0)
@@ -185,14 +186,7 @@ def _key(records: tuple[Text | Field | Bytes, ...]) -> tuple[object, ...]:
 def main(arguments: list[str]) -> int:
     """The command; gives its exit status."""
     given = _arguments(arguments)
-    try:
-        return _compare_places(given) if given.old.line else _compare_scripts(given)
-    except (Told, Unusable, stumpgarret.Unavailable, UnusableNames) as error:
-        return _complain(str(error), FAILED)
-    except KeyboardInterrupt:
-        return _complain("interrupted", INTERRUPTED)
-    except Exception as error:
-        return _complain(f"stumpgarret: {type(error).__name__}: {error}", FAILED)
+    return status_of(lambda: _compare_places(given) if given.old.line else _compare_scripts(given), refused=FAILED)
 
 
 def _compare_places(given: argparse.Namespace) -> int:
@@ -211,7 +205,7 @@ def _compare_scripts(given: argparse.Namespace) -> int:
         if not compared(old, new).equal:
             status = _tell(old, new)
     for said in (said for side in refused for said in side):
-        status = _complain(said, FAILED)
+        status = complain(said, FAILED)
     return status
 
 
@@ -219,7 +213,7 @@ def _tell(old: Part | None, new: Part | None) -> int:
     """Prints a comparison; gives the exit status for it."""
     found = compared(old, new)
     lines = "".join(f"{line}\n" for line in told(found, old, new))
-    _write(_output(), lines.encode("utf-8", "backslashreplace"))
+    put(lines.encode("utf-8", "backslashreplace"))
     return EQUAL if found.equal else DIFFERENT
 
 
@@ -231,31 +225,21 @@ def _revision(path: str, named: str | None) -> Revision:
         raise Unusable(f"{name}: {error.strerror}") from error
     except stumpgarret.Undecodable as error:
         raise Unusable(f"{name}: {error}") from error
-    # Without names where none is asked for: the reading is the same, and no file is read.
-    asks = stumpgarret.ASKS_FOR_A_NAME in script
-    return Revision(name, script, _names_of(_names_path(named)) if asks else None)
+    return Revision(name, script, names_for(script, named))
 
 
 def _arguments(arguments: list[str]) -> argparse.Namespace:
-    parser = argparse.ArgumentParser(
-        prog="stumpgarret compare",
-        usage="%(prog)s [--names FILE] OLD:LINE[:COLUMN] NEW:LINE[:COLUMN]\n       %(prog)s [--names FILE] OLD NEW",
-        description=DESCRIPTION,
-        epilog=EPILOG,
-        formatter_class=argparse.RawDescriptionHelpFormatter,
-        allow_abbrev=False,
-    )
-    parser.add_argument("--names", metavar="FILE", help="take names of characters from a UnicodeData.txt")
-    parser.add_argument("given", nargs="*", metavar="PLACE", help=argparse.SUPPRESS)
-    # For argparse what begins with - is an option, unless there is nothing else.
-    given = parser.parse_args([f" {one}" if one.startswith("-:") else one for one in arguments])
+    usage = "%(prog)s [--names FILE] OLD:LINE[:COLUMN] NEW:LINE[:COLUMN]\n       %(prog)s [--names FILE] OLD NEW"
+    options = parser("stumpgarret compare", usage, DESCRIPTION, EPILOG)
+    options.add_argument("--names", metavar="FILE", help="take names of characters from a UnicodeData.txt")
+    given = parsed(options, arguments)
     if len(given.given) != 2:
-        parser.error("OLD and NEW are wanted, both with a line, as in bench.py:3, or both without")
+        options.error("OLD and NEW are wanted, both with a line, as in bench.py:3, or both without")
     given.old, given.new = map(_side, given.given)
     if bool(given.old.line) != bool(given.new.line):
-        parser.error("a line is wanted of both OLD and NEW, or of neither")
+        options.error("a line is wanted of both OLD and NEW, or of neither")
     if given.old.script == given.new.script == stumpgarret.STANDARD_INPUT:
-        parser.error("OLD and NEW cannot both be standard input")
+        options.error("OLD and NEW cannot both be standard input")
     return given
 
 
@@ -267,7 +251,7 @@ class _Side:
 
 
 def _side(given: str) -> _Side:
-    place = PLACE.fullmatch(given[1:] if given.startswith(" -:") else given)
+    place = PLACE.fullmatch(given)
     if not place:
         return _Side(given, None, None)
     return _Side(place["script"], int(place["line"]), int(place["column"]) if place["column"] else None)

@@ -18,14 +18,13 @@ from dataclasses import dataclass
 
 import stumpgarret
 from stumpgarret import Field, Kind, Literal, Refusal, Spec
+from stumpgarret_words import Told, Unusable, output as _output, parsed, parser, place, status_of, write
 
-WRITTEN, REFUSED, FAILED, INTERRUPTED = 0, 1, 2, 130
 BLOCK_BYTES = 1 << 20
 MOST_LINE_BYTES = 1 << 26
 # No integer by a spec of at most 64 characters has more.
 MOST_NUMBER_BYTES = 4 * 64
 MOST_SHOWN = 40
-PLACE = re.compile(r"(?P<script>.+?):(?P<line>[0-9]+)(?::(?P<column>[0-9]+))?", re.DOTALL)
 DESCRIPTION = """
 Replays recorded readings through a template: for each row of the trace the line that Python would write, with column k
 in the k-th field of the f-string, and a newline.
@@ -47,14 +46,6 @@ fields count from 1. Nothing is written to standard output then.
 Exit status: 0 if every row has its line, 1 if the template or a row is refused, 2 for a wrong use, for what cannot be
 read or written, and without the shared library.
 """
-
-
-class Unusable(Exception):
-    """A place, a script or a trace that cannot be used, in words."""
-
-
-class Told(Exception):
-    """A refusal, in words."""
 
 
 @dataclass(frozen=True)
@@ -326,7 +317,7 @@ def _through(template, fields: int, text_bytes: int, trace, name: str, lf: bool,
         answer, lines = template.replay(block, most)
         if answer[0]:
             raise Unusable(f"{name} changed while it was read")
-        _write(out, lines)
+        write(out, lines)
         done += len(block)
         if shows:
             progress.tell(f"{100 * min(done, whole) // whole} % written")
@@ -364,23 +355,6 @@ def _kept(trace, progress: Progress):
         kept.close()
         raise
     return kept
-
-
-def _output() -> int:
-    if sys.stdout is None:
-        raise Unusable("standard output is closed")
-    sys.stdout.flush()
-    return sys.stdout.fileno()
-
-
-def _write(out: int, lines: bytes) -> None:
-    """All of the bytes, with nothing between here and the file."""
-    left = memoryview(lines)
-    try:
-        while left:
-            left = left[os.write(out, left) :]
-    except OSError as error:
-        raise Unusable(f"standard output: {error.strerror}") from error
 
 
 # A row in words
@@ -453,23 +427,7 @@ def _shown(text: bytes) -> str:
 def main(arguments: list[str]) -> int:
     """The command; gives its exit status."""
     given = _arguments(arguments)
-    try:
-        _replay(_template(given), given.trace, given.lf)
-    except Told as refused:
-        return _complain(str(refused), REFUSED)
-    except (Unusable, stumpgarret.Unavailable, stumpgarret.Undecodable) as error:
-        return _complain(str(error), FAILED)
-    except KeyboardInterrupt:
-        return _complain("interrupted", INTERRUPTED)
-    except Exception as error:
-        return _complain(f"stumpgarret: {type(error).__name__}: {error}", FAILED)
-    return WRITTEN
-
-
-def _complain(said: str, status: int) -> int:
-    if sys.stderr is not None:
-        print(said.encode("utf-8", "backslashreplace").decode(), file=sys.stderr)
-    return status
+    return status_of(lambda: _replay(_template(given), given.trace, given.lf))
 
 
 def _template(given: argparse.Namespace) -> Template:
@@ -491,25 +449,16 @@ def template_in(place: re.Match) -> Template:
 
 
 def _arguments(arguments: list[str]) -> argparse.Namespace:
-    parser = argparse.ArgumentParser(
-        prog="stumpgarret replay",
-        usage="%(prog)s [--lf] SCRIPT:LINE[:COLUMN] TRACE\n       %(prog)s [--lf] --template TEXT TRACE",
-        description=DESCRIPTION,
-        epilog=EPILOG,
-        formatter_class=argparse.RawDescriptionHelpFormatter,
-        allow_abbrev=False,
-    )
-    parser.add_argument("--template", metavar="TEXT", help="take TEXT, a literal with prefix and quotes, for the template")
-    parser.add_argument("--lf", action="store_true", help="take rows that end with LF (this step is not proved)")
-    parser.add_argument("given", nargs="*", metavar="PLACE", help=argparse.SUPPRESS)
-    given = parser.parse_args(arguments)
+    usage = "%(prog)s [--lf] SCRIPT:LINE[:COLUMN] TRACE\n       %(prog)s [--lf] --template TEXT TRACE"
+    options = parser("stumpgarret replay", usage, DESCRIPTION, EPILOG)
+    options.add_argument("--template", metavar="TEXT", help="take TEXT, a literal with prefix and quotes, for the template")
+    options.add_argument("--lf", action="store_true", help="take rows that end with LF (this step is not proved)")
+    given = parsed(options, arguments)
     if given.template is None and len(given.given) != 2:
-        parser.error("SCRIPT:LINE[:COLUMN] and TRACE are wanted")
+        options.error("SCRIPT:LINE[:COLUMN] and TRACE are wanted")
     if given.template is not None and len(given.given) != 1:
-        parser.error("TRACE alone is wanted beside --template TEXT")
+        options.error("TRACE alone is wanted beside --template TEXT")
     given.trace = given.given[-1]
     if given.template is None:
-        given.place = PLACE.fullmatch(given.given[0])
-        if not given.place:
-            parser.error(f"SCRIPT:LINE[:COLUMN] is wanted, such as bench.py:3, and this is {given.given[0]}")
+        given.place = place(options, given.given[0])
     return given

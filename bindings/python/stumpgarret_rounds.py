@@ -2,8 +2,8 @@
 
     bench.py:mv / 1000  # three digits are what the meter has
 
-A line is a path, a colon, an expression as it is listed, and behind a `#` the reason. The path counts from the folder of the
-list; - is standard input, and a cell of a notebook has the notebook's path.
+A line is a path, a colon, an expression as it is listed, and behind a `#` the reason. The path is as it is listed, or counts
+from the folder of the list; - is standard input, and a cell of a notebook has the notebook's path.
 """
 
 from __future__ import annotations
@@ -30,7 +30,7 @@ class Entry:
 
     where: str
     path: str
-    key: str
+    keys: frozenset[str]
     text: str
     reason: str
 
@@ -46,7 +46,7 @@ class Allowed:
     def reason(self, path: str, text: str) -> str | None:
         """Why a text of a script is accepted; None if it is not."""
         key, text = _key(path, os.curdir), _plain(text)
-        found = [entry for entry in self.entries if (entry.key, entry.text) == (key, text)]
+        found = [entry for entry in self.entries if key in entry.keys and entry.text == text]
         self.met.update(entry.where for entry in found)
         return found[0].reason if found else None
 
@@ -60,10 +60,10 @@ class Allowed:
         for entry in self.entries:
             if entry.where in self.met:
                 continue
-            if entry.key in self.listed:
+            if entry.keys & self.listed:
                 yield entry.where, f"nothing that rounds is met by {_one_line(entry.path)}:{entry.text}"
-            elif entry.key != SHOWN_STANDARD_INPUT and not os.path.exists(entry.key):
-                yield entry.where, f"there is no {_one_line(entry.key)}: a path counts from the folder of its list"
+            elif SHOWN_STANDARD_INPUT not in entry.keys and not any(map(os.path.exists, entry.keys)):
+                yield entry.where, f"there is no script {_one_line(entry.path)}"
 
 
 def allowed(paths: Iterable[str]) -> Allowed:
@@ -86,8 +86,8 @@ def _entries(path: str) -> Iterator[Entry]:
             lacking = "a reason behind a #" if "#" not in line and ":" in line else WANTED
             raise Unusable(f"{shown}:{number}: {lacking} is wanted: {_one_line(line)}")
         own = found["path"].strip()
-        key = _key(own, os.path.dirname(path))
-        yield Entry(f"{shown}:{number}", own, key, _plain(found["text"]), found["reason"].strip())
+        keys = frozenset(_key(own, folder) for folder in (os.curdir, os.path.dirname(path)))
+        yield Entry(f"{shown}:{number}", own, keys, _plain(found["text"]), found["reason"].strip())
 
 
 def _key(path: str, folder: str) -> str:

@@ -12,7 +12,8 @@ import itertools
 
 import stumpgarret
 from stumpgarret import Bytes, Field, Kind, Literal, Refusal
-from stumpgarret_replay import FAILED, INTERRUPTED, PLACE, REFUSED, WRITTEN, Template, Told, Unusable, _complain, template_in
+from stumpgarret_replay import Template, template_in
+from stumpgarret_words import Told, Unusable, parsed, parser, place, put, status_of
 
 STYLE_BYTES = 79
 STEP = b"    "
@@ -150,51 +151,27 @@ def check(template: Template, old: Template, limit: int) -> None:
 def main(arguments: list[str]) -> int:
     """The command; gives its exit status."""
     given = _arguments(arguments)
-    try:
-        template = template_in(given.place)
-        if given.check is not None:
-            check(template, template_in(given.check), given.limit)
-        else:
-            _print(wrap(template, given.limit))
-    except Told as refused:
-        return _complain(str(refused), REFUSED)
-    except (Unusable, stumpgarret.Unavailable) as error:
-        return _complain(str(error), FAILED)
-    except KeyboardInterrupt:
-        return _complain("interrupted", INTERRUPTED)
-    except Exception as error:
-        return _complain(f"stumpgarret: {type(error).__name__}: {error}", FAILED)
-    return WRITTEN
+    return status_of(lambda: _wrap(given))
 
 
-def _print(text: bytes) -> None:
-    from stumpgarret_replay import _output, _write
-
-    _write(_output(), text)
+def _wrap(given: argparse.Namespace) -> None:
+    template = template_in(given.place)
+    if given.check is not None:
+        check(template, template_in(given.check), given.limit)
+    else:
+        put(wrap(template, given.limit))
 
 
 def _arguments(arguments: list[str]) -> argparse.Namespace:
-    parser = argparse.ArgumentParser(
-        prog="stumpgarret wrap",
-        usage="%(prog)s [--limit N] SCRIPT:LINE[:COLUMN]\n       %(prog)s [--limit N] --check OLD:LINE[:COLUMN] SCRIPT:LINE[:COLUMN]",
-        description=DESCRIPTION,
-        epilog=EPILOG,
-        formatter_class=argparse.RawDescriptionHelpFormatter,
-        allow_abbrev=False,
-    )
-    parser.add_argument("--limit", type=int, default=STYLE_BYTES, metavar="N", help="bytes of a line (79)")
-    parser.add_argument("--check", metavar="PLACE", help="compare with the one f'..' at a place of a script")
-    parser.add_argument("given", metavar="PLACE", help=argparse.SUPPRESS)
-    given = parser.parse_args(arguments)
+    whole = "%(prog)s [--limit N] SCRIPT:LINE[:COLUMN]\n       %(prog)s [--limit N] --check OLD:LINE[:COLUMN] SCRIPT:LINE[:COLUMN]"
+    options = parser("stumpgarret wrap", whole, DESCRIPTION, EPILOG)
+    options.add_argument("--limit", type=int, default=STYLE_BYTES, metavar="N", help="bytes of a line (79)")
+    options.add_argument("--check", metavar="PLACE", help="compare with the one f'..' at a place of a script")
+    given = parsed(options, arguments)
+    if len(given.given) != 1:
+        options.error("one SCRIPT:LINE[:COLUMN] is wanted")
     if given.limit < 0:
-        parser.error(f"--limit wants a number of bytes, and this is {given.limit}")
-    given.place = _place(parser, given.given)
-    given.check = None if given.check is None else _place(parser, given.check)
+        options.error(f"--limit wants a number of bytes, and this is {given.limit}")
+    given.place = place(options, given.given[0])
+    given.check = None if given.check is None else place(options, given.check)
     return given
-
-
-def _place(parser: argparse.ArgumentParser, text: str):
-    place = PLACE.fullmatch(text)
-    if not place:
-        parser.error(f"SCRIPT:LINE[:COLUMN] is wanted, such as bench.py:3, and this is {text}")
-    return place

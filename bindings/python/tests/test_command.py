@@ -20,6 +20,7 @@ import stumpgarret_rules
 BENCH = 'print("VDD "\n      f"{mv / 12.5:.0f} {n!r}\\n")\n'
 BENCH_FIELDS = "bench.py:2:10\tmv / 12.5\t\t:.0f\nbench.py:2:26\tn\t!r\t\n"
 LAST_LINE = r"^[0-9,]+ fields? in [0-9,]+ scripts?, (complete|not complete(: .*)?)(; [0-9,]+ lines? or cells? left out, not Python)?\n$"
+LATER = "from Python 3.12 on a string in the field may have the quotes of the f-string: write others, `f\"{d['a']}\"`"
 IS_3_11 = sys.version_info[:2] == (3, 11)
 
 
@@ -225,8 +226,17 @@ class Words(Command):
                 change = stumpgarret_rules.change(number, detail)
                 self.assertTrue(change and "\n" not in change and "Not in a list" not in change, number)
         self.assertEqual(len({stumpgarret_rules.change(20, detail) for detail in range(1, 6)}), 5)
-        said = ["write `}}` if a brace is meant, or the `{` that is missing before it.", "write the `}`; if a brace is meant, write `{{`"]
+        said = ["write `}}` if a brace is meant, or the `{` that is missing before it.", "write the `}`; if a brace is meant, write `{{`; " + LATER]
         self.assertEqual(self.changes(a="f'}' f'{x'"), said)
+
+    def test_later_python(self):
+        """What Python takes from 3.12 on is refused, and it says so, and what to write."""
+        for source in ('f"{d["a"]}"', 'f"{f"{x}"}"', "f\"{'\"'}\"", "f\"{'\\n'}\"", 'f"{x\n}"', 'f"{x  # y\n}"'):
+            with self.subTest(source=source):
+                changes = self.changes(a=source)
+                self.assertTrue(any("3.12 on" in change for change in changes), changes)
+        self.assertEqual(self.changes(a='f"{d["a"]}"')[0], f"write the `}}`; if a brace is meant, write `{{{{`; {LATER}")
+        self.assertEqual(self.changes(a="f\"{d['a']}\""), [])
 
     def test_otherwise(self):
         """75 names what was met."""

@@ -186,7 +186,7 @@ def run(*arguments):
     """Status, standard output and standard error of the command, in this process."""
     out, err = io.StringIO(), io.StringIO()
     written = []
-    with mock.patch.object(stumpgarret_wrap, "_print", written.append), contextlib.redirect_stdout(out), contextlib.redirect_stderr(err):
+    with mock.patch.object(stumpgarret_wrap, "put", written.append), contextlib.redirect_stdout(out), contextlib.redirect_stderr(err):
         try:
             status = stumpgarret.main(["wrap", *arguments])
         except SystemExit as exit:

@@ -447,7 +447,7 @@ class Install(Copy):
     def test_manual(self):
         """It has each option of the command, and no other, and nothing that groff warns of."""
         page = (CLONE / "docs/stumpgarret.1").read_text()
-        options = set(re.findall(r"--[a-z-]+", page.replace("\\-", "-"))) - {"--lf", "--limit"}  # of replay and of wrap
+        options = set(re.findall(r"--[a-z-]+", page.replace("\\-", "-"))) - {"--lf", "--limit", "--in-place"}  # of replay, wrap and set-spec
         status, out, _ = run(self.prefix / "bin/stumpgarret", "--help", cwd="/", PATH=self.few)
         self.assertEqual(options, set(re.findall(r"^  (?:-h, )?(--[a-z-]+)", out, re.M)))
         self.assertIn(f"stumpgarret {stumpgarret.__version__}", page)

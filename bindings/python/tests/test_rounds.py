@@ -21,8 +21,8 @@ CLASSES = {
     "rounds": "{x:.3f} {x:e} {x:E} {x:f} {x:F} {x:g} {x:G} {x:n} {x:%} {x:.0} {x:>8.3} {x=:.2f} {x:,.1%} {x:.0n}",
     "computed": "{x:{w}} {x:.{n}f} {x:>{w}d} {x=:{w}}",
     "own": "{x:%Y-%m-%d} {x:.3q} {x:hex} {x:5 } {x: .2fV}",
-    "text": "{x!r} {x!s:.3f} {x!a:>9} {x=} {x=!s} {x!s:{w}} {x:s} {x:.3s} {x:>8s}",
-    "exact": "{x} {x:} {x:d} {x:>8} {x:,} {x:#06x} {x:+} {x:_b} {x:c} {x:08} {x:*^9} {x:z}",
+    "text": "{x!r} {x!s:.3f} {x!a:>9} {x=} {x=!s} {x!s:{w}}",
+    "exact": "{x} {x:} {x:d} {x:>8} {x:,} {x:#06x} {x:+} {x:_b} {x:c} {x:08} {x:*^9} {x:z} {x:s} {x:.3s} {x:>8s}",
 }
 VALUES = 59.44, 59.5
 # What a type of an integer takes.
@@ -171,6 +171,16 @@ class Allow(Rounds):
         self.assertEqual((status, lines[1]), (1, "b.py:1:4\tx\t\t:.0f\trounds"))
         self.assertEqual(err, ["2 fields in 2 scripts, complete; 1 rounds or may, 1 allowed"])
 
+    def test_as_it_is_listed(self):
+        """A path may be copied from the list, wherever the list of what is accepted stands."""
+        os.makedirs("lists")
+        os.mkdir("src")
+        pathlib.Path("lists/allow").write_text("src/a.py:x  # it may\n")
+        pathlib.Path("src/a.py").write_text("f'{x:.0f}'")
+        self.assertEqual(self.rounds("--allow", "lists/allow", "./src/a.py")[0], 0)
+        os.chdir("src")
+        self.assertEqual(self.rounds("--allow", "../lists/allow", "a.py")[0], 1)
+
     def test_from_the_folder_of_the_list(self):
         os.mkdir("src")
         pathlib.Path("src/allow").write_text("a.py:x  # it may\n")
@@ -186,8 +196,7 @@ class Allow(Rounds):
         pathlib.Path("allow").write_text("a.py:x  # it may\na.py:y  # y does not round\nnone.py:x  # none\nb.py:z  # later\n-:x  # input\n")
         pathlib.Path("b.py").write_text("f'{z:.0f}'")
         status, _, err = self.rounds("--allow", "allow", a="f'{x:.0f}{y}'")
-        said = ["allow:2: nothing that rounds is met by a.py:y"]
-        said += [f"allow:3: there is no {self.folder}/none.py: a path counts from the folder of its list"]
+        said = ["allow:2: nothing that rounds is met by a.py:y", "allow:3: there is no script none.py"]
         self.assertEqual((status, err[:-1]), (0, said))
 
     def test_standard_input_and_notebooks(self):

@@ -172,7 +172,7 @@ pub enum FieldClass {
     Computed,
     /// Its spec is not of the mini-language but a type's own, as dates have.
     Own,
-    /// What is formatted is text: a conversion is written or implied, or the type is `s`.
+    /// A conversion is written or implied: what is formatted is text.
     Text,
     /// None of these.
     Exact,
@@ -192,7 +192,6 @@ impl FieldClass {
         }
         match Spec::parse(spec) {
             Err(_) => FieldClass::Own,
-            Ok(told) if told.kind == Some('s') => FieldClass::Text,
             Ok(told) if told.rounds => FieldClass::Rounds,
             Ok(_) => FieldClass::Exact,
         }

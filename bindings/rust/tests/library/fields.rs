@@ -1,8 +1,8 @@
 //! Every field of whole scripts.
 use stumpgarret::ConversionReason::{None as NoReason, Repr, Spec, Written};
 use stumpgarret::{
-    field_signs, fields, fields_named, fields_of_text, literals_at, FieldClass, Listed, ListedField,
-    ListedRefusal, Listing, Names, Reason, Row, MOST_SCRIPT_BYTES,
+    field_signs, fields, fields_named, fields_of_text, literals_at, FieldClass, Listed,
+    ListedField, ListedRefusal, Listing, Names, Reason, Row, MOST_SCRIPT_BYTES,
 };
 
 /// Rows as `line:column expression=!r:spec`, each behind a dot for every field it stands in; refusals as
@@ -224,8 +224,8 @@ fn classes() {
         (Rounds, "{x:.3f} {x:e} {x:G} {x:n} {x:%} {x:.0} {x=:.2f} {x:,.1%}"),
         (Computed, "{x:{w}} {x:.{n}f} {x=:{w}}"),
         (Own, "{x:%Y-%m-%d} {x:.3q} {x:5q}"),
-        (Text, "{x!r} {x!s:.3f} {x!a:>9} {x=} {x=!s} {x!s:{w}} {x:s} {x:.3s}"),
-        (Exact, "{x} {x:} {x:d} {x:>8} {x:,} {x:#06x} {x:c} {x:*^9}"),
+        (Text, "{x!r} {x!s:.3f} {x!a:>9} {x=} {x=!s} {x!s:{w}}"),
+        (Exact, "{x} {x:} {x:d} {x:>8} {x:,} {x:#06x} {x:c} {x:*^9} {x:s} {x:.3s}"),
     ] {
         for one in fields_of_it.split(' ') {
             let listing = fields(format!("f'{}'", one)).unwrap();
