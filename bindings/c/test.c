@@ -439,6 +439,50 @@ static void refuses_scripts(void)
     not_listed(STUMPGARRET_SCRIPT_TOO_LONG, 0, 0, 3);
 }
 
+/* Lists every literal of so many bytes with so many numbers lent, all filled before. */
+static void cut_with(const void *script, size_t length, size_t lent)
+{
+    memset(words, FILL, sizeof words);
+    memset(answer, FILL, sizeof answer);
+    stumpgarret_cut((const uint8_t *)script, length, words, lent, answer);
+}
+
+/* Every literal of a script, what it ended with, and what is refused. */
+static void cuts_whole(void)
+{
+    static const char script[] = "x = ('VDD ' # it's\n, Rf\"\"\"{mv}\"\"\")\ny = f'";
+    static const uint32_t literals[] = {
+        STUMPGARRET_STRING, 0, 6, 4, 5, 11,
+        STUMPGARRET_RAW_FSTRING, 1, 26, 4, 21, 33,
+    };
+    static const uint32_t broken[STUMPGARRET_ANSWER_NUMBERS] = {
+        STUMPGARRET_ACCEPTED, 2, 39, STUMPGARRET_NEVER_CLOSED,
+    };
+    static const uint32_t whole[STUMPGARRET_ANSWER_NUMBERS] = {STUMPGARRET_ACCEPTED, 2, 38, 0};
+    cut_with(script, strlen(script), WORDS);
+    listed(broken, literals);
+    const uint32_t by_name[] = {
+        answer[STUMPGARRET_ANSWER_NUMBER], answer[STUMPGARRET_CUT_LITERALS],
+        answer[STUMPGARRET_CUT_TO], answer[STUMPGARRET_CUT_ENDED],
+    };
+    numbers_are("named number", by_name, broken, COUNT(by_name));
+    cut_with(script, 38, COUNT(literals));
+    listed(whole, literals);
+    cut_with(script, 38, COUNT(literals) - 1);
+    not_listed(STUMPGARRET_TOO_LITTLE_LIST_ROOM, 0, COUNT(literals), COUNT(literals) - 1);
+    cut_with(script, 38, answer[STUMPGARRET_CUT_NEEDED]);
+    listed(whole, literals);
+
+    enum { MOST = STUMPGARRET_MOST_SCRIPT_BYTES };
+    static char blank[MOST + 1];
+    static const uint32_t none[STUMPGARRET_ANSWER_NUMBERS] = {STUMPGARRET_ACCEPTED, 0, MOST, 0};
+    memset(blank, ' ', sizeof blank);
+    cut_with(blank, MOST, 3);
+    listed(none, NULL);
+    cut_with(blank, MOST + 1, 3);
+    not_listed(STUMPGARRET_SCRIPT_TOO_LONG, 0, 0, 3);
+}
+
 /* Lists the fields of so many bytes with so many numbers lent, all filled before. */
 static void fields_with(const char *script, size_t length, size_t lent)
 {
@@ -1468,6 +1512,7 @@ int main(void)
     signs();
     lists_two();
     refuses_scripts();
+    cuts_whole();
     lists_fields();
     decodes_nothing();
     lists_refusals();

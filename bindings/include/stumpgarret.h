@@ -1,6 +1,6 @@
 /* Lists every formatted field of a whole Python script; reads runs of its string literals to records:
    texts, formatted fields, format specs; tells where the signs of each field stand; lists the
-   literals of a script from an offset on; takes the names of characters from a file that is lent;
+   literals of a script, from an offset on or all; takes the names of characters from a file that is lent;
    reads format specs; replays recorded readings through a template; compares two revisions of such a
    run; writes the body of an f-string back from its records; and plans and checks where a long
    template may be broken over lines.
@@ -46,7 +46,8 @@ enum stumpgarret_kind {
 enum stumpgarret_limit {
     STUMPGARRET_MOST_LITERALS = 1024,
     STUMPGARRET_MOST_BODY_BYTES = 1048576, /* all bodies together */
-    STUMPGARRET_MOST_SCRIPT_BYTES = 1048576 /* of stumpgarret_literals and stumpgarret_fields */
+    STUMPGARRET_MOST_SCRIPT_BYTES = 1048576 /* of stumpgarret_literals, stumpgarret_fields
+                                               and stumpgarret_cut */
 };
 
 /* A record is eight words, at these indexes. A word that a kind has no use for is 0.
@@ -160,7 +161,7 @@ enum stumpgarret_refusal {
     STUMPGARRET_TOO_LITTLE_TEXT_ROOM = 31,  /* details: the same */
 
     /* Of stumpgarret_literals, with no literal and no details: 49 before all else, then the first
-       that is met, and 53 only for what is otherwise accepted. */
+       that is met, and 53 only for what is otherwise accepted. Of stumpgarret_cut 49 and 53 only. */
     STUMPGARRET_SCRIPT_TOO_LONG = 49,
     STUMPGARRET_NEVER_CLOSED = 50,      /* place: where the literal starts */
     STUMPGARRET_NEWLINE_IN_LITERAL = 51, /* a byte 10 in a literal of one quote; place: where the
@@ -377,6 +378,32 @@ enum stumpgarret_fields_answer {
 void stumpgarret_fields(const uint8_t *script, size_t script_length,
                         uint32_t *rows, size_t rows_length,
                         uint32_t answer[STUMPGARRET_ANSWER_NUMBERS]);
+
+/* The answer of stumpgarret_cut. */
+enum stumpgarret_cut_answer {
+    STUMPGARRET_CUT_LITERALS = 1,   /* how many literals were listed */
+    STUMPGARRET_CUT_TO,             /* how far the script was cut: its length, or where the literal of
+                                       a 50 or 51 starts */
+    STUMPGARRET_CUT_ENDED,          /* that 50 or 51, or 0 if the script was cut to its end */
+
+    STUMPGARRET_CUT_NEEDED = 9      /* of 53: how many numbers the list needs */
+};
+
+/* Lists every literal of a whole script, six numbers for each: offsets, starts and ends are those of
+   the script. It is cut as stumpgarret_fields cuts it, and literals of every kind are listed, but none
+   that stands in an expression of another. What lies between them are gaps, with nothing of a literal
+   in them. A 50 or 51 is no refusal here: the literals before it are listed.
+
+   Two bytes at least make a literal, so room for three numbers for each byte of the script is always
+   enough. Refusals are 49, and 53 if fewer numbers are lent than the list needs. On acceptance the list
+   stands in front in `numbers`, and what follows is unchanged. On refusal every one of `numbers` is 0.
+   `answer` always gets twelve numbers.
+
+   The caller sees to the same as for stumpgarret_read: `numbers` and `answer` overlap nothing else
+   that is passed. Any bytes and any length get an answer. */
+void stumpgarret_cut(const uint8_t *script, size_t script_length,
+                     uint32_t *numbers, size_t numbers_length,
+                     uint32_t answer[STUMPGARRET_ANSWER_NUMBERS]);
 
 /* A file of names is the text of UnicodeData.txt, as Unicode publishes it. Each line is ended by a
    byte 10 and has fifteen fields parted by ; signs: the first is a code in four to six hex digits, the

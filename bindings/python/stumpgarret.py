@@ -21,7 +21,7 @@ What people call:
     plan_cuts(body, limit)          where a long template may be broken over lines; check_cuts(body, limit, cuts) checks it
 
 The library's calls behind them: `rows`, every row of a whole script by places; `read`, one run of literals; `literals`, the
-adjacent literals of a script from an offset on.
+adjacent literals of a script from an offset on; `cut`, every literal of a whole script.
 
 At a shell: `python3 stumpgarret.py --help`, and `--help` behind the words replay, compare, wrap and set-spec, say what is printed, and
 what the exit status means. Any Python from 3.7 on will do.
@@ -58,6 +58,7 @@ __all__ = [
     "rows",
     "read",
     "literals",
+    "cut",
     "replay",
     "compare",
     "plan_cuts",
@@ -82,6 +83,7 @@ __all__ = [
     "FieldClass",
     "Literal",
     "Listing",
+    "Cut",
     "Text",
     "Field",
     "Bytes",
@@ -141,6 +143,16 @@ class Listing:
 
     literals: tuple[Literal, ...]
     stop: int
+
+
+@dataclass(frozen=True)
+class Cut:
+    """Every literal of a whole script, in order. `to` is how far it was cut: its length, or where a literal starts that never
+    closes; `ended` is then that refusal's number, 50 or 51."""
+
+    literals: tuple[Literal, ...]
+    to: int
+    ended: int | None
 
 
 @dataclass(frozen=True)
@@ -661,9 +673,22 @@ def literals(script: bytes | str, offset: int) -> Listing:
     Raises `Refusal` if the library refuses it, and ValueError for an offset that does not fit into 32 bits."""
     script = _bytes(script)
     offset = _number("the offset", offset)
-    answer, numbers = _list_call("literals", [script, len(script), offset], FIRST_LITERALS * NUMBERS_OF_A_LITERAL, 1)
-    _, count, _, stop, *_ = answer
-    return Listing(tuple(_listed(*own) for own in _cut(numbers, NUMBERS_OF_A_LITERAL, count)), stop)
+    found, (_, stop) = _literals("literals", [script, len(script), offset])
+    return Listing(found, stop)
+
+
+def cut(script: bytes | str) -> Cut:
+    """Every literal of a whole script, of any kind, without those in expressions; a str stands for its UTF-8 bytes. Line ends are
+    taken as they stand, as for `rows`. What lies between the literals has nothing of one, but in comments.
+
+    Raises `Refusal` 49 if the script has more bytes than the library takes.
+
+    >>> cut("x = f'{mv}' + '").to, cut("x = f'{mv}' + '").ended
+    (14, 50)
+    """
+    script = _bytes(script)
+    found, (to, ended) = _literals("cut", [script, len(script)])
+    return Cut(found, to, ended or None)
 
 
 def rows(script: bytes | str, names: Names | None = None) -> Rows:
@@ -827,6 +852,12 @@ def check_cuts(body: bytes | str, limit: int, cuts: Iterable[int]) -> None:
 def _refusal(answer: list[int]) -> Refusal:
     number, literal, place, a, b, opened, line, column, chars, told, *_ = answer
     return Refusal(number, literal, place, (a, b), line, column, opened, chars, told)
+
+
+def _literals(call: str, lent: list[bytes | int]) -> tuple[tuple[Literal, ...], list[int]]:
+    """What a call lists, and the two numbers that it tells behind their count."""
+    answer, numbers = _list_call(call, lent, FIRST_LITERALS * NUMBERS_OF_A_LITERAL, 1)
+    return tuple(_listed(*own) for own in _cut(numbers, NUMBERS_OF_A_LITERAL, answer[1])), answer[2:4]
 
 
 def _listed(kind: int, triple: int, *rest: int) -> Literal:
@@ -1008,7 +1039,7 @@ CALLS = {
     "read": [TEXT, LENGTH, NUMBERS, LENGTH, NUMBERS, LENGTH, TEXT, LENGTH, NUMBERS],
     "signs": [TEXT, LENGTH, NUMBERS, LENGTH, NUMBERS, LENGTH, NUMBERS],
     "literals": [TEXT, LENGTH, ctypes.c_uint32, NUMBERS, LENGTH, NUMBERS],
-    "fields": [TEXT, LENGTH, NUMBERS, LENGTH, NUMBERS],
+    **dict.fromkeys(["cut", "fields"], [TEXT, LENGTH, NUMBERS, LENGTH, NUMBERS]),
     "names_build": [TEXT, LENGTH, NUMBERS, LENGTH, NUMBERS],
     "names_check": [TEXT, LENGTH, NUMBERS, LENGTH, NUMBERS],
     **dict.fromkeys(

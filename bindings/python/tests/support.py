@@ -56,6 +56,9 @@ class Server:
     def fields(self, script, script_length, rows, rows_length, answer):
         self.ask_script(2**32 - 2, script[:script_length], 0, rows, answer)
 
+    def cut(self, script, script_length, numbers, numbers_length, answer):
+        self.ask_script(2**32 - 14, script[:script_length], 0, numbers, answer)
+
     def names_build(self, file, file_length, index, index_length, answer):
         self.ask_named(2**32 - 3, [file, index, b"", b"", b"", b""], answer, index)
 

@@ -1,10 +1,10 @@
-"""The literals of a script from an offset on."""
+"""The literals of a script from an offset on, and all of them."""
 
 import ctypes
 import unittest
 
 from support import calls_of, stumpgarret
-from stumpgarret import Kind, Literal, Refusal, Text, literals, read
+from stumpgarret import Cut, Kind, Literal, Refusal, Text, cut, literals, read
 
 PREFIXES = {"": Kind.STRING, "f": Kind.FSTRING, "b": Kind.BYTES, "r": Kind.RAW_STRING, "u": Kind.UNICODE}
 PREFIXES |= {"fr": Kind.RAW_FSTRING, "rf": Kind.RAW_FSTRING, "br": Kind.RAW_BYTES, "rb": Kind.RAW_BYTES}
@@ -120,6 +120,49 @@ class Room(unittest.TestCase):
             rest = 7 if listed else 0
             self.assertEqual(list(numbers), expected[:listed] + (lent - listed) * [rest])
             self.assertEqual((answer[0], answer[9]), (first, 12 if first == 53 else 0))
+
+
+class Whole(unittest.TestCase):
+    def test_every_literal(self):
+        script = "x = ('VDD', # it's\n Rf'{mv}' + if'a')"
+        first = Literal(Kind.STRING, False, 6, 3, 5, 10)
+        second = Literal(Kind.RAW_FSTRING, False, 23, 4, 20, 28)
+        third = Literal(Kind.STRING, False, 34, 1, 33, 36)
+        self.assertEqual(cut(script), Cut((first, second, third), 37, None))
+        self.assertEqual(cut("µ = 'µ'").literals, (Literal(Kind.STRING, False, 6, 2, 5, 9),))
+        self.assertEqual(cut(""), Cut((), 0, None))
+
+    def test_what_it_ends_with(self):
+        one = (Literal(Kind.STRING, False, 1, 1, 0, 3),)
+        self.assertEqual(cut("'a', f\"\"\"b\"\""), Cut(one, 5, 50))
+        self.assertEqual(cut("'a'\nb'b\n'c'"), Cut(one, 4, 51))
+
+    def test_the_most(self):
+        self.assertEqual(cut(MOST * b" "), Cut((), MOST, None))
+        with self.assertRaises(Refusal) as caught:
+            cut(MOST * b" " + b"'")
+        self.assertEqual((caught.exception.number, caught.exception.place), (49, 0))
+
+    def test_room(self):
+        with calls_of("cut") as calls:
+            self.assertEqual(len(cut(16 * "'';").literals), 16)
+            self.assertEqual(cut(100_000 * "'';" + "'").to, 300_000)
+        self.assertEqual([arguments[3] for arguments in calls], [96, 96, 600_000])
+
+    def test_what_is_lent(self):
+        """The list in front and what follows as it was, or zeros throughout."""
+        for script, lent, expected in (
+            (b"'';f''", 13, [0, 2, 6, 0]),
+            (b"'';f'';'", 13, [0, 2, 7, 50]),
+            (b"'';f''", 11, [53, 0, 0, 0, 0, 0, 0, 0, 0, 12]),
+            ((MOST + 1) * b"'", 11, [49]),
+        ):
+            numbers, answer = (ctypes.c_uint32 * lent)(*lent * [7]), (ctypes.c_uint32 * 12)(*12 * [7])
+            stumpgarret._function("cut")(script, len(script), numbers, lent, answer)
+            listed = [] if expected[0] else [0, 0, 1, 0, 0, 2, 1, 0, 5, 0, 3, 6]
+            rest = 0 if expected[0] else 7
+            self.assertEqual(list(numbers), listed + (lent - len(listed)) * [rest])
+            self.assertEqual(list(answer), expected + (12 - len(expected)) * [0])
 
 
 if __name__ == "__main__":

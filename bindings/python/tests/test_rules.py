@@ -62,6 +62,12 @@ def list_literals(script, offset=0, room=ROOM_FOR_ALL):
     return list(answer), list(numbers)
 
 
+def cut_script(script, room=ROOM_FOR_ALL):
+    numbers, answer = numbers_of(room), numbers_of(12)
+    stumpgarret._function("cut")(script, len(script), numbers, room, answer)
+    return list(answer), list(numbers)
+
+
 def list_fields(script, room=ROOM_FOR_ALL):
     rows, answer = numbers_of(room), numbers_of(12)
     stumpgarret._function("fields")(script, len(script), rows, room, answer)
@@ -285,6 +291,11 @@ def asked_script(shown):
     return ask
 
 
+def asked_cut(cell, spans):
+    answer, numbers = cut_script(plain(spans[0]), room_of(cell))
+    return "; ".join([numbers_shown(answer, 4), *map(in_words, groups(numbers, 6, answer[1]))])
+
+
 def classes(script):
     """The fields of a script with their classes, by the module."""
     entries = stumpgarret.list_script(script).entries
@@ -410,6 +421,7 @@ TABLES = {
     ("Signs", "Numbers"): asked_signs(lambda answer, rows: numbers_shown(answer, 9)),
     ("Literals", "List"): asked_literals(listed),
     ("Literals", "Numbers"): asked_literals(lambda answer, numbers: numbers_shown(answer, 4)),
+    ("Cut", "Numbers and list"): asked_cut,
     ("Script", "Numbers"): asked_script(lambda script, answer, rows: numbers_shown(answer, 5)),
     ("Script", "Rows"): asked_script(lambda script, answer, rows: "; ".join(map(in_words, groups(rows, 10, answer[1])))),
     ("Script", "Fields"): asked_script(

@@ -1,7 +1,7 @@
 """Lists the literals of Python's own library, and compares them with what Python's tokenize finds.
 
 At the first literal of every run of adjacent ones, the same literals must be listed, and the run must stop where
-nothing more is passed over. Where the two differ on purpose, the class has a row in docs/DIFFERENCES.md, which is
+nothing more is passed over; and the cut of the whole script must have all literals and go to its end. Where the two differ on purpose, the class has a row in docs/DIFFERENCES.md, which is
 checked too. A script in ten is taken; the variable STUMPGARRET_SHARE names another share, 1 for all of them.
 """
 
@@ -107,12 +107,18 @@ class Library(unittest.TestCase):
             self.count["scripts that Python cannot decode"] += 1
             return
         source = text.encode("utf-8", "surrogatepass")
+        found = []
         try:
             for chain in chains(text):
+                found += itertools.chain(*chain)
                 for index, run in enumerate(chain):
                     self.compare_run(source, run, [*itertools.chain(*chain[index + 1 :])])
         except (tokenize.TokenError, IndentationError):
             self.count["scripts that tokenize refuses"] += 1
+            return
+        if len(source) <= 1_048_576:
+            self.assertEqual(stumpgarret.cut(source), stumpgarret.Cut(tuple(found), len(source), None))
+            self.count["scripts cut whole"] += 1
 
     def compare_run(self, source, run, later):
         self.count["runs"] += 1

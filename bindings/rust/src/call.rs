@@ -35,6 +35,13 @@ extern "C" {
         numbers_length: usize,
         answer: *mut u32,
     );
+    fn stumpgarret_cut(
+        script: *const u8,
+        script_length: usize,
+        numbers: *mut u32,
+        numbers_length: usize,
+        answer: *mut u32,
+    );
     fn stumpgarret_fields(
         script: *const u8,
         script_length: usize,
@@ -191,6 +198,21 @@ pub(crate) fn literals(script: &[u8], offset: u32, numbers: &mut [u32]) -> [u32;
             script.as_ptr(),
             script.len(),
             offset,
+            numbers.as_mut_ptr(),
+            numbers.len(),
+            answer.as_mut_ptr(),
+        );
+    }
+    answer
+}
+
+pub(crate) fn cut(script: &[u8], numbers: &mut [u32]) -> [u32; ANSWER] {
+    let mut answer = [0; ANSWER];
+    // SAFETY: as above.
+    unsafe {
+        stumpgarret_cut(
+            script.as_ptr(),
+            script.len(),
             numbers.as_mut_ptr(),
             numbers.len(),
             answer.as_mut_ptr(),

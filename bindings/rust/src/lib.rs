@@ -70,7 +70,7 @@
 //! [`field_signs`] tells why each field has its conversion, and where its signs and its spec stand.
 //!
 //! [`literals_at`] finds the literals in a script, so that none is cut out by hand, and [`read_at`]
-//! reads what it finds.
+//! reads what it finds. [`cut`] finds all of them.
 //!
 //! [`replay`] puts the rows of a recorded trace into the fields of a template, a line for each, and
 //! [`Spec::parse`] tells the parts of a format spec.
@@ -110,7 +110,7 @@ pub use literal::{Literal, StringKind};
 pub use names::Names;
 pub use refusal::{Reason, Refusal, Unclosed};
 pub use replay::{replay, FormatSpec, Replay};
-pub use run::{literals_at, read_at, read_at_named, Run};
+pub use run::{cut, literals_at, read_at, read_at_named, Cut, Run};
 pub use signs::{field_signs, ConversionReason, FieldSigns};
 pub use template::{Part, Template, TemplateField};
 

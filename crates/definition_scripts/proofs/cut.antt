@@ -3,3 +3,4 @@ pub mod CutOnce
 pub mod CutSteps
 pub mod RunInCut
 pub mod PartLaws
+pub mod CutListLaws

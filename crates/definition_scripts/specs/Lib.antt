@@ -4,4 +4,5 @@ pub mod Literals
 pub mod IsCut
 pub mod Cut
 pub mod Listing
+pub mod CutList
 pub mod Complete

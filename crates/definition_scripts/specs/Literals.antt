@@ -104,20 +104,24 @@ unfoldable pub flat : List Literal → List ℕ
 flat [] = []
 flat (l ∷ ls) = l .kind ∷ l .triple ∷ l .offset ∷ l .size ∷ l .start ∷ l .end ∷ flat ls
 
--- A listing: a run, why there is none, or how many numbers its list needs that a buffer does not hold
+-- A listing: literals with two numbers that are told of them, why there are none, or how many numbers their list needs that a buffer does not hold
 pub data Listing : Type 0 where
-  lists : (run : Run) → Listing
+  lists : (literals : List Literal) (to more : ℕ) → Listing
   refused : (why : Refusal) → Listing
   short : (needed : ℕ) → Listing
 
--- in a buffer of so many numbers; 53 is given only if nothing else is
+-- in a buffer of so many numbers
+unfoldable pub fitting : (room : ℕ) → List Literal → (to more : ℕ) → Listing
+fitting room ls to more = let needed = 6 * length ls in if ltb room needed then short needed else lists ls to more
+
+-- of a run: where its last literal ends, and where it stopped; 53 is given only if nothing else is
 unfoldable pub listed : ℕ → Outcome Run → Listing
 listed room (refuses r) = refused r
-listed room (accepts x) = let needed = 6 * length (x .literals) in if ltb room needed then short needed else lists x
+listed room (accepts x) = fitting room (x .literals) (lastEnd 0 (x .literals)) (x .stop)
 
 -- what the list buffer holds after a listing
 unfoldable pub listAfter : Listing → List ℕ → List ℕ
-listAfter (lists x) buffer = inFront (flat (x .literals)) buffer
+listAfter (lists ls to more) buffer = inFront (flat ls) buffer
 listAfter (refused r) buffer = zeros buffer
 listAfter (short n) buffer = zeros buffer
 
@@ -132,8 +136,8 @@ listInto l buffer = record { listing = l; list = listAfter l buffer }
 unfoldable pub literalsInto : (script : List ℕ) (offset : ℕ) (buffer : List ℕ) → ListCall
 literalsInto script offset buffer = listInto (listed (length buffer) (literalsFrom script offset)) buffer
 
--- The numbers of RULES 8.5: 0 first for a run, and with 53 at 9 how many are needed
+-- The numbers of RULES 8.5: 0 first for a list, and with 53 at 9 how many are needed
 unfoldable pub listNumbers : Listing → List ℕ
-listNumbers (lists x) = 0 ∷ length (x .literals) ∷ lastEnd 0 (x .literals) ∷ x .stop ∷ []
+listNumbers (lists ls to more) = 0 ∷ length ls ∷ to ∷ more ∷ []
 listNumbers (refused r) = r .number ∷ r .literal ∷ r .place ∷ []
 listNumbers (short n) = tooLittleListRoom ∷ 0 ∷ 0 ∷ 0 ∷ 0 ∷ 0 ∷ 0 ∷ 0 ∷ 0 ∷ n ∷ []

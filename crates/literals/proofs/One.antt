@@ -16,7 +16,7 @@ use Rattle.literals.specs.declared.Next.the-variants as next
 use Rattle.literals.specs.Answers.{says, literalOf, NextIs}
 
 pub says-one : (o p : Listing) → says o ≡ says p → o ≡ p
-says-one (Lists x) (Lists y) e = λ i. Lists (record { count = getD (e i) 1 0; end = getD (e i) 2 0; stop = getD (e i) 3 0 })
+says-one (Lists x) (Lists y) e = λ i. Lists (record { count = getD (e i) 1 0; to = getD (e i) 2 0; more = getD (e i) 3 0 })
 says-one (Lists x) (Refused r) e = let l = ap length e in absurd (omega arith)
 says-one (Lists x) (Short n) e = let l = ap length e in absurd (omega arith)
 says-one (Refused r) (Lists x) e = let l = ap length e in absurd (omega arith)

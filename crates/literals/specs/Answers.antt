@@ -6,16 +6,16 @@ use lib.ListN.{length}
 use Rattle.definition.specs.Numbers.{tooLittleListRoom}
 use Rattle.definition.specs.Entry as d
 use Rattle.definition.specs.Entry.{refusal}
-use Rattle.definition.specs.Reading.{Outcome, accepts, refuses, lastEnd}
+use Rattle.definition.specs.Reading.{Outcome, accepts, refuses}
 use Rattle.definition_scripts.specs.Opening.{opens}
 use Rattle.definition_scripts.specs.IsCut.{reachesEnd, breaksOff}
 use Rattle.definition_scripts.specs.Cut as c
 use Rattle.definition_scripts.specs.Cut.{cutCase, cutFrom, firstCut}
 use Rattle.definition_scripts.specs.Literals as s
-use Rattle.definition_scripts.specs.Literals.{flat, ListCall, listNumbers}
+use Rattle.definition_scripts.specs.Literals.{flat, fitting, ListCall, listNumbers}
 use Rattle.buffers.specs.Over.{over}
 use Rattle.literals.specs.declared.Literal.{Literal}
-use Rattle.literals.specs.declared.Run.{Run}
+use Rattle.literals.specs.declared.Listed.{Listed}
 use Rattle.literals.specs.declared.Refusal.{Refusal}
 use Rattle.literals.specs.declared.Listing.{Listing}
 use Rattle.literals.specs.declared.Listing.the-variants.{Lists, Refused, Short}
@@ -55,22 +55,25 @@ blankOf Other = s.other
 abbrev pub numbersOf : Literal → List ℕ
 numbersOf l = l .kind ∷ l .triple ∷ l .offset ∷ l .size ∷ l .start ∷ l .end ∷ []
 
--- A run that was written from the front of a buffer on, as far as there is room
-pub record Wrote (o : Outcome s.Run) (buffer buffer′ : List ℕ) (x : Run) : Type 0 where
+-- Literals that were written from the front of a buffer on, as far as there is room, by what a call tells in any room
+pub record Wrote (inRoom : ℕ → s.Listing) (buffer buffer′ : List ℕ) (x : Listed) : Type 0 where
   pub literals : List d.Literal
-  pub runs : o ≡ accepts (record { literals = literals; stop = x .stop })
+  pub tells : (room : ℕ) → inRoom room ≡ fitting room literals (x .to) (x .more)
   pub counted : x .count ≡ length literals
-  pub few : x .count ≤ 1048576
-  pub ends : x .end ≡ lastEnd 0 literals
   pub wrote : buffer′ ≡ over buffer 0 (flat literals)
 
-abbrev pub RunIs : Outcome s.Run → List ℕ → List ℕ → Ran → Type 0
-RunIs o buffer buffer′ (ran.Done x) = Wrote o buffer buffer′ x
-RunIs o buffer buffer′ (ran.Refused r) = o ≡ refuses (refusalOf r)
+abbrev pub RanIs : (ℕ → s.Listing) → List ℕ → List ℕ → Ran → Type 0
+RanIs inRoom buffer buffer′ (ran.Done x) = Wrote inRoom buffer buffer′ x
+RanIs inRoom buffer buffer′ (ran.Refused r) = (room : ℕ) → inRoom room ≡ s.refused (refusalOf r)
+
+-- not more literals than a script has bytes
+abbrev pub Few : Ran → Type 0
+Few (ran.Done x) = x .count ≤ 1048576
+Few (ran.Refused r) = Unit {0}
 
 -- the numbers of an answer (RULES 8.5)
 abbrev pub says : Listing → List ℕ
-says (Lists x) = 0 ∷ x .count ∷ x .end ∷ x .stop ∷ []
+says (Lists x) = 0 ∷ x .count ∷ x .to ∷ x .more ∷ []
 says (Refused r) = r .number ∷ 0 ∷ r .place ∷ []
 says (Short needed) = tooLittleListRoom ∷ 0 ∷ 0 ∷ 0 ∷ 0 ∷ 0 ∷ 0 ∷ 0 ∷ 0 ∷ needed ∷ []
 

@@ -15,11 +15,12 @@ ghost use Prim.Native.Nat.{ℕ, _*_, _≤_};
 ghost use lib.ListN.{length};
 ghost use Rattle.definition.specs.Numbers.{prefix};
 ghost use Rattle.definition_scripts.specs.Opening.{quotes};
-ghost use Rattle.definition.specs.Reading.{Outcome, zeros};
+ghost use Rattle.definition.specs.Reading.{zeros};
 ghost use Rattle.definition_scripts.specs.Literals as s;
 ghost use Rattle.definition_scripts.specs.Literals.{literalAt, blankCase, passed, run, listed, listInto, literalsInto};
+ghost use Rattle.definition_scripts.specs.CutList.{cutListed, cutInto};
 ghost use Rattle.buffers.specs.Over.{over};
-ghost use Rattle.literals.specs.Answers.{Within, foundOf, blankOf, numbersOf, Wrote, RunIs, CallIs, CaseIs, Skips, NextIs};
+ghost use Rattle.literals.specs.Answers.{Within, foundOf, blankOf, numbersOf, Wrote, RanIs, Few, CallIs, CaseIs, Skips, NextIs};
 
 // A literal: six numbers.
 pub struct Literal {
@@ -31,11 +32,11 @@ pub struct Literal {
     pub end: u32,
 }
 
-// A run: how many literals it has, the end of the last one, and where it stopped.
-pub struct Run {
+// Literals that are listed: how many, and two numbers more: of a run the end of the last one and where it stopped, of a cut how far it went and the number it ended with.
+pub struct Listed {
     pub count: u32,
-    pub end: u32,
-    pub stop: u32,
+    pub to: u32,
+    pub more: u32,
 }
 
 // A refusal: its number and place.
@@ -44,9 +45,9 @@ pub struct Refusal {
     pub place: u32,
 }
 
-// What a call gives: a run; why there is none; or how many numbers its list needs that are not lent.
+// What a call gives: literals; why there are none; or how many numbers their list needs that are not lent.
 pub enum Listing {
-    Lists(Run),
+    Lists(Listed),
     Refused(Refusal),
     Short(u32),
 }
@@ -80,9 +81,9 @@ pub enum Next {
     TooLong,
 }
 
-// A run whose list is written, or the first refusal.
+// Literals whose list is written as far as there is room, or the first refusal.
 pub(crate) enum Ran {
-    Done(Run),
+    Done(Listed),
     Refused(Refusal),
 }
 
@@ -190,7 +191,7 @@ fn put_literal(numbers: &mut [u32], count: u32, l: Literal)
 // The run from an index on, its list written as far as there is room.
 fn list_run(s: &[u8], from: usize, numbers: &mut [u32]) -> Ran
     requires { ⌜ (length (now s) ≤ 1048576) × (from ≤ length (now s)) ⌝ }
-    ensures { λ r. ⌜ RunIs (run (now (s .entry)) from) (now (numbers .entry)) (now (numbers .exit)) r ⌝ }
+    ensures { λ r. ⌜ (Few r) × RanIs (λ room. listed room (run (now (s .entry)) from)) (now (numbers .entry)) (now (numbers .exit)) r ⌝ }
 {
     let mut count: u32 = 0;
     let mut end: u32 = 0;
@@ -198,10 +199,10 @@ fn list_run(s: &[u8], from: usize, numbers: &mut [u32]) -> Ran
     loop {
         let kind = opens(s, at);
         if NO_KIND <= kind {
-            return Ran::Done(Run {
+            return Ran::Done(Listed {
                 count,
-                end,
-                stop: at as u32,
+                to: end,
+                more: at as u32,
             });
         }
         match literal_at(s, at, kind) {
@@ -226,10 +227,10 @@ fn refuse(numbers: &mut [u32], r: Refusal) -> Listing
     Listing::Refused(r)
 }
 
-// The run whose list was written, if the buffer has room for it.
-fn finish(numbers: &mut [u32], x: Run) -> Listing
+// The literals whose list was written, if the buffer has room for it.
+fn fit(numbers: &mut [u32], x: Listed) -> Listing
     requires { ⌜ x .count ≤ 1048576 ⌝ }
-    ensures { λ r. ⌜ ((o : Outcome s.Run) (buffer : List ℕ) → Wrote o buffer (now (numbers .entry)) x → CallIs (listInto (listed (length buffer) o) buffer) (now (numbers .exit)) r) ⌝ }
+    ensures { λ r. ⌜ ((inRoom : ℕ → s.Listing) (buffer : List ℕ) → Wrote inRoom buffer (now (numbers .entry)) x → CallIs (listInto (inRoom (length buffer)) buffer) (now (numbers .exit)) r) ⌝ }
 {
     let needed = x.count * 6;
     if numbers.len() < needed as usize {
@@ -237,6 +238,17 @@ fn finish(numbers: &mut [u32], x: Run) -> Listing
         return Listing::Short(needed);
     }
     Listing::Lists(x)
+}
+
+// What a call gives whose list was written as far as there is room.
+fn finish(numbers: &mut [u32], r: Ran) -> Listing
+    requires { ⌜ Few r ⌝ }
+    ensures { λ x. ⌜ ((inRoom : ℕ → s.Listing) (buffer : List ℕ) → length (now (numbers .entry)) ≡ length buffer → RanIs inRoom buffer (now (numbers .entry)) r → CallIs (listInto (inRoom (length buffer)) buffer) (now (numbers .exit)) x) ⌝ }
+{
+    match r {
+        Ran::Refused(why) => refuse(numbers, why),
+        Ran::Done(x) => fit(numbers, x),
+    }
 }
 
 // Lists the adjacent literals of a script from an offset on, six numbers for each.
@@ -262,10 +274,8 @@ pub fn list_literals(script: &[u8], offset: u32, numbers: &mut [u32]) -> Listing
             },
         );
     }
-    match list_run(script, from, numbers) {
-        Ran::Refused(r) => refuse(numbers, r),
-        Ran::Done(x) => finish(numbers, x),
-    }
+    let r = list_run(script, from, numbers);
+    finish(numbers, r)
 }
 
 // What stands at an index of a script that is cut.
@@ -336,4 +346,49 @@ pub fn next_literal(script: &[u8], from: usize) -> Next
             }
         }
     }
+}
+
+// The cut of a script, its list written as far as there is room.
+fn cut_all(s: &[u8], numbers: &mut [u32]) -> Ran
+    ensures { λ r. ⌜ (Few r) × RanIs (cutListed (now (s .entry))) (now (numbers .entry)) (now (numbers .exit)) r ⌝ }
+{
+    let mut count: u32 = 0;
+    let mut at = 0;
+    loop {
+        match next_literal(s, at) {
+            Next::TooLong => {
+                return Ran::Refused(Refusal {
+                    number: SCRIPT_TOO_LONG,
+                    place: 0,
+                });
+            }
+            Next::Broken(r) => {
+                return Ran::Done(Listed {
+                    count,
+                    to: r.place,
+                    more: r.number,
+                });
+            }
+            Next::End => {
+                return Ran::Done(Listed {
+                    count,
+                    to: s.len() as u32,
+                    more: 0,
+                });
+            }
+            Next::Literal(found) => {
+                put_literal(numbers, count, found);
+                count += 1;
+                at = found.end as usize;
+            }
+        }
+    }
+}
+
+// Lists every literal of a script, six numbers for each.
+pub fn list_cut(script: &[u8], numbers: &mut [u32]) -> Listing
+    ensures { λ r. ⌜ CallIs (cutInto (now (script .entry)) (now (numbers .entry))) (now (numbers .exit)) r ⌝ }
+{
+    let r = cut_all(script, numbers);
+    finish(numbers, r)
 }

@@ -1,4 +1,4 @@
--- Two calls that leave the same twelve numbers, words and text have one outcome; and so have two that leave the same list, the same rows of a
+-- Two calls that leave the same twelve numbers, words and text have one outcome; and so have two that leave the same list of literals, the same rows of a
 -- script, the same lines of a trace, or the same comparison.
 -- Assumes nothing.
 use mathlib.Core.Path.{_≡_, refl, sym, _∙_, ap}
@@ -9,9 +9,11 @@ use Rattle.definition.specs.Escapes.{Naming}
 use Rattle.definition.specs.Reading.{numbers, Call, readNumbers}
 use Rattle.definition.specs.Words.{word}
 use Rattle.definition_scripts.specs.Literals.{literalsInto, listNumbers}
+use Rattle.definition_scripts.specs.CutList.{cutInto}
 use Rattle.definition_scripts.specs.Listing.{fieldsInto, fieldsNumbers}
 use Rattle.definition.proofs.formed.Held.{numbers-one}
 use Rattle.definition_scripts.proofs.literals.ListOne.{list-one}
+use Rattle.definition_scripts.proofs.cut.CutListLaws.{cut-one}
 use Rattle.definition_scripts.proofs.listing.ListingOne.{fields-one}
 use Rattle.definition_replay.specs.Replay.{replayNumbers, replayNumbersOf}
 use Rattle.definition_replay.proofs.replay.ReplayOne.{replay-one}
@@ -55,6 +57,15 @@ lists-one script offset buffer script′ offset′ buffer′ answer left c c′ 
     (λ k. sym (twelve-word (listNumbers (literalsInto script offset buffer .listing)) k)
     ∙ ap (λ l. word l k) (sym (c .numbered) ∙ c′ .numbered)
     ∙ twelve-word (listNumbers (literalsInto script′ offset′ buffer′ .listing)) k)
+    (sym (c .list-left) ∙ c′ .list-left)
+
+pub cuts-one : (script buffer script′ buffer′ answer left : List ℕ) → ListIs (cutInto script buffer) answer left → ListIs (cutInto script′ buffer′) answer left
+    → cutInto script buffer .listing ≡ cutInto script′ buffer′ .listing
+cuts-one script buffer script′ buffer′ answer left c c′ =
+    cut-one script buffer script′ buffer′
+    (λ k. sym (twelve-word (listNumbers (cutInto script buffer .listing)) k)
+    ∙ ap (λ l. word l k) (sym (c .numbered) ∙ c′ .numbered)
+    ∙ twelve-word (listNumbers (cutInto script′ buffer′ .listing)) k)
     (sym (c .list-left) ∙ c′ .list-left)
 
 pub scripts-one : (look look′ : Naming) (script buffer script′ buffer′ answer left : List ℕ) → FieldsIs (fieldsInto look script buffer) answer left → FieldsIs (fieldsInto look′ script′ buffer′) answer left

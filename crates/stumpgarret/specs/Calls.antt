@@ -24,7 +24,7 @@ pub record SignsIs (call : SignsCall) (answer rows : List ℕ) : Type 0 where
   pub numbered : answer ≡ twelve (rowedNumbers (call .outcome))
   pub rows-left : rows ≡ call .rows
 
--- the same of a call for the literals from an offset on
+-- the same of a call for the literals from an offset on, or for all
 pub record ListIs (call : ListCall) (answer list : List ℕ) : Type 0 where
   pub numbered : answer ≡ twelve (listNumbers (call .listing))
   pub list-left : list ≡ call .list

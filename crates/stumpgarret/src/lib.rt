@@ -1,6 +1,7 @@
 // The C interface: flat numbers in, twelve numbers out.
 use listing::list_fields;
 use listing::list_named;
+use literals::list_cut;
 use literals::list_literals;
 use replay::replay_trace;
 use revisions::compare;
@@ -14,6 +15,7 @@ ghost use Rattle.definition.specs.Escapes.{heldNames};
 ghost use Rattle.definition.specs.Reading.{readNumbers};
 ghost use Rattle.definition.specs.Rows.{signsNumbers};
 ghost use Rattle.definition_scripts.specs.Literals.{literalsInto};
+ghost use Rattle.definition_scripts.specs.CutList.{cutInto};
 ghost use Rattle.definition_scripts.specs.Listing.{fieldsInto};
 ghost use Rattle.definition_names.specs.Names.{check, buildInto, indexNumbers, searched};
 ghost use Rattle.definition_names.specs.NamedReading.{namedNumbers, fieldsNamedInto};
@@ -65,6 +67,14 @@ pub extern "C" fn stumpgarret_literals(
     ensures { λ _. ⌜ ListIs (literalsInto (now (script .entry)) offset (now (numbers .entry))) (now (answer .exit)) (now (numbers .exit)) ⌝ }
 {
     *answer = twelve::of_literals(list_literals(script, offset, numbers));
+}
+
+// Lists every literal of a script, six numbers for each, and answers in twelve numbers.
+#[no_mangle]
+pub extern "C" fn stumpgarret_cut(script: &[u8], numbers: &mut [u32], answer: &mut [u32; 12])
+    ensures { λ _. ⌜ ListIs (cutInto (now (script .entry)) (now (numbers .entry))) (now (answer .exit)) (now (numbers .exit)) ⌝ }
+{
+    *answer = twelve::of_literals(list_cut(script, numbers));
 }
 
 // Lists every field of a script, a row of ten numbers for each, and answers in twelve numbers.

@@ -68,7 +68,7 @@ pub fn of_literals(l: Listing) -> [u32; 12]
     ensures { λ r. ⌜ r ≡ twelve (listing.says l) ⌝ }
 {
     match l {
-        Listing::Lists(x) => [0, x.count, x.end, x.stop, 0, 0, 0, 0, 0, 0, 0, 0],
+        Listing::Lists(x) => [0, x.count, x.to, x.more, 0, 0, 0, 0, 0, 0, 0, 0],
         Listing::Refused(r) => [r.number, 0, r.place, 0, 0, 0, 0, 0, 0, 0, 0, 0],
         Listing::Short(needed) => [TOO_LITTLE_LIST_ROOM, 0, 0, 0, 0, 0, 0, 0, 0, needed, 0, 0],
     }

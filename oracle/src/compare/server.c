@@ -15,7 +15,7 @@
    Answer: 12 u32, the numbers after the call.
 
    The same with u32 FFFFFFFE in front asks for every field of the script: the numbers are lent for
-   the rows, and the offset is not used.
+   the rows, and the offset is not used. With FFFFFFF2 it asks for every literal of the script.
 
    The same with u32 FFFFFFF4 in front checks the numbers as cuts in a body, which is sent as the
    script, and with FFFFFFF3 plans cuts into the numbers; the offset is the limit.
@@ -51,7 +51,7 @@ static const uint32_t LITERALS = UINT32_MAX, FIELDS = UINT32_MAX - 1, ROWS = UIN
 static const uint32_t BUILD = UINT32_MAX - 2, CHECK = UINT32_MAX - 3,
                       SEARCHED = UINT32_MAX - 5, FIELDS_NAMED = UINT32_MAX - 6;
 static const uint32_t REPLAY = UINT32_MAX - 7, SPEC = UINT32_MAX - 8, COMPARE = UINT32_MAX - 9, WRITE = UINT32_MAX - 10;
-static const uint32_t CUTS_CHECK = UINT32_MAX - 11, CUTS_PLAN = UINT32_MAX - 12;
+static const uint32_t CUTS_CHECK = UINT32_MAX - 11, CUTS_PLAN = UINT32_MAX - 12, CUT = UINT32_MAX - 13;
 
 static void *lend(size_t size)
 {
@@ -154,6 +154,8 @@ static void answer_script(const uint32_t size[4])
         stumpgarret_literals(script, size[1], size[3], numbers, size[2], answer);
     else if (size[0] == FIELDS)
         stumpgarret_fields(script, size[1], numbers, size[2], answer);
+    else if (size[0] == CUT)
+        stumpgarret_cut(script, size[1], numbers, size[2], answer);
     else if (size[0] == CUTS_PLAN)
         stumpgarret_cuts_plan(script, size[1], size[3], numbers, size[2], answer);
     else {
@@ -345,7 +347,7 @@ int main(void)
     while (more()) {
         uint32_t size[4];
         take(size, sizeof size);
-        if (size[0] == LITERALS || size[0] == FIELDS || size[0] == CUTS_CHECK || size[0] == CUTS_PLAN)
+        if (size[0] == LITERALS || size[0] == FIELDS || size[0] == CUT || size[0] == CUTS_CHECK || size[0] == CUTS_PLAN)
             answer_script(size);
         else if (size[0] >= FIELDS_NAMED)
             answer_named(size);

@@ -1,7 +1,8 @@
 //! Literals found in a script, and read from it.
 use stumpgarret::StringKind::{self, Bytes, FString, RawBytes, RawFString, RawString, Unicode};
 use stumpgarret::{
-    literals_at, parse_strings, read_at, Literal, Reason, Refusal, MOST_LITERALS, MOST_SCRIPT_BYTES,
+    cut, literals_at, parse_strings, read_at, Literal, Reason, Refusal, MOST_LITERALS,
+    MOST_SCRIPT_BYTES,
 };
 
 fn refused(script: &str, offset: usize) -> (u32, usize) {
@@ -94,4 +95,34 @@ fn what_is_found_is_read() {
 
     let refusal = read_at("'a' f'{'", 0).unwrap_err();
     assert_eq!((refusal.number(), refusal.literal(), refusal.place()), (20, 1, 7));
+}
+
+#[test]
+fn a_whole_script_is_cut() {
+    let script = "x = ('a', f\"{y}\" # it's\n'b') + if'c'";
+    let found = cut(script).unwrap();
+    let texts: Vec<_> = found.literals.iter().map(|l| &script[l.start..l.end]).collect();
+    assert_eq!(texts, ["'a'", "f\"{y}\"", "'b'", "'c'"]);
+    assert_eq!(found.literals[1], Literal::within(FString, false, 10..16));
+    assert_eq!((found.to, found.ended), (script.len(), None));
+    for (script, to, ended) in [
+        ("'a' f'''b", 4, Reason::NeverClosed),
+        ("'a'\n'b\n'c'", 4, Reason::NewlineInLiteral),
+    ] {
+        let found = cut(script).unwrap();
+        assert_eq!((found.literals.len(), found.to, found.ended), (1, to, Some(ended)));
+    }
+}
+
+#[test]
+fn long_scripts_are_cut() {
+    let script = "'' ".repeat(100_000);
+    let found = cut(&script).unwrap();
+    assert_eq!((found.literals.len(), found.to, found.ended), (100_000, 300_000, None));
+    assert_eq!(found.literals[99_999], Literal::within(StringKind::String, false, 299_997..299_999));
+    assert_eq!(cut("").unwrap().literals, []);
+    let blank = " ".repeat(MOST_SCRIPT_BYTES + 1);
+    assert_eq!(cut(&blank[1..]).unwrap().to, MOST_SCRIPT_BYTES);
+    let refusal = cut(&blank).unwrap_err();
+    assert_eq!((refusal.number(), refusal.place()), (49, 0));
 }

@@ -8,7 +8,7 @@ use Rattle.definition.specs.Chars.{ascii, before}
 use Rattle.definition.specs.Entry.{refusal}
 use Rattle.definition.specs.Reading.{lastEnd}
 use Rattle.definition_scripts.specs.Opening.{oneLetter, twoLetters, opens, quotesOf, tripled, quotesAt}
-use Rattle.definition_scripts.specs.Literals.{bodyCase, closingN, closing, closedAt, literalAt, blankCase, passedN, passed, firstRun, runN, run, literalsFrom, listed, flat, listAfter, listNumbers, listInto, literalsInto}
+use Rattle.definition_scripts.specs.Literals.{bodyCase, closingN, closing, closedAt, literalAt, blankCase, passedN, passed, firstRun, runN, run, literalsFrom, fitting, listed, flat, listAfter, listNumbers, listInto, literalsInto}
 
 -- the answer's numbers and the list buffer, which held twelve nines
 abbrev asked : String → ℕ → List ℕ × List ℕ
@@ -16,10 +16,10 @@ unfolding ascii
 asked text offset =
     let c = literalsInto (ascii text) offset (9 ∷ 9 ∷ 9 ∷ 9 ∷ 9 ∷ 9 ∷ 9 ∷ 9 ∷ 9 ∷ 9 ∷ 9 ∷ 9 ∷ []) in (listNumbers (c .listing), c .list)
 
-abbrev nines : List ℕ
+abbrev pub nines : List ℕ
 nines = 9 ∷ 9 ∷ 9 ∷ 9 ∷ 9 ∷ 9 ∷ []
 
-abbrev zeroed : List ℕ
+abbrev pub zeroed : List ℕ
 zeroed = 0 ∷ 0 ∷ 0 ∷ 0 ∷ 0 ∷ 0 ∷ 0 ∷ 0 ∷ 0 ∷ 0 ∷ 0 ∷ 0 ∷ []
 
 abbrev refused : ℕ → ℕ → List ℕ × List ℕ
@@ -30,7 +30,7 @@ pub record Row : Type 0 where
   pub is : List ℕ × List ℕ
 
 infix 3 _gives_
-abbrev _gives_ : List ℕ × List ℕ → List ℕ × List ℕ → Row
+abbrev pub _gives_ : List ℕ × List ℕ → List ℕ × List ℕ → Row
 asks gives is = record { asks = asks; is = is }
 
 pub listings : List Row
@@ -59,7 +59,7 @@ listings =
     ∷ []
 
 pub listings-read : map (λ r. r .asks) listings ≡ map (λ r. r .is) listings
-unfolding listings prefix ascii before refusal lastEnd oneLetter twoLetters opens quotesOf tripled quotesAt bodyCase closingN closing closedAt literalAt blankCase passedN passed firstRun runN run literalsFrom listed flat listAfter listNumbers listInto literalsInto
+unfolding listings prefix ascii before refusal lastEnd oneLetter twoLetters opens quotesOf tripled quotesAt bodyCase closingN closing closedAt literalAt blankCase passedN passed firstRun runN run literalsFrom fitting listed flat listAfter listNumbers listInto literalsInto
 listings-read = refl
 
 -- the kind of every prefix of one and of two of these letters

@@ -9,7 +9,7 @@ use Rattle.definition.specs.Entry.{Literal, refusal}
 use Rattle.definition.specs.Reading.{Outcome, accepts, refuses, lastEnd}
 use Rattle.definition.proofs.computed.ByPython.{given, from}
 use Rattle.definition_scripts.specs.Opening.{noKind, oneLetter, twoLetters, opens, quotesOf, tripled, quotesAt, apart}
-use Rattle.definition_scripts.specs.Literals.{bodyCase, closingN, closing, closedAt, literalAt, blankCase, passedN, passed, Run, firstRun, runN, run, literalsFrom, listed, flat, listAfter, listNumbers, listInto, literalsInto}
+use Rattle.definition_scripts.specs.Literals.{bodyCase, closingN, closing, closedAt, literalAt, blankCase, passedN, passed, Run, firstRun, runN, run, literalsFrom, fitting, listed, flat, listAfter, listNumbers, listInto, literalsInto}
 use Rattle.definition_scripts.specs.Cut.{begins, cutCase, firstCut, cutN, cutFrom, cut}
 use Rattle.definition_scripts.proofs.computed.LiteralRows.{runs, places, cutPlaces}
 
@@ -18,7 +18,7 @@ abbrev listing : (script : List ℕ) (room : ℕ) → List (List ℕ)
 listing script room = let c = literalsInto script 0 (replicate room 9) in listNumbers (c .listing) ∷ c .list ∷ []
 
 pub runs-listed : map (λ r. listing (r .0) (length (r .2))) runs ≡ map (λ r. r .1 ∷ r .2 ∷ []) runs
-unfolding runs prefix ascii before refusal lastEnd oneLetter twoLetters opens quotesOf tripled quotesAt bodyCase closingN closing closedAt literalAt blankCase passedN passed firstRun runN run literalsFrom listed flat listAfter listNumbers listInto literalsInto
+unfolding runs prefix ascii before refusal lastEnd oneLetter twoLetters opens quotesOf tripled quotesAt bodyCase closingN closing closedAt literalAt blankCase passedN passed firstRun runN run literalsFrom fitting listed flat listAfter listNumbers listInto literalsInto
 runs-listed = refl
 
 -- EVERY BYTE OF ASCII IN A PLACE: how many literals a run has, or its refusal's number

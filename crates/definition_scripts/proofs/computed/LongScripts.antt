@@ -6,14 +6,20 @@ use lib.ListN.{length}
 use Rattle.definition.specs.Escapes.{Naming}
 use Rattle.definition.specs.Entry.{refusal}
 use Rattle.definition_scripts.specs.Literals.{literalsFrom, listed, listNumbers, listInto, literalsInto}
+use Rattle.definition_scripts.specs.CutList.{cutInto}
 use Rattle.definition_scripts.specs.Listing.{fieldsOf, fieldsCall, fieldsInto, fieldsNumbers}
 use Rattle.definition_scripts.proofs.literals.LiteralSteps.{from-long}
+use Rattle.definition_scripts.proofs.cut.CutListLaws.{cut-long}
 use Rattle.definition_scripts.proofs.listing.ListingSteps.{fields-long}
 
 module _ (script buffer : List ℕ) (h : 1048576 < length script) where
   pub literals-numbered : (offset : ℕ) → listNumbers (literalsInto script offset buffer .listing) ≡ 49 ∷ 0 ∷ 0 ∷ []
   unfolding literalsInto listInto listed listNumbers refusal
   literals-numbered offset = rw (from-long script offset h)
+
+  pub cut-numbered : listNumbers (cutInto script buffer .listing) ≡ 49 ∷ 0 ∷ 0 ∷ []
+  unfolding cutInto listInto listNumbers refusal
+  cut-numbered = rw (cut-long script (length buffer) h)
 
   pub fields-numbered : (look : Naming) → fieldsNumbers (fieldsInto look script buffer .listed) ≡ 49 ∷ []
   unfolding fieldsInto fieldsCall fieldsNumbers

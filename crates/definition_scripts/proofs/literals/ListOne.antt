@@ -15,14 +15,14 @@ use Rattle.definition.specs.Reading.{Outcome, accepts, refuses}
 use Rattle.definition.specs.Words.{word}
 use Rattle.definition.specs.Left.{Left}
 use Rattle.definition_scripts.specs.IsRun.{Unclosed, toEnd, toNewline}
-use Rattle.definition_scripts.specs.Literals.{Run, literalsFrom, flat, Listing, lists, refused, short, listed, listAfter, listInto, literalsInto, listNumbers}
+use Rattle.definition_scripts.specs.Literals.{Run, literalsFrom, flat, Listing, lists, refused, short, fitting, listed, listAfter, listInto, literalsInto, listNumbers}
 use Rattle.definition.proofs.moves.CharLaws.{cases}
 use Rattle.definition.proofs.outcomes.Leaving.{left-zeros, left-front}
 use Rattle.definition_scripts.proofs.literals.ListLaw.{Refused, tooLong, noneOpens, neverCloses, Told, list-told, sixes-flat, flat-length}
 
 -- what the numbers do not show of a listing
-abbrev Settled : Listing → Type 0
-Settled (lists x) = Unit {0}
+abbrev pub Settled : Listing → Type 0
+Settled (lists ls to more) = Unit {0}
 Settled (refused r) = (r ≡ refusal (r .number) 0 (r .place) 0 0) × (49 ≤ r .number) × (r .number ≤ 52)
 Settled (short n) = Unit {0}
 
@@ -36,14 +36,18 @@ refused-settled (tooLong h) = (refl, lit≤ tt, lit≤ tt)
 refused-settled (noneOpens h) = (refl, lit≤ tt, lit≤ tt)
 refused-settled (neverCloses r h) = let w = unclosed-within (h .unclosed) in (h .bare, w .0, w .1)
 
+pub fitting-settled : (room : ℕ) (ls : List Literal) (to more : ℕ) → Settled (fitting room ls to more)
+unfolding fitting
+fitting-settled room ls to more = go (ltb room (6 * length ls))
+  where
+    go : (b : Bool) → Settled (if b then short (6 * length ls) else lists ls to more)
+    go true = tt
+    go false = tt
+
 listed-settled : (script : List ℕ) (offset room : ℕ) (o : Outcome Run) → Told script offset o → Settled (listed room o)
 unfolding listed
 listed-settled script offset room (refuses r) t = refused-settled t
-listed-settled script offset room (accepts x) t = go (ltb room (6 * length (x .literals)))
-  where
-    go : (b : Bool) → Settled (if b then short (6 * length (x .literals)) else lists x)
-    go true = tt
-    go false = tt
+listed-settled script offset room (accepts x) t = fitting-settled room (x .literals) _ _
 
 -- lists of one length whose numbers stand in front are the same
 flat-same : (ls ms : List Literal) (r t : List ℕ) → length ls ≡ length ms → flat ls ++ r ≡ flat ms ++ t → ls ≡ ms
@@ -53,16 +57,15 @@ flat-same ls ms r t n e =
     let s : some ls ≡ some ms = sym (sixes-flat ls) ∙ ap sixes f ∙ sixes-flat ms in
     cc
 
-one-listing : (x y : Listing) (b b′ : List ℕ) → Settled x → Settled y → ((k : ℕ) → word (listNumbers x) k ≡ word (listNumbers y) k) → listAfter x b ≡ listAfter y b′ → x ≡ y
+pub one-listing : (x y : Listing) (b b′ : List ℕ) → Settled x → Settled y → ((k : ℕ) → word (listNumbers x) k ≡ word (listNumbers y) k) → listAfter x b ≡ listAfter y b′ → x ≡ y
 unfolding listNumbers listAfter
-one-listing (lists x) (lists y) b b′ p q n l =
-    let e = flat-same (x .literals) (y .literals) _ _ (n 1) l in λ i. lists (record { literals = e i; stop = n 3 i })
-one-listing (lists x) (refused r) b b′ p q n l = let z = n 0 in absurd (omega (arith, q .1))
-one-listing (lists x) (short m) b b′ p q n l = let z = n 0 in absurd (omega arith)
-one-listing (refused r) (lists y) b b′ p q n l = let z = n 0 in absurd (omega (arith, p .1))
+one-listing (lists ls to more) (lists ms to′ more′) b b′ p q n l = let e = flat-same ls ms _ _ (n 1) l in λ i. lists (e i) (n 2 i) (n 3 i)
+one-listing (lists ls to more) (refused r) b b′ p q n l = let z = n 0 in absurd (omega (arith, q .1))
+one-listing (lists ls to more) (short m) b b′ p q n l = let z = n 0 in absurd (omega arith)
+one-listing (refused r) (lists ms to more) b b′ p q n l = let z = n 0 in absurd (omega (arith, p .1))
 one-listing (refused r) (refused t) b b′ p q n l = ap refused (p .0 ∙ (λ i. refusal (n 0 i) 0 (n 2 i) 0 0) ∙ sym (q .0))
 one-listing (refused r) (short m) b b′ p q n l = let z = n 0 in absurd (omega (arith, p .2))
-one-listing (short m) (lists y) b b′ p q n l = let z = n 0 in absurd (omega arith)
+one-listing (short m) (lists ms to more) b b′ p q n l = let z = n 0 in absurd (omega arith)
 one-listing (short m) (refused t) b b′ p q n l = let z = n 0 in absurd (omega (arith, q .2))
 one-listing (short m) (short k) b b′ p q n l = ap short (n 9)
 
@@ -77,28 +80,37 @@ list-one script offset buffer script′ offset′ buffer′ n l =
     (listed-settled script′ offset′ (length buffer′) (literalsFrom script′ offset′) (list-told script′ offset′)) n l
 
 -- THE LIST BUFFER: six numbers for a literal
-listed-left : (buffer : List ℕ) (o : Outcome Run) → Settled (listed (length buffer) o)
-    → let x = listed (length buffer) o in Left (word (listNumbers x) 0) (word (listNumbers x) 1 * 6) buffer (listAfter x buffer)
-unfolding listed listAfter listNumbers
-listed-left buffer (refuses r) p = left-zeros (r .number) (r .literal * 6) buffer (let h = p .1 in omega arith)
-listed-left buffer (accepts x) p = go (ltb (length buffer) needed) refl
+abbrev pub LeavesList : List ℕ → Listing → Type 0
+LeavesList buffer x = let ns = listNumbers x in Left (word ns 0) (word ns 1 * 6) buffer (listAfter x buffer)
+
+pub refused-leaves : (buffer : List ℕ) (r : Refusal) → Settled (refused r) → LeavesList buffer (refused r)
+unfolding listAfter listNumbers
+refused-leaves buffer r p = left-zeros (r .number) (r .literal * 6) buffer (let h = p .1 in omega arith)
+
+pub fitting-leaves : (buffer : List ℕ) (ls : List Literal) (to more : ℕ) → LeavesList buffer (fitting (length buffer) ls to more)
+unfolding fitting listAfter listNumbers
+fitting-leaves buffer ls to more = go (ltb (length buffer) needed) refl
   where
     needed : ℕ
-    needed = 6 * length (x .literals)
+    needed = 6 * length ls
 
-    go : (t : Bool) → ltb (length buffer) needed ≡ t
-        → let y = if t then short needed else lists x in Left (word (listNumbers y) 0) (word (listNumbers y) 1 * 6) buffer (listAfter y buffer)
+    go : (t : Bool) → ltb (length buffer) needed ≡ t → LeavesList buffer (if t then short needed else lists ls to more)
     go true e = left-zeros 53 0 buffer (lit≤ tt)
     go false e =
         let h = ltb-false (length buffer) needed e in
-        let f = flat-length (x .literals) in
-        left-front (length (x .literals) * 6) (flat (x .literals)) buffer (omega arith) (omega arith)
+        let f = flat-length ls in
+        left-front (length ls * 6) (flat ls) buffer (omega arith) (omega arith)
+
+listed-leaves : (buffer : List ℕ) (o : Outcome Run) → Settled (listed (length buffer) o) → LeavesList buffer (listed (length buffer) o)
+unfolding listed
+listed-leaves buffer (refuses r) p = refused-leaves buffer r p
+listed-leaves buffer (accepts x) p = fitting-leaves buffer (x .literals) _ _
 
 pub list-left : (script : List ℕ) (offset : ℕ) (buffer : List ℕ)
     → let c = literalsInto script offset buffer in let ns = listNumbers (c .listing) in Left (word ns 0) (word ns 1 * 6) buffer (c .list)
 unfolding literalsInto listInto
 list-left script offset buffer =
-    listed-left buffer (literalsFrom script offset) (listed-settled script offset (length buffer) (literalsFrom script offset) (list-told script offset))
+    listed-leaves buffer (literalsFrom script offset) (listed-settled script offset (length buffer) (literalsFrom script offset) (list-told script offset))
 
 -- 49 BEFORE ALL ELSE, whatever offset and buffer
 pub list-long : (script : List ℕ) (offset : ℕ) (buffer : List ℕ) → 1048576 < length script → word (listNumbers (literalsInto script offset buffer .listing)) 0 ≡ 49
@@ -108,7 +120,7 @@ list-long script offset buffer h = rw (lt-ltb 1048576 (length script) h, literal
 -- 53 ONLY IF NOTHING ELSE IS GIVEN: there is a run, and its literals need more than there is
 pub list-short : (script : List ℕ) (offset : ℕ) (buffer : List ℕ) → word (listNumbers (literalsInto script offset buffer .listing)) 0 ≡ 53
     → (x : Run) × (literalsFrom script offset ≡ accepts x) × (length buffer < 6 * length (x .literals))
-unfolding literalsInto listInto listed listNumbers
+unfolding literalsInto listInto listed fitting listNumbers
 list-short script offset buffer e = go (literalsFrom script offset) refl (listed-settled script offset (length buffer) (literalsFrom script offset) (list-told script offset)) e
   where
     go : (o : Outcome Run) → literalsFrom script offset ≡ o → Settled (listed (length buffer) o) → word (listNumbers (listed (length buffer) o)) 0 ≡ 53

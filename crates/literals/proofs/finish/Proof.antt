@@ -1,6 +1,6 @@
 -- `literals::finish` meets its contract. Assumes nothing.
 use borrow.Author.Needs.{needs}
-use Rattle.literals.proofs.Listings.{ends-short, ends-listed}
+use Rattle.literals.proofs.Listings.{ends-refused}
 use Rattle.literals.proofs.finish.Statement.{statement}
 use Rattle.literals.proofs.finish.Tie as tie
 
@@ -8,9 +8,13 @@ pub finish-spec : {M : Type 1} → statement M
 finish-spec =
     tie.close
     (tie.spec
-    (λ c. search needs)  -- mul-needed
-    (λ c. search needs)  -- cast-if1
-    (λ c κs. search needs)  -- fill-words-requires
+    (λ c. search needs)  -- enum-known-r
+    (λ c κs. search needs)  -- refuse-requires
+    (λ c. search needs)  -- enum-known-r-2
+    (λ c κs. rw (c .before .before .r2 .given .1) at (c .before .before .before .before .before .pre))  -- fit-requires
     (λ c. search needs)  -- same-length
-    (λ c o buffer w. ends-short _ _ _ _ w _ (c .before .before .fill-words .ensures) (c .before .before .before .before .if1 .taken))  -- returns
-    (λ c o buffer w. ends-listed _ _ _ _ w (c .if1 .left)))  -- returns-2
+    (λ c inRoom buffer e p.
+    let r = c .before .before .refuse .ensures in
+    let h = rw (c .before .before .before .before .before .r .given .1) at p in ends-refused _ buffer _ _ _ _ (h _) (r .0) e (r .1))  -- returns
+    (λ c. search needs)  -- same-length-2
+    (λ c inRoom buffer e p. c .before .before .fit .ensures inRoom buffer (rw (c .before .before .before .before .before .r2 .given .1) at p)))  -- returns-2

@@ -1,9 +1,9 @@
 -- `literals::list_literals` meets its contract. Assumes nothing.
 use borrow.Author.Needs.{needs}
 use native.Mathlib.Omega.{arith}
-use mathlib.Core.Path.{refl, _∙_}
+use mathlib.Core.Path.{refl}
 use Rattle.definition_scripts.proofs.literals.LiteralSteps.{from-long, from-none, from-run}
-use Rattle.literals.proofs.Listings.{opens-there, ends-refused, ends-run}
+use Rattle.literals.proofs.Listings.{opens-there, call-refused, ends-run}
 use Rattle.literals.proofs.list_literals.Statement.{statement}
 use Rattle.literals.proofs.list_literals.Tie as tie
 
@@ -13,24 +13,15 @@ list-literals-spec =
     (tie.spec
     (λ c κs. search needs)  -- refuse-requires
     (λ c. search needs)  -- same-length
-    (λ c. let r = c .before .before .refuse .ensures in ends-refused _ _ _ _ _ _ _ (from-long _ _ (omega (arith, c .before .before .before .before .if1 .taken))) (r .0) refl (r .1))  -- returns
+    (λ c. let r = c .before .before .refuse .ensures in call-refused _ _ _ _ _ _ _ (from-long _ _ (omega (arith, c .before .before .before .before .if1 .taken))) (r .0) refl (r .1))  -- returns
     (λ c κs. search needs)  -- opens-requires
     (λ c κs. search needs)  -- refuse-requires-2
     (λ c. search needs)  -- same-length-2
-    (λ c. let r = c .before .before .refuse2 .ensures in ends-refused _ _ _ _ _ _ _ (from-none _ _ (c .before .before .before .before .before .before .if1 .left) (rw (c .before .before .before .before .before .opens .ensures) at (c .before .before .before .before .if2 .taken))) (r .0) refl (r .1))  -- returns-2
+    (λ c. let r = c .before .before .refuse2 .ensures in call-refused _ _ _ _ _ _ _ (from-none _ _ (c .before .before .before .before .before .before .if1 .left) (rw (c .before .before .before .before .before .opens .ensures) at (c .before .before .before .before .if2 .taken))) (r .0) refl (r .1))  -- returns-2
     (λ c κs. let o = opens-there _ _ _ (c .before .before .opens .ensures) (c .before .if2 .left) in (c .before .before .before .if1 .left, omega (arith, o .1)))  -- list-run-requires
-    (λ c. search needs)  -- enum-known-r
-    (λ c κs. search needs)  -- refuse-requires-3
-    (λ c. search needs)  -- enum-known-x
-    (λ c κs. (rw (c .before .before .x .given .1) at (c .before .before .before .before .before .before .list-run .ensures)) .few)  -- finish-requires
+    (λ c κs. c .before .before .before .list-run .ensures .0)  -- finish-requires
     (λ c. search needs)  -- same-length-3
     (λ c.
-    let r = c .before .before .refuse3 .ensures in
-    let o = opens-there _ _ _ (c .before .before .before .before .before .before .before .before .before .before .before .before .opens .ensures) (c .before .before .before .before .before .before .before .before .before .before .before .if2 .left) in
-    let l = c .before .before .before .before .before .before .before .before .before in
-    ends-refused _ _ _ _ _ _ _ (from-run _ _ (c .before .before .before .before .before .before .before .before .before .before .before .before .before .if1 .left) (o .0) ∙ (rw (c .before .before .before .before .before .r .given .1) at (l .list-run .ensures))) (r .0) (l .list-run .kept .1 .1 .0) (r .1))  -- returns-3
-    (λ c. search needs)  -- same-length-4
-    (λ c.
-    let o = opens-there _ _ _ (c .before .before .before .before .before .before .before .before .before .before .before .before .opens .ensures) (c .before .before .before .before .before .before .before .before .before .before .before .if2 .left) in
-    let w = rw (c .before .before .before .before .before .x .given .1) at (c .before .before .before .before .before .before .before .before .before .list-run .ensures) in
-    ends-run _ _ _ _ _ (from-run _ _ (c .before .before .before .before .before .before .before .before .before .before .before .before .before .if1 .left) (o .0)) (c .before .before .finish .ensures _ _ w)))  -- returns-4
+    let o = opens-there _ _ _ (c .before .before .before .before .before .before .before .before .before .opens .ensures) (c .before .before .before .before .before .before .before .before .if2 .left) in
+    let l = c .before .before .before .before .before .before in
+    ends-run _ _ _ _ _ (from-run _ _ (c .before .before .before .before .before .before .before .before .before .before .if1 .left) (o .0)) (c .before .before .finish .ensures _ _ (l .list-run .kept .1 .1 .0) (l .list-run .ensures .1))))  -- returns-3
