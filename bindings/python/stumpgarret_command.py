@@ -22,11 +22,13 @@ from dataclasses import dataclass
 
 import stumpgarret
 import stumpgarret_files
+import stumpgarret_formatters
 import stumpgarret_notebook
 import stumpgarret_rounds
 import stumpgarret_rules
 import stumpgarret_words
 from stumpgarret import COMPLETE, INCOMPLETE, NAME_NOT_HELD, UNREAD, FieldClass, Refused, ScriptField, _one_line
+from stumpgarret_formatters import Formatter
 from stumpgarret_words import UnusableNames
 
 INTERRUPTED = 130
@@ -42,7 +44,7 @@ CLASSES = {
 }
 DESCRIPTION = """
 Lists every formatted field of the f-strings of Python scripts. The operator `%`, `str.format` and `format()` format
-too, and are not listed.
+too, and are not listed; where they stand is searched for, and told.
 """
 EPILOG = r"""
 SCRIPT is a path, - for standard input, or a folder: every *.py, *.pyw and *.ipynb below it, but for what stands in hidden
@@ -64,8 +66,13 @@ precision without a type. `computed`: its spec has a field, so its digits are de
 type's own, as dates have. `text`: a conversion is written or implied, so what is formatted is text. `exact`: none of
 these. --rounds prints the first three, and is not passed while there is one.
 
+A `%` behind a literal, a `%=`, and calls of .format, .format_map, format and round are told on standard error, with line and
+column: `bench.py:11:9: formats with %, which is not listed`. This is a search, not a proof: a template in a variable is not
+found. They leave the exit status as it is; with --rounds they count.
+
 A line of the FILE of --allow is `path:expression  # reason`: a field of this expression, as it is listed, may round in that
 script; its path is as it is listed, or counts from the folder of FILE. It needs a reason. One that nothing is met by is told.
+What else formats is accepted by the text of its line, without its comment.
 
 The table [tool.stumpgarret] of the nearest pyproject.toml, from the working folder upwards, may have `exclude`, a list of
 patterns, `names`, a path, and `allow`, a list of paths; all count from its folder.
@@ -309,6 +316,7 @@ class Counts:
     differences: int = 0
     left_out: int = 0
     rounding: int = 0
+    formatters: int = 0
     allowed: int = 0
 
 
@@ -323,6 +331,7 @@ class Finding:
     line: int
     column: int | None
     allowed: str | None = None
+    level: str = "error"
 
 
 class Report:
@@ -383,7 +392,8 @@ class Report:
         self.counts.differences += len(differing or ())
         complete = found.complete and not differing
         self.status = max(self.status, COMPLETE if complete else INCOMPLETE)
-        for entry in found.entries:
+        entries = sorted([*found.entries, *_formatters(script, found)], key=lambda entry: (entry.line, entry.column))
+        for entry in entries:
             self.entry(part, script, entry)
         for one in found.refused:
             self.told(part.name, f"{one.line}:{one.column}", one.reason, self.change(script, one))
@@ -394,14 +404,16 @@ class Report:
             shown = {"name": part.name, "content": part.content, "text": text, "differences": differing}
             if asks:
                 shown["names"] = _names_said(self.given.names_path), names and names.file
-            rows = [self.page_row(part, script, entry) for entry in found.entries]
-            self.on_page.append({**shown, "entries": found.entries, "rows": rows, "complete": complete})
+            rows = [self.page_row(part, script, entry) for entry in entries]
+            self.on_page.append({**shown, "entries": entries, "rows": rows, "complete": complete})
 
-    def entry(self, part: Part, script: bytes, entry: ScriptField | Refused) -> None:
+    def entry(self, part: Part, script: bytes, entry: ScriptField | Refused | Formatter) -> None:
         """A line or an object of the list."""
+        if isinstance(entry, Formatter):
+            self.formatter(part, entry)
+            return
         if isinstance(entry, Refused):
-            if self.on_page is None:
-                self.object("refusal", part, **_json(entry), change=self.change(script, entry))
+            self.object("refusal", part, **_json(entry), change=self.change(script, entry))
             return
         allowed = self.allowed(part, entry)
         if entry.class_.may_round:
@@ -424,10 +436,22 @@ class Report:
         self.progress.clear()
         print(*shown, sep="\t")
 
-    def allowed(self, part: Part, field: ScriptField) -> str | None:
-        """Why a field may round, by a list; None for one that no list has, and for one that does not."""
-        expression, _, _ = stumpgarret._columns(field)
-        return self.given.allowed.reason(part.path, _one_line(expression)) if field.class_.may_round else None
+    def formatter(self, part: Part, one: Formatter) -> None:
+        """Something that formats and is no field."""
+        allowed = self.allowed(part, one)
+        self.counts.formatters += allowed is None
+        self.counts.allowed += allowed is not None
+        self.told(part.name, f"{one.line}:{one.column}", _otherwise(one, allowed))
+        self.object("formatter", part, **_json(one), meaning=one.meaning, allowed=allowed)
+        level = "error" if self.given.rounds else "note"
+        self.findings.append(Finding("formats", one.meaning, part, one.line, one.column, allowed, level))
+
+    def allowed(self, part: Part, entry: ScriptField | Formatter) -> str | None:
+        """Why something may round, by a list; None for what no list has, and for a field that does not."""
+        if isinstance(entry, Formatter):
+            return self.given.allowed.reason(part.path, entry.text)
+        expression, _, _ = stumpgarret._columns(entry)
+        return self.given.allowed.reason(part.path, _one_line(expression)) if entry.class_.may_round else None
 
     def rounding(self, part: Part, field: ScriptField, allowed: str | None) -> None:
         """Counts a field that rounds or may."""
@@ -481,9 +505,11 @@ class Report:
             said += " No file of names is there: Debian's package unicode-data has it (apt-get install unicode-data)."
         return said
 
-    def page_row(self, part: Part, script: bytes, entry: ScriptField | Refused) -> tuple[str, ...]:
+    def page_row(self, part: Part, script: bytes, entry: ScriptField | Refused | Formatter) -> tuple[str, ...]:
         """What the page's table shows: of a refusal its words, what to change and the literal; of a field why, too, if it is
-        by a `=`, and why it may round, if a list says so."""
+        by a `=`, and why it may round, if a list says so; of what else formats its words."""
+        if isinstance(entry, Formatter):
+            return (_otherwise(entry, self.allowed(part, entry)),)
         if isinstance(entry, Refused):
             return entry.reason, self.change(script, entry), _literal(script, entry)
         expression, conversion, spec = stumpgarret._columns(entry)
@@ -504,7 +530,7 @@ class Report:
         complete = self.status == COMPLETE
         for where, said in self.given.allowed.unmet() if not failure else ():
             self.told(where, "", said)
-        rounding = self.given.rounds and self.counts.rounding > 0
+        rounding = self.given.rounds and self.counts.rounding + self.counts.formatters > 0
         self.object("end", None, complete=complete, **vars(self.counts))
         if not self.given.quiet:
             said = _summary(self.counts, complete) + (_rounding_said(self.counts) if self.given.rounds else "")
@@ -553,7 +579,20 @@ def _rounding_said(counts: Counts) -> str:
     """What --rounds found."""
     verb = "rounds" if counts.rounding == 1 else "round"
     said = f"{counts.rounding:,} {verb} or may" if counts.rounding else "nothing rounds"
+    verb = "formats" if counts.formatters == 1 else "format"
+    said += f"; {counts.formatters:,} {verb} otherwise" if counts.formatters else ""
     return f"; {said}" + (f", {counts.allowed:,} allowed" if counts.allowed else "")
+
+
+def _formatters(script: bytes, found: stumpgarret.ScriptList) -> list[Formatter]:
+    """What else formats; nothing of a script that is too long."""
+    if any(one.row is None for one in found.refused):
+        return []
+    return stumpgarret_formatters.formatters(script, [field.row for field in found.fields])
+
+
+def _otherwise(one: Formatter, allowed: str | None) -> str:
+    return one.meaning + ("" if allowed is None else f"; allowed: {_one_line(allowed)}")
 
 
 def _count(number: int, name: str) -> str:
@@ -581,8 +620,8 @@ def _literal(script: bytes, one: Refused) -> str:
     return script[start : end if end > 0 else len(script)].decode("utf-8", "replace")
 
 
-def _json(entry: ScriptField | Refused) -> dict[str, object]:
-    return {name: value for name, value in vars(entry).items() if name not in ("row", "lost", "detail")}
+def _json(entry: ScriptField | Refused | Formatter) -> dict[str, object]:
+    return {name: value for name, value in vars(entry).items() if name not in ("row", "lost", "detail", "text")}
 
 
 # Streams

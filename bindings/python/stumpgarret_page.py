@@ -40,6 +40,9 @@ mark.allowed { background: #e3f0d8; box-shadow: inset 0 -3px #6b9c3f }
 mark:target, a:target, tr:target { outline: 3px solid #0969da; scroll-margin-top: 5rem }
 li .no { padding: 0 .2rem; border: 1px solid #cf222e; text-decoration: none }
 li .no::before { content: "\\2717" }
+li .also { padding: 0 .2rem; border: 1px solid #b35900; color: #b35900; text-decoration: none }
+li .also::before { content: "\\2731" }
+tr.also td { color: #8a4500; background: #fff4e5 }
 .escape { color: #6639ba; border: 1px solid #b9a3e3; border-radius: .2rem; padding: 0 .1rem }
 .table { position: sticky; top: 0; max-height: 100vh; overflow: auto }
 table { border-collapse: collapse; width: 100% }
@@ -73,7 +76,7 @@ TAB = "\t"
 class Script:
     """What the page shows of a script. `failure` says why it was not read; else `text` has its lines, `entries` are the
     fields and refusals by place, and `rows` what the table shows of each: of a field expression, conversion, why, spec, and
-    why it may round, of a refusal its words, what to change, and the literal. `differences` is None if Python was not asked. `names` is None if the script asks for no
+    why it may round, of a refusal its words, what to change, and the literal, of what else formats its words. `differences` is None if Python was not asked. `names` is None if the script asks for no
     name of a character; else it says where they are taken from, and has the content of the file if it is one."""
 
     name: str
@@ -102,7 +105,7 @@ class Script:
         found = _count(self.fields, "field")
         if self.complete:
             return f"Complete: {found}, and these are all"
-        refused = len(self.entries) - self.fields
+        refused = len(self.entries) - self.fields - sum(map(_is_formatter, self.entries))
         said = [_count(refused, "refusal")] if refused else []
         said += [_count(len(self.differences), "difference") + " from Python's reading"] if self.differences else []
         return f"Not complete: {', '.join([found, *said])}"
@@ -130,7 +133,7 @@ def page(scripts: list[Script], version: list[str], only_rounds: bool = False) -
             f"<h1>{_shown(title)}</h1>",
             _verdict(not lacking, verdict),
             "<p>Listed are the fields of f-strings. The operator <code>%</code>, <code>str.format</code> and "
-            "<code>format()</code> format too, and are not listed.</p>",
+            "<code>format()</code> format too, and are not listed; where they stand was searched for, and is told.</p>",
             _filter(sum(script.rounding for script in scripts), only_rounds),
             f'<p class="small">Listed by {html.escape(", ".join(version))}, for the grammar of Python 3.11.</p>',
             *(_contents(scripts) if len(scripts) > 1 else []),
@@ -202,7 +205,8 @@ def _source(script: Script, key: str) -> list[str]:
             parts.append(_shown(line[at - 1 : column - 1], TAB))
             at = column
             if event == POINT:
-                parts.append(f'<a class="no" id="{key}e{entry}" href="#{key}r{entry}" title="refused"></a>')
+                kind, title = ("also", "formats otherwise") if _is_formatter(script.entries[entry - 1]) else ("no", "refused")
+                parts.append(f'<a class="{kind}" id="{key}e{entry}" href="#{key}r{entry}" title="{title}"></a>')
             elif event == OPEN:
                 opened.append(_kind(script.entries[entry - 1], script.rows[entry - 1]))
                 parts.append(f'<mark class="{opened[-1]}" id="{key}e{entry}">')
@@ -223,6 +227,8 @@ def _table(script: Script, key: str) -> list[str]:
             cells += f'<td>{_code(conversion)} <span class="small">{_worded(why)}</span></td><td>{_code(spec)}</td>'
             cells += f"<td>{entry.class_.value}{'' if allowed is None else f', allowed: {_shown(allowed)}'}</td>"
             lines.append(f'<tr class="{_kind(entry, row)}" id="{key}r{number}">{place}{cells}</tr>')
+        elif _is_formatter(entry):
+            lines.append(f'<tr class="also" id="{key}r{number}">{place}<td colspan="4">{_shown(row[0])}</td></tr>')
         else:
             words, change, literal = row
             cell = _worded(words) + (f'<p class="small">Change: {_worded(change)}</p>' if change else "")
@@ -238,6 +244,10 @@ def _kind(entry: object, row: tuple) -> str:
 
 def _is_field(entry: object) -> bool:
     return hasattr(entry, "expression")
+
+
+def _is_formatter(entry: object) -> bool:
+    return hasattr(entry, "what")
 
 
 def _count(number: int, name: str) -> str:

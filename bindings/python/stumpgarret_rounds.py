@@ -2,8 +2,9 @@
 
     bench.py:mv / 1000  # three digits are what the meter has
 
-A line is a path, a colon, an expression as it is listed, and behind a `#` the reason. The path is as it is listed, or counts
-from the folder of the list; - is standard input, and a cell of a notebook has the notebook's path.
+A line is a path, a colon, an expression as it is listed, or a line of the script without its comment, and behind a `#` the
+reason. The path is as it is listed, or counts from the folder of the list; - is standard input, and a cell of a notebook has
+the notebook's path.
 """
 
 from __future__ import annotations
@@ -15,7 +16,7 @@ from dataclasses import dataclass
 
 from stumpgarret import STANDARD_INPUT, _one_line
 
-ENTRY = re.compile(r"(?P<path>[^:#]+):(?P<text>[^#]*[^#\s][^#]*)#(?P<reason>.*\S.*)")
+ENTRY = re.compile(r"(?P<path>[^:#]+):\s*(?P<rest>[^#\s][^#]*#.*\S.*)")
 WANTED = "path:expression  # reason"
 SHOWN_STANDARD_INPUT = "<stdin>"
 
@@ -26,13 +27,17 @@ class Unusable(Exception):
 
 @dataclass(frozen=True)
 class Entry:
-    """What is accepted: a text in a script, for a reason; and where that is written."""
+    """What is accepted in a script: `rest` has a text, and behind a `#` the reason; and where that is written."""
 
     where: str
     path: str
     keys: frozenset[str]
-    text: str
-    reason: str
+    rest: str
+
+    def reason(self, text: str) -> str | None:
+        """That of a text, which may have a `#` itself; None if it is another."""
+        behind = self.rest[len(text) :].lstrip()
+        return behind[1:].strip() if self.rest.startswith(text) and behind.startswith("#") else None
 
 
 class Allowed:
@@ -45,10 +50,13 @@ class Allowed:
 
     def reason(self, path: str, text: str) -> str | None:
         """Why a text of a script is accepted; None if it is not."""
-        key, text = _key(path, os.curdir), _plain(text)
-        found = [entry for entry in self.entries if key in entry.keys and entry.text == text]
-        self.met.update(entry.where for entry in found)
-        return found[0].reason if found else None
+        key, found = _key(path, os.curdir), None
+        for entry in self.entries:
+            reason = entry.reason(text.strip()) if key in entry.keys else None
+            if reason is not None:
+                self.met.add(entry.where)
+                found = found or reason
+        return found
 
     def saw(self, path: str) -> None:
         """A script that was listed."""
@@ -61,7 +69,7 @@ class Allowed:
             if entry.where in self.met:
                 continue
             if entry.keys & self.listed:
-                yield entry.where, f"nothing that rounds is met by {_one_line(entry.path)}:{entry.text}"
+                yield entry.where, f"nothing that rounds is met by {_one_line(entry.path)}:{_one_line(entry.rest)}"
             elif SHOWN_STANDARD_INPUT not in entry.keys and not any(map(os.path.exists, entry.keys)):
                 yield entry.where, f"there is no script {_one_line(entry.path)}"
 
@@ -87,15 +95,10 @@ def _entries(path: str) -> Iterator[Entry]:
             raise Unusable(f"{shown}:{number}: {lacking} is wanted: {_one_line(line)}")
         own = found["path"].strip()
         keys = frozenset(_key(own, folder) for folder in (os.curdir, os.path.dirname(path)))
-        yield Entry(f"{shown}:{number}", own, keys, _plain(found["text"]), found["reason"].strip())
+        yield Entry(f"{shown}:{number}", own, keys, found["rest"].strip())
 
 
 def _key(path: str, folder: str) -> str:
     if path in (STANDARD_INPUT, SHOWN_STANDARD_INPUT):
         return SHOWN_STANDARD_INPUT
     return os.path.abspath(os.path.join(folder, path))
-
-
-def _plain(text: str) -> str:
-    """What is compared of a text: up to a `#`, without blanks around."""
-    return text.partition("#")[0].strip()

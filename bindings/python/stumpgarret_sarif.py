@@ -1,8 +1,8 @@
-"""The file that `stumpgarret --sarif` writes: what was refused, and with --rounds what rounds, as SARIF 2.1.0, for code hosts
-and editors.
+"""The file that `stumpgarret --sarif` writes: what was refused, what else formats, and with --rounds what rounds, as SARIF
+2.1.0, for code hosts and editors.
 
-A rule for each number of a refusal, one for what Python's own `ast` has otherwise, and one for each class of what rounds or
-may. The same scripts make the same file.
+A rule for each number of a refusal, one for what Python's own `ast` has otherwise, one for each class of what rounds or may,
+and one for what else formats. The same scripts make the same file.
 """
 
 from __future__ import annotations
@@ -23,6 +23,7 @@ OTHERS = {
     "rounds": ("FieldRounds", "a field rounds a number: by a type of e E f F g G n %, or by a precision without a type"),
     "computed": ("SpecComputed", "a field may round: its spec has a field, so its digits are decided when it runs"),
     "own": ("SpecOfAType", "a field may round: its spec is not of the mini-language but a type's own"),
+    "formats": ("FormatsOtherwise", "something formats or rounds that is no field of an f-string, and is not listed"),
 }
 
 
@@ -53,7 +54,7 @@ def result(finding: object, path: str, cell: int | None) -> dict[str, object]:
         place["physicalLocation"]["region"] = {"startLine": finding.line, **column}
     else:
         text = f"cell {cell}, line {finding.line}: {text}"
-    found = {"ruleId": rule_id(finding.rule), "level": "error", "message": {"text": text}, "locations": [place]}
+    found = {"ruleId": rule_id(finding.rule), "level": finding.level, "message": {"text": text}, "locations": [place]}
     if finding.allowed is not None:
         found["suppressions"] = [{"kind": "external", "justification": finding.allowed}]
     return found

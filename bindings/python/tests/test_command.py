@@ -291,7 +291,7 @@ class Json(Command):
         self.assertEqual(last, {
             "kind": "end", "complete": status == 0, "scripts": 1, "fields": kinds["field"], "refusals": kinds["refusal"],
             "unreadable": kinds["unreadable"], "differences": kinds["difference"], "left_out": 0,
-            "rounding": sum(line.get("class") in ("rounds", "computed", "own") for line in lines), "allowed": 0,
+            "rounding": sum(line.get("class") in ("rounds", "computed", "own") for line in lines), "formatters": 0, "allowed": 0,
         })
         return status, lines, err
 

@@ -39,7 +39,8 @@ examples/bench.py:7:14\tat\t\t:>9,
 examples/bench.py:7:31\tmv\t\t:>5
 examples/bench.py:7:48\tcode\t\t:#06x
 """
-BENCH_LAST = "9 fields in 1 script, complete\n"
+BENCH_TOLD = "examples/bench.py:2:17: formats with %, which is not listed\n"
+BENCH_LAST = f"{BENCH_TOLD}9 fields in 1 script, complete\n"
 BENCH_REPLAY = "replay", "examples/bench.py:7", "examples/readings.csv"
 BENCH_LINES = """\
         0 us  VDD   743 mV  code 0x003b
@@ -163,13 +164,13 @@ class Fields(Copy):
         self.assertEqual(state(self.built), before)
 
     def test_words(self):
-        for words, said in (
-            (("fields", "--quiet", "examples/bench.py"), BENCH_FIELDS),
-            (("--quiet", "examples/bench.py"), BENCH_FIELDS),
-            (BENCH_REPLAY, BENCH_LINES),
+        for words, said, told in (
+            (("fields", "--quiet", "examples/bench.py"), BENCH_FIELDS, BENCH_TOLD),
+            (("--quiet", "examples/bench.py"), BENCH_FIELDS, BENCH_TOLD),
+            (BENCH_REPLAY, BENCH_LINES, ""),
         ):
             call = run("./stumpgarret", *words, user=OTHER_USER, cwd=self.built, PATH=self.few)
-            self.assertEqual(call, (0, said, ""))
+            self.assertEqual(call, (0, said, told))
         call = run("./stumpgarret", "replay", "--template", "f'{x}'", "examples/readings.csv", cwd=self.built, PATH=self.few)
         self.assertEqual(call, (1, "", "examples/readings.csv: row 1: 71, 3 columns for 1 field\n"))
 
@@ -427,7 +428,7 @@ class Install(Copy):
             (folder / f"{name}.py").write_text("raise SystemExit('run in the place of the tool')")
         variables = {"PATH": self.few, "PYTHONPATH": folder, "PYTHONHOME": "/nowhere"}
         call = run(self.prefix / "bin/stumpgarret", "--json", "--quiet", "examples/bench.py", cwd=self.work / "away", **variables)
-        self.assertEqual((call[0], call[1].count("\n"), call[2]), (0, 10, ""))
+        self.assertEqual((call[0], call[1].count("\n"), call[2]), (0, 11, BENCH_TOLD))
 
     @unittest.skipUnless(shutil.which("pkg-config", path=SYSTEM), "there is no pkg-config")
     def test_pkg_config(self):

@@ -109,7 +109,7 @@ class Parts(Command):
         self.assertEqual(page.said[0], ("yes", "Complete: 3 fields, and these are all"))
         self.assertIn(f"SHA-256 {hashlib.sha256(source.encode()).hexdigest()}, {len(source)} bytes", said)
         self.assertIn(f"Listed by {', '.join(test_command.VERSION_LINES)}, for the grammar of Python 3.11.", said)
-        self.assertTrue(any("str.format and format() format too, and are not listed." in text for text in said))
+        self.assertTrue(any("str.format and format() format too, and are not listed; where they stand was searched for, and is told." in text for text in said))
 
     def test_refused(self):
         page, err = self.page(status=1, a="f'{x}'\nf'}'\nf'{y}' '")

@@ -105,7 +105,7 @@ class Library(unittest.TestCase):
         self.assertGreater(tried["rounds", "lost"], 3)
 
 
-class Rounds(test_command.Command):
+class Command(test_command.Command):
     def rounds(self, *options, **scripts):
         """Status, lines of the list, and of standard error but for what to change."""
         for name, content in scripts.items():
@@ -113,6 +113,8 @@ class Rounds(test_command.Command):
         status, out, err = self.run_whole("--rounds", *options, *(name + ".py" for name in scripts))
         return status, out.splitlines(), [line for line in err.splitlines() if not line.startswith("    Change: ")]
 
+
+class Rounds(Command):
     def test_classes(self):
         status, out, err = self.run_on("--classes", "--why", a="f'{x:.0f}{y!r}{z:{w}}'")
         self.assertEqual([line.split("\t")[5] for line in out.splitlines()], ["rounds", "text", "computed", "exact"])
@@ -156,7 +158,7 @@ class Rounds(test_command.Command):
         self.assertEqual(json.loads(pathlib.Path("out.sarif").read_text())["runs"][0]["results"], [])
 
 
-class Allow(Rounds):
+class Allow(Command):
     def test_allowed(self):
         """They are listed with their reason, and do not count."""
         pathlib.Path("allow").write_text("# what the meter has\n\na.py:mv / 1000  # three digits, see #38\n./a.py : k= # so\n")
@@ -196,7 +198,7 @@ class Allow(Rounds):
         pathlib.Path("allow").write_text("a.py:x  # it may\na.py:y  # y does not round\nnone.py:x  # none\nb.py:z  # later\n-:x  # input\n")
         pathlib.Path("b.py").write_text("f'{z:.0f}'")
         status, _, err = self.rounds("--allow", "allow", a="f'{x:.0f}{y}'")
-        said = ["allow:2: nothing that rounds is met by a.py:y", "allow:3: there is no script none.py"]
+        said = ["allow:2: nothing that rounds is met by a.py:y  # y does not round", "allow:3: there is no script none.py"]
         self.assertEqual((status, err[:-1]), (0, said))
 
     def test_standard_input_and_notebooks(self):

@@ -8,6 +8,7 @@ import sys
 import unittest
 
 from support import CLONE, stumpgarret
+import stumpgarret_formatters
 
 PAGE = CLONE / "docs" / "RULES.md"
 # Each file of definitions, by its name.
@@ -302,6 +303,13 @@ def classes(script):
     return ", ".join(f"{one.expression} {one.class_.value}" if hasattr(one, "class_") else str(one.number) for one in entries)
 
 
+def formatters(script):
+    """What else formats, by the module, with places in bytes."""
+    found = stumpgarret_formatters.formatters(script, stumpgarret.rows(script).rows)
+    lines = [0, *(at + 1 for at, byte in enumerate(script) if byte == ord("\n"))]
+    return ", ".join(f"{one.what} at {lines[one.line - 1] + one.column - 1}" for one in found) or "none"
+
+
 def asked_file(cell, spans):
     answer, index = build_index(plain(spans[0] if spans else ""), room_of(cell))
     return refusal(answer) if answer[0] else in_words(index[: answer[1]]) or "nothing"
@@ -428,6 +436,7 @@ TABLES = {
         lambda script, answer, rows: ", ".join(field(script, row) for row in groups(rows, 10, answer[1]))
     ),
     ("Script", "Classes"): lambda cell, spans: classes(plain(spans[0])),
+    ("Script", "Formatters"): lambda cell, spans: formatters(plain(spans[0])),
     ("File", "Index"): asked_file,
     ("Lent file", "Numbers"): asked_lent_file,
     ("Named", "Parts"): asked_named,

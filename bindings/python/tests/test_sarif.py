@@ -79,7 +79,7 @@ class Sarif(test_command.Command):
         run, _, _ = self.run_sarif(a="")
         rules = {rule["id"]: rule for rule in run["tool"]["driver"]["rules"]}
         ids = [f"SG{number:02}" for number in sorted(stumpgarret.REFUSALS)]
-        self.assertEqual([*rules], [*ids, "SG-python", "SG-rounds", "SG-computed", "SG-own"])
+        self.assertEqual([*rules], [*ids, "SG-python", "SG-rounds", "SG-computed", "SG-own", "SG-formats"])
         self.assertEqual(len({rule["name"] for rule in rules.values()}), len(rules))
         self.assertTrue(all(rule["name"].isidentifier() or rule["name"][0].isdigit() for rule in rules.values()))
         self.assertEqual(rules["SG25"]["shortDescription"], {"text": "25 SingleRbrace"})
