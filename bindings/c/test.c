@@ -554,6 +554,18 @@ static void lists_fields(void)
     fields_refused(STUMPGARRET_TOO_LITTLE_LIST_ROOM, 5, 0);
 }
 
+/* A word before a literal is told, unless Python 3.11 lets it stand there. */
+static void lists_words(void)
+{
+    static const uint32_t numbers[STUMPGARRET_ANSWER_NUMBERS] = {STUMPGARRET_ACCEPTED, 3, 2, 4, 27};
+    static const uint32_t rows[] = {
+        STUMPGARRET_REASON_REFUSED, 1, 0, STUMPGARRET_UNKNOWN_PREFIX, 0, 0, 0, 0, 0, 0,
+        STUMPGARRET_REASON_NONE, 19, 22, 3, 0, 0, 0, 0, 26, 0,
+        STUMPGARRET_REASON_REFUSED, 23, 22, STUMPGARRET_UNKNOWN_PREFIX, 0, 0, 0, 0, 0, 2,
+    };
+    fields_are("t'{x}' 1if''else'' f'{t\"\"}'", numbers, rows);
+}
+
 /* A refused literal ends nothing, one that never closes ends the cut, and what Python reads otherwise is
    told. */
 static void lists_refusals(void)
@@ -917,7 +929,7 @@ static void named_is_checked_and_searched(void)
     static const size_t rooms[][2] = {{0, 0}, {7, 64}, {16, 3}, {64, 64}};
     static uint32_t searched_words[WORDS], searched_answer[STUMPGARRET_ANSWER_NUMBERS];
     static uint8_t searched_text[TEXT];
-    int seen[STUMPGARRET_READ_OTHERWISE] = {0};
+    int seen[STUMPGARRET_UNKNOWN_PREFIX] = {0};
     for (size_t f = 0; f < COUNT(files); f++)
     for (size_t x = 0; x < COUNT(indexes); x++)
     for (size_t entries = 0; entries <= ENTRIES; entries++)
@@ -1515,6 +1527,7 @@ int main(void)
     cuts_whole();
     lists_fields();
     decodes_nothing();
+    lists_words();
     lists_refusals();
     builds_names();
     checks_names();

@@ -217,7 +217,8 @@ enum stumpgarret_refusal {
 
     /* Of stumpgarret_fields: 49, and 53, see STUMPGARRET_FIELDS_NEEDED; 6, 10 to 28, 50 and 51 as rows,
        and as a row only: */
-    STUMPGARRET_READ_OTHERWISE = 75     /* Python reads the field otherwise, or not at all */
+    STUMPGARRET_READ_OTHERWISE = 75,    /* Python reads the field otherwise, or not at all */
+    STUMPGARRET_UNKNOWN_PREFIX = 76     /* a word before a literal that Python 3.11 lets not stand there */
 };
 
 /* Why an opening brace counts as unclosed: the first detail of STUMPGARRET_UNCLOSED_LBRACE. */
@@ -344,6 +345,13 @@ enum stumpgarret_fields_answer {
    quote begins a literal; the letters before it are its prefix if they are one and no ASCII letter,
    digit or underscore stands before them. A literal ends as in stumpgarret_literals; one that does
    not ends the cut, by 50 or 51. Any other byte is passed over.
+
+   A literal that starts directly behind a word has a row of 76 before its others, with where it starts
+   as START and where the word begins as PLACE, unless the word may stand there. A word is as many ASCII
+   letters, digits, underscores and bytes from 80 (hex) on as there are. It may stand there if it is and,
+   as, assert, await, case, del, elif, else, except, for, from, if, in, is, match, not, or, raise,
+   return, while, with or yield, or if it begins with a digit and ends with one of these. A literal with
+   such a row is read as if the word were not there.
 
    Of the literals the f-strings are read, each alone as stumpgarret_signs reads it: no other has a
    field. An f-string has a row for each field, in record order, or one for its refusal (6, or 10 to

@@ -247,7 +247,8 @@ class FieldRow:
 @dataclass(frozen=True)
 class RefusalRow:
     """Something of a script that is refused, by a number of `REFUSALS`. `start`, `place` and `within` are as a field's;
-    of 75 `within` is the field's own row. `opened` is just after the bracket that is closed by another, else None."""
+    of 75 `within` is the field's own row, and of 76 `place` is where the word begins. `opened` is just after the bracket
+    that is closed by another, else None."""
 
     start: int
     place: int
@@ -375,13 +376,19 @@ REFUSALS = {
         "read otherwise by Python",
         "Python reads this field otherwise or not at all, by {cause}",
     ),
+    76: (
+        "unknown prefix",
+        "the word before this string is no prefix of Python 3.11 and no keyword that may stand there; from Python 3.14 on t "
+        "begins a template string, whose fields are not listed",
+    ),
 }
 NO_LIST_ROOM = 53
 IN_A_BODY = range(10, 29)
 NEVER_CLOSED = 50, 51
 NAME_NOT_HELD = 13
 READ_OTHERWISE = 75
-OF_A_LIST = *range(49, 54), READ_OTHERWISE
+UNKNOWN_PREFIX = 76
+OF_A_LIST = *range(49, 54), READ_OTHERWISE, UNKNOWN_PREFIX
 OF_A_COMPARISON = range(57, 60)
 OF_NAMES = range(60, 64)
 OF_A_WRITING = range(54, 57)
@@ -1350,6 +1357,8 @@ def _lost(row: RefusalRow, where: dict[int, tuple[int, int]]) -> str:
     """What is not listed because of a refusal."""
     if row.number == READ_OTHERWISE:
         return ""
+    if row.number == UNKNOWN_PREFIX:
+        return "the string is read as if that word were not there"
     if row.number in NEVER_CLOSED:
         return "no field behind it in the expression is listed" if row.within else "no field behind it is listed"
     return "no field of the literal at line {}, column {} is listed".format(*where[row.start])

@@ -10,6 +10,14 @@ pub const MAX_SCRIPT_BYTES: usize = 1_048_576;
 const REFUSAL: u32 = 5;
 /// Where Python reads a field otherwise.
 const READ_OTHERWISE: u32 = 75;
+/// A word before a literal that Python does not let stand there.
+const UNKNOWN_PREFIX: u32 = 76;
+
+/// The keywords that may stand directly before a literal.
+const KEYWORDS: [&str; 22] = [
+    "and", "as", "assert", "await", "case", "del", "elif", "else", "except", "for", "from", "if", "in",
+    "is", "match", "not", "or", "raise", "return", "while", "with", "yield",
+];
 
 /// Each prefix, in small letters, and its kind.
 const PREFIXES: [(&str, u32); 8] =
@@ -127,9 +135,27 @@ fn literal(script: &[u8], quotes: usize) -> Result<Literal, (u32, usize)> {
     Ok(Literal { kind, triple, start, body, body_end: at, end: at + count })
 }
 
-/// The rows of a cut's f-strings, each read alone, and that of its 50 or 51.
+/// Where the word before a literal begins, if it may not stand there.
+fn unknown_prefix(script: &[u8], start: usize) -> Option<usize> {
+    let in_word = |byte: &&u8| byte.is_ascii_alphanumeric() || **byte == b'_' || **byte >= 0x80;
+    let from = start - script[..start].iter().rev().take_while(in_word).count();
+    let word = &script[from..start];
+    let is = KEYWORDS.iter().any(|keyword| keyword.as_bytes() == word);
+    let ends = KEYWORDS.iter().any(|keyword| word.ends_with(keyword.as_bytes()));
+    let numbered = word.first().is_some_and(u8::is_ascii_digit) && ends;
+    (!word.is_empty() && !is && !numbered).then_some(from)
+}
+
+/// The rows of a cut's literals, its f-strings each read alone, and that of its 50 or 51.
 fn add_rows(script: &[u8], cut: &Cut, within: u32, rows: &mut Vec<Row>) {
-    for literal in cut.literals.iter().filter(|literal| matches!(literal.kind, 1 | 4)) {
+    for literal in &cut.literals {
+        if let Some(place) = unknown_prefix(script, literal.start) {
+            let start = literal.start as u32;
+            rows.push([REFUSAL, start, place as u32, UNKNOWN_PREFIX, 0, 0, 0, 0, 0, within]);
+        }
+        if !matches!(literal.kind, 1 | 4) {
+            continue;
+        }
         let list = literal.numbers();
         match rules::reading(script, &list) {
             Ok(accepted) => {

@@ -9,6 +9,11 @@ NEXT = re.compile(
     rb"#[^\n\r]*|(?P<prefix>(?<![A-Za-z0-9_])(?:%s))?(?P<quotes>%s)" % (b"|".join(PREFIXES), b"|".join(QUOTES)),
     re.IGNORECASE,
 )
+IN_WORD = re.compile(rb"[A-Za-z0-9_\x80-\xff]")
+KEYWORDS = (
+    b"and as assert await case del elif else except for from if in is match not or raise return while with yield".split()
+)
+STANDS = re.compile(rb"|(?:[0-9].*)?(?:%s)" % b"|".join(KEYWORDS), re.DOTALL)
 BODIES = {
     quotes: re.compile(rb"(?:\\.|(?!%s)[^\\%s])*" % (quotes, b"" if len(quotes) == 3 else rb"\n"), re.DOTALL)
     for quotes in QUOTES
@@ -63,6 +68,14 @@ def hidden(script, begin, at):
 
 def apart(script, at):
     return at == 0 or not WORD.match(script, at - 1)
+
+
+def unknown_word(script, start):
+    """Where the word begins that ends at a literal's start, if Python 3.11 does not let it stand there; else None."""
+    begin = start
+    while begin and IN_WORD.match(script, begin - 1):
+        begin -= 1
+    return None if STANDS.fullmatch(script[begin:start]) else begin
 
 
 def prefix_at(script, at):

@@ -333,8 +333,18 @@ class Fields(unittest.TestCase):
         self.assertEqual(written(f"({2000 * chr(39)} f'{{a}}')"), ["a"])
 
     def test_prefixes(self):
-        self.assertEqual(written("xf'{a}' 1f'{b}' _f'{c}' é_f'{d}'"), [])
-        self.assertEqual(written("éf'{a}' (f'{b}')+rF'{c}'-FR'{d}' ff'{e}' bf'{f}'"), ["a", "b", "c", "d"])
+        self.assertEqual(refused("xf'{a}' 1f'{b}' _f'{c}' é_f'{d}'"), ([], [(1, column, 76) for column in (1, 9, 17, 25)]))
+        told = [(1, 1, 76), (1, 34, 76), (1, 42, 76)]
+        self.assertEqual(refused("éf'{a}' (f'{b}')+rF'{c}'-FR'{d}' ff'{e}' bf'{f}'"), (["a", "b", "c", "d"], told))
+        self.assertEqual(written("if f'{a}'if'{b}'else'{c}'or f'{d}'and 1if''else f'{e}':0"), ["a", "d", "e"])
+
+    def test_template_strings(self):
+        """A prefix of a later Python hides its fields, and is told; so is one in an expression."""
+        self.assertEqual(refused("x = t'{y:.0f}' + f'{z}'"), (["z"], [(1, 5, 76)]))
+        self.assertEqual(refused("""f'{rt"{x}"}'"""), (['rt"{x}"'], [(1, 4, 76)]))
+        (one,) = list_script('rt"{y}"').refused
+        said = "; the string is read as if that word were not there"
+        self.assertRegex(one.reason, f"^refused: 76 unknown prefix: .* from Python 3.14 on t begins a template string.*{said}$")
 
     def test_list(self):
         found = list_script("f'{a}' ''\nf'}'")

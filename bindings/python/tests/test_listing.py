@@ -12,6 +12,7 @@ What differs must be told by a refusal, and be of a class that has a row in docs
 import ast
 import collections
 import itertools
+import keyword
 import os
 import pathlib
 import random
@@ -22,7 +23,7 @@ import unittest
 import warnings
 
 from by_python import encoded, literal, strings
-from cut_model import closes, cut, is_cut, prefix_at
+from cut_model import KEYWORDS, closes, cut, is_cut, prefix_at, unknown_word
 from support import CLONE, load, stumpgarret
 from stumpgarret import Field, FieldRow, Kind, Literal, Refusal, ScriptField, Undecodable
 from stumpgarret import differences, list_script, literals, read, rows, text_of
@@ -38,6 +39,7 @@ TRIPLE = re.compile(rb"'''|\"\"\"")
 ESCAPE = "75: escape in a spec's first piece"
 QUOTE = "75: quote in a triple-quoted literal"
 NEVER_CLOSED = "50: literal in an expression that never closes"
+POINT = "76: keyword after a number whose exponent or `j` follows its point"
 ROWS = [
     ("75: `#` in a field", "f'{x#}'", "refused: f-string expression part cannot include '#'", "{x#}, 75 at 4"),
     (
@@ -67,6 +69,8 @@ ROWS = [
         r'''f"""{"x'}{'x"}"""''',
         "{'''x'}, 50 at 3, {'x'''}",
     ),
+    ("76: word before a literal", 't"{x}" f"{y}"', "refused: invalid syntax", "76 at 0, {y}"),
+    (POINT, '1.e5if"a"else f"{x}"', "f'{x}'", "76 at 2, {x}"),
 ]
 
 # Classes of what is told in scripts that Python takes, whose rows are others'.
@@ -76,6 +80,7 @@ WHITE_SPACE = "white space other than spaces after `=`"
 BRACKETS = "28: 65 to 199 open brackets"
 TRIPLE_QUOTED = "same quote in a triple-quoted run"
 BY_NUMBER = {13: NAME, 28: BRACKETS, 50: NEVER_CLOSED, 51: NEVER_CLOSED}
+AFTER_POINT = re.compile(rb"\d\.(e\d+j?|j)[a-z]+", re.IGNORECASE)
 
 
 def classes(script):
@@ -92,6 +97,8 @@ def class_of(script, row):
         return ESCAPE
     if row.number == 75:
         return QUOTE if prefix_at(script, row.place) is not None else None
+    if row.number == 76:
+        return POINT if AFTER_POINT.fullmatch(script, max(row.place - 2, 0), row.start) else None
     if row.number in BY_NUMBER:
         return BY_NUMBER[row.number]
     if row.number == 20 and row.details[0] == 3:
@@ -139,6 +146,9 @@ def own_rows(script):
     """The rows of a script's own literals, by the reading of each f-string alone: start, place, and a refusal's number."""
     for start, end in cut(script)[0]:
         one = literal(start, script[start:end])
+        word = unknown_word(script, start)
+        if word is not None:
+            yield start, word, 76
         if one.kind in (Kind.FSTRING, Kind.RAW_FSTRING):
             try:
                 yield from ((start, place) for place in places(read(script, [one]).records))
@@ -335,6 +345,16 @@ class Nests:
         return "{" + expression + equals + conversion + spec + "}"
 
 
+# A word and a string for K, in statements where a string may stand.
+STATEMENTS = [
+    "K", "K.b", "K:\n pass", "K.b in c: pass", "K:\n case 1: pass", "x K", "x K else 1", "1 if x K", "x = K", "(K)",
+    "[x K.b in c]", "with x K.b: pass", "import x K", "from x K", "K import x", "try: pass\nK: pass",
+    "try: pass\nexcept x K: pass", "if x: pass\nK: pass", "match x:\n K: pass", "match x:\n case 1 K: pass", "raise x K",
+    "yield K", "def K(): pass", "class K: pass", "async def f():\n K.b in c: pass", "lambda K: 1", "for x K: pass",
+    "while 1:\n K", "x not K", "del x, K",
+]
+
+
 class Random(unittest.TestCase):
     def test_nests(self):
         nests, count = Nests(20260101), collections.Counter()
@@ -361,9 +381,11 @@ class Random(unittest.TestCase):
     def test_bytes(self):
         """The cut of any bytes is the one that meets its statements, and the list is of that cut."""
         rng, endings = random.Random(20260102), collections.Counter()
-        for alphabet in (b"'\"#\\\n\rfrbu{x} \xc3", b"''f{", b"\"\"\"'\"'\"\\\nF", b"fFrRbBuU'_1#\n"):
+        words = [*KEYWORDS, b"t", b"1", b"\xc3", b"_", b"''", b"f'{x}'", b" "]
+        alphabets = b"'\"#\\\n\rfrbu{x} \xc3", b"''f{", b"\"\"\"'\"'\"\\\nF", b"fFrRbBuU'_1#\n"
+        for alphabet in (*([bytes([one]) for one in each] for each in alphabets), words):
             for _ in range(BYTE_STRINGS // 4):
-                script = bytes(rng.choices(alphabet, k=rng.randrange(40)))
+                script = b"".join(rng.choices(alphabet, k=rng.randrange(40)))
                 with self.subTest(script=script):
                     endings[self.compare_cut(script)] += 1
         self.assertEqual({*endings}, {None, 50, 51})
@@ -388,6 +410,13 @@ class Random(unittest.TestCase):
             self.assertTrue(refusal.number in (50, 51) and refusal.place > start)
         else:
             self.assertEqual((first.start, first.end), (start, end))
+
+    def test_keywords(self):
+        """A word may stand before a string exactly if Python takes it there in one of the statements."""
+        for word in [*keyword.kwlist, *keyword.softkwlist, "t", "bt", "print", "type"]:
+            taken = any(by_ast(form.replace("K", word + '"a"')) == "" for form in STATEMENTS)
+            told = [row.number for row in rows(word + '"a"').rows]
+            self.assertEqual(told, [] if taken else [76], word)
 
     def test_statements(self):
         """The statements tell a cut from what is none."""

@@ -59,7 +59,7 @@ class Cells(unittest.TestCase):
     def test_random(self):
         """No field of Python's is lost: what a cell of random pieces without such lines has is listed with them between."""
         chance = random.Random(5)
-        pieces = ["f'{a}'", "f'''{b}\n%{c}'''", "(\n'%s'\n% f'{d}')", "# it's\n", "x", "\\\n+ 1", "'\\''", "[\n]"]
+        pieces = ["f'{a}'", "f'''{b}\n%{c}'''", "(\n'%s'\n% f'{d}')", "# it's\n", "x,", "\\\n+ 1,", "'\\''", "[\n]"]
         for _ in range(300):
             lines = ["".join(chance.choices(pieces, k=3)) for _ in range(5)]
             plain = stumpgarret.list_script("\n".join(lines))

@@ -136,6 +136,9 @@ pub enum Reason {
     },
     /// Python 3.11 reads a field otherwise, or not at all: only in a [`Listing`](crate::Listing).
     ReadOtherwise,
+    /// A literal starts directly behind a word that Python 3.11 does not let stand there, as the `t` of
+    /// a later Python's template string: only in a [`Listing`](crate::Listing). The place is the word's.
+    UnknownPrefix,
     /// The script's coding line says that it is neither UTF-8 nor ASCII: the crate decodes nothing. The
     /// place is that of the name. Decode the script, and list it by
     /// [`fields_of_text`](crate::fields_of_text).
@@ -268,6 +271,11 @@ impl fmt::Display for Reason {
                 "read otherwise by Python: Python reads this field otherwise or not at all, by a \
                  #, a backslash, a triple-quoted literal with its own quote inside, or something \
                  after a self-documenting ="
+            }
+            Self::UnknownPrefix => {
+                "unknown prefix: the word before this string is no prefix of Python 3.11 and no \
+                 keyword that may stand there; from Python 3.14 on t begins a template string, \
+                 whose fields are not listed"
             }
             Self::OtherCoding { name } => {
                 return write!(
@@ -479,6 +487,7 @@ pub(crate) fn reason(number: u32, [a, b]: [u32; 2], needed: u32) -> Option<Reaso
         73 => Reason::TooLittleLineRoom { bytes: needed as usize },
         74 => Reason::TooLittleCutRoom { cuts: needed as usize },
         75 => Reason::ReadOtherwise,
+        76 => Reason::UnknownPrefix,
         _ => return None,
     })
 }

@@ -178,6 +178,10 @@ tooLittleCutRoom = 74
 abbrev pub readOtherwise : ℕ
 readOtherwise = 75
 
+-- of every literal of a script, another: a word before it that Python 3.11 does not let stand there
+abbrev pub unknownPrefix : ℕ
+unknownPrefix = 76
+
 -- those of a reading, in the table's order
 abbrev pub refusals : List ℕ
 refusals =

@@ -5,6 +5,7 @@ pub mod RowCount
 pub mod FieldBytes
 pub mod FewRows
 pub mod OtherwiseLaws
+pub mod WordLaws
 pub mod FieldsLaw
 pub mod CompleteLaw
 pub mod ListingSteps

@@ -1,13 +1,14 @@
 -- WHAT IT MEANS THAT A LIST OF ROWS IS COMPLETE FOR A SCRIPT, without a word of how it is made: it uses the reading of one literal and its rows, what a cut is,
--- and of Listing only what a row is and where a field's source ends.
+-- of Keywords what a byte of a word and a keyword are, and of Listing only what a row is and where a field's source ends.
 use Prim.Native.Nat.{ℕ, suc, _+_, _-_, _≤_, _<_}
+use Prim.Native.String.{String}
 use mathlib.Core.Path.{_≡_}
 use mathlib.Core.Bool.{Bool, true, false, not}
 use mathlib.Core.List.{List, [], _∷_, _++_, map}
 use lib.Dec.{eqb}
 use lib.ListN.{length, take}
 use Rattle.definition.specs.Numbers.{isFString}
-use Rattle.definition.specs.Chars.{_is_, byte}
+use Rattle.definition.specs.Chars.{_is_, ascii, byte, part, _to_, inside}
 use Rattle.definition.specs.Escapes.{Naming}
 use Rattle.definition.specs.Records.{Answer}
 use Rattle.definition.specs.Entry.{Literal}
@@ -16,7 +17,13 @@ use Rattle.definition.specs.Rows.{reason, Row, literalRows, rowField, recordFie
 use Rattle.definition_scripts.specs.Opening.{opens, isSign}
 use Rattle.definition_scripts.specs.IsRun.{bodyEnd}
 use Rattle.definition_scripts.specs.IsCut.{reachesEnd, IsCut, EachLiteral}
+use Rattle.definition_scripts.specs.Keywords.{inWord, keywords}
 use Rattle.definition_scripts.specs.Listing.{ListRow, ofField, sourceEnd}
+
+-- a text is one of some
+pub data Among (k : String) : List String → Type 0 where
+  first : {ks : List String} → Among k (k ∷ ks)
+  next : {j : String} {ks : List String} → Among k ks → Among k (j ∷ ks)
 
 -- THE ROWS OF LITERALS in order: each f-string is accepted alone, and its rows have the fields of its answer, in record order, a `:` exactly if there is a spec,
 -- and between it and the `}` that spec's text where no field stands in it; no other literal is read
@@ -26,10 +33,34 @@ pub data Fielded (look : Naming) (s : List ℕ) (within : ℕ) : List Literal �
   fstring : {l : Literal} {ls : List Literal} {rows : List ListRow} → (answer : Answer) → read look s (l ∷ []) ≡ accepts answer
       → map rowField (literalRows look s l) ≡ recordFields (answer .records) → map (rowSpec s) (literalRows look s l) ≡ recordSpecs (answer .text) (answer .records) → Fielded look s within ls rows → Fielded look s within (l ∷ ls) (map (ofField within) (literalRows look s l) ++ rows)
 
--- A PART OF A SCRIPT from `from` up to `end` is cut to its end, and these are the rows of its literals
+-- A WORD from w up to i: bytes of words, as many as there are
+pub record IsWordTo (s : List ℕ) (i w : ℕ) : Type 0 where
+  pub some : w < i
+  pub bytes : (m : ℕ) → w ≤ m → m < i → inWord (byte s m) ≡ true
+  pub all : 1 ≤ w → inWord (byte s (w - 1)) ≡ false
+
+-- the bytes from w up to i spell a keyword
+pub record Spells (s : List ℕ) (i w : ℕ) : Type 0 where
+  pub keyword : String
+  pub listed : Among keyword keywords
+  pub spelled : part s w i ≡ ascii keyword
+
+-- WHAT MAY STAND BEFORE A LITERAL at i: no word, a keyword, or a digit with what follows it up to a keyword
+pub data Stands (s : List ℕ) (i : ℕ) : Type 0 where
+  noWord : (1 ≤ i → inWord (byte s (i - 1)) ≡ false) → Stands s i
+  afterKeyword : {w : ℕ} → IsWordTo s i w → Spells s i w → Stands s i
+  afterNumber : {w m : ℕ} → IsWordTo s i w → inside (48 to 57) (byte s w) ≡ true → w < m → m < i → Spells s i m → Stands s i
+
+-- WHAT A ROW OF 76 AT p SAYS of a literal that starts at i
+pub record Unknown (s : List ℕ) (i p : ℕ) : Type 0 where
+  pub word : IsWordTo s i p
+  pub stands-not : Stands s i → ⊥
+
+-- A PART OF A SCRIPT from `from` up to `end` is cut to its end, each literal may stand where it does, and these are the rows of its literals
 pub record Covered (look : Naming) (s : List ℕ) (within from end : ℕ) (rows : List ListRow) : Type 0 where
   pub literals : List Literal
   pub isCut : IsCut (take end s) from literals reachesEnd
+  pub standing : EachLiteral (λ l. Stands s (l .start)) literals
   pub fielded : Fielded look s within literals rows
 
 -- no byte from i up to j passes a test; none outside the literals

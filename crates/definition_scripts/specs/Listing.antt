@@ -4,7 +4,7 @@ use mathlib.Core.Bool.{Bool, true, false, _&&_, not}
 use mathlib.Core.List.{List, [], _∷_, _++_, map}
 use lib.Dec.{ltb, leb, eqb}
 use lib.ListN.{length}
-use Rattle.definition.specs.Numbers.{isFString, scriptTooLong, tooLittleListRoom, readOtherwise}
+use Rattle.definition.specs.Numbers.{isFString, scriptTooLong, tooLittleListRoom, readOtherwise, unknownPrefix}
 use Rattle.definition.specs.Chars.{if_then_else_, _is_, byte}
 use Rattle.definition.specs.Escapes.{Naming}
 use Rattle.definition.specs.Body.{Signs}
@@ -15,6 +15,7 @@ use Rattle.definition_scripts.specs.Opening.{opens, isSign, firstAt}
 use Rattle.definition_scripts.specs.IsRun.{bodyEnd}
 use Rattle.definition_scripts.specs.IsCut.{Ending, reachesEnd, breaksOff}
 use Rattle.definition_scripts.specs.Cut.{Cut, cut, cutPart}
+use Rattle.definition_scripts.specs.Keywords.{wordStart, mayStand}
 
 -- A ROW OF THE LIST: a field, or a refusal with its literal's start; `within` is the row, from 1, in whose source its literal stands, 0 for a literal of the script
 pub data ListRow : Type 0 where
@@ -41,9 +42,17 @@ readRows look s within l =
       | false ↦ []
     ]
 
+-- before them, if the word that ends where the literal starts may not stand there, that word
+unfoldable pub unknownRow : List ℕ → (within : ℕ) → Literal → List ListRow
+unknownRow s within l =
+    if not (mayStand s (l .start)) then ofRefusal within (l .start) (wordStart s (l .start)) unknownPrefix 0 0 0 ∷ [] else []
+
+unfoldable pub ownRows : Naming → List ℕ → (within : ℕ) → Literal → List ListRow
+ownRows look s within l = unknownRow s within l ++ readRows look s within l
+
 unfoldable pub allRead : Naming → List ℕ → (within : ℕ) → List Literal → List ListRow
 allRead look s within [] = []
-allRead look s within (l ∷ ls) = readRows look s within l ++ allRead look s within ls
+allRead look s within (l ∷ ls) = ownRows look s within l ++ allRead look s within ls
 
 -- of a 50 or 51, where the literal starts
 unfoldable pub brokenRow : (within : ℕ) → Ending → List ListRow

@@ -1,6 +1,6 @@
 -- Rows counted with those of their sources. Assumes nothing.
 use mathlib.Core.Path.{_≡_, refl, sym, _∙_, ap, ap₂}
-use mathlib.Core.Bool.{Bool, true, false}
+use mathlib.Core.Bool.{Bool, true, false, not}
 use mathlib.Core.List.{List, [], _∷_, _++_, append-assoc}
 use Prim.Native.Nat.{ℕ, zero, suc, _+_, _-_, _*_, _≤_, _<_}
 use native.Mathlib.Nat.{zero-add, suc-add, sub-zero}
@@ -10,7 +10,7 @@ use borrow.Author.Tests.{eq-eqb, leb-true, leb-false}
 use lib.Dec.{leb, ltb}
 use lib.ListN.{length, take, drop, getD, length-append, length-take, length-drop, take-append-drop}
 use lib.Seq.{take-nil, drop-nil, drop-drop}
-use Rattle.definition.specs.Numbers.{isFString, readOtherwise}
+use Rattle.definition.specs.Numbers.{isFString, readOtherwise, unknownPrefix}
 use Rattle.definition.specs.Chars.{if_then_else_}
 use Rattle.definition.specs.Escapes.{Naming}
 use Rattle.definition.specs.Entry as d
@@ -18,7 +18,8 @@ use Rattle.definition.specs.Reading.{inFront}
 use Rattle.definition.specs.Rows.{Row}
 use Rattle.definition_scripts.specs.IsCut.{reachesEnd, breaksOff}
 use Rattle.definition_scripts.specs.Cut.{Cut, cut, firstCut, cutFrom, cutPart}
-use Rattle.definition_scripts.specs.Listing.{ListRow, ofField, ofRefusal, tenOf, tens, readRows, allRead, brokenRow, cutRows, sourceEnd, otherwise, otherwiseRow, sourceRows, rowsOf, refusalsIn, least}
+use Rattle.definition_scripts.specs.Keywords.{wordStart, mayStand}
+use Rattle.definition_scripts.specs.Listing.{ListRow, ofField, ofRefusal, tenOf, tens, readRows, unknownRow, ownRows, allRead, brokenRow, cutRows, sourceEnd, otherwise, otherwiseRow, sourceRows, rowsOf, refusalsIn, least}
 use Rattle.definition_scripts.proofs.cut.PartLaws.{cut-is-part}
 use Rattle.definition_scripts.proofs.listing.SourceLaws.{Fits, AllFit, fit-more, literal-fit, source-fit}
 use Rattle.definition_scripts.proofs.listing.ListingSteps.{ten, tens-length}
@@ -51,19 +52,29 @@ module _ (look : Naming) (s : List ℕ) where
   unfolding countRows sourceRows
   total-refusal w start place number a b o = rw (count-none look (length s) s)
 
+  -- a refusal that is told or not
+  total-told : (t : Bool) (w start place number : ℕ) → total look s (if t then ofRefusal w start place number 0 0 0 ∷ [] else []) ≡ length (if t then ofRefusal w start place number 0 0 0 ∷ [] else [])
+  total-told true w start place number = total-refusal w start place number 0 0 0
+  total-told false w start place number = count-none look (suc (length s)) s
+
   total-otherwise : (w : ℕ) (r : Row) (c : Cut) → total look s (otherwiseRow s w r c) ≡ length (otherwiseRow s w r c)
   unfolding otherwiseRow
-  total-otherwise w r c = go (ltb (otherwise s r c) (length s))
-    where
-      go : (t : Bool) → total look s (if t then ofRefusal w (r .start) (otherwise s r c) readOtherwise 0 0 0 ∷ [] else []) ≡ length (if t then ofRefusal w (r .start) (otherwise s r c) readOtherwise 0 0 0 ∷ [] else [])
-      go true = total-refusal w (r .start) (otherwise s r c) readOtherwise 0 0 0
-      go false = count-none look (suc (length s)) s
+  total-otherwise w r c = total-told (ltb (otherwise s r c) (length s)) w (r .start) (otherwise s r c) readOtherwise
+
+  -- of a literal: its 76, and those of its reading
+  total-own : (l : d.Literal) → total look s (ownRows look s 0 l) ≡ length (unknownRow s 0 l) + total look s (readRows look s 0 l)
+  unfolding ownRows unknownRow
+  total-own l =
+      total-append (unknownRow s 0 l) (readRows look s 0 l)
+      ∙ ap (λ n. n + total look s (readRows look s 0 l)) (total-told (not (mayStand s (l .start))) 0 (l .start) (wordStart s (l .start)) unknownPrefix)
 
   -- of a part: its first literal and the rest
-  total-first : (l : d.Literal) (c : Cut) → total look s (cutRows look s 0 (firstCut l c)) ≡ total look s (readRows look s 0 l) + total look s (cutRows look s 0 c)
+  total-first : (l : d.Literal) (c : Cut) → total look s (cutRows look s 0 (firstCut l c)) ≡ (length (unknownRow s 0 l) + total look s (readRows look s 0 l)) + total look s (cutRows look s 0 c)
   unfolding cutRows firstCut allRead
   total-first l c =
-      ap (total look s) (append-assoc (readRows look s 0 l) (allRead look s 0 (c .literals)) (brokenRow 0 (c .ending))) ∙ total-append (readRows look s 0 l) (allRead look s 0 (c .literals) ++ brokenRow 0 (c .ending))
+      ap (total look s) (append-assoc (ownRows look s 0 l) (allRead look s 0 (c .literals)) (brokenRow 0 (c .ending)))
+      ∙ total-append (ownRows look s 0 l) (allRead look s 0 (c .literals) ++ brokenRow 0 (c .ending))
+      ∙ ap (λ n. n + total look s (allRead look s 0 (c .literals) ++ brokenRow 0 (c .ending))) (total-own l)
 
   total-over : total look s (cutRows look s 0 (record { literals = []; ending = reachesEnd })) ≡ 0
   unfolding cutRows allRead brokenRow
@@ -101,7 +112,7 @@ module _ (look : Naming) (s : List ℕ) (from end : ℕ) (b : Bounded s from end
     counting-most = let q = p .same in omega (arith, part-most)
 
     module _ (l : Literal) (e : cutFrom t at ≡ firstCut (literalOf l) (cutFrom t (l .end))) where
-      split : rows + (total look s (readRows look s 0 (literalOf l)) + total look s (cutRows look s 0 (cutPart s (l .end) end))) ≡ total look s (cutRows look s 0 (cutPart s from end))
+      split : rows + ((length (unknownRow s 0 (literalOf l)) + total look s (readRows look s 0 (literalOf l))) + total look s (cutRows look s 0 (cutPart s (l .end) end))) ≡ total look s (cutRows look s 0 (cutPart s from end))
       unfolding cutPart
       split = rw (e, total-first look s (literalOf l) (cutFrom t (l .end))) at (p .same)
 
@@ -111,8 +122,8 @@ module _ (look : Naming) (s : List ℕ) (from end : ℕ) (b : Bounded s from end
       pub counting-less : (end - l .end < end - at) × (total look s (readRows look s 0 (literalOf l)) ≤ total look s (cutRows look s 0 (cutPart s from end)))
       counting-less = let i = found-in s at end l (p .ahead) (b .within) e in (omega arith, omega (arith, split))
 
-      pub counting-next : (n : ℕ) → n ≡ total look s (readRows look s 0 (literalOf l)) → Counting look s from end (l .end) (rows + n)
-      counting-next n q =
+      pub counting-next : (m n : ℕ) → m ≡ length (unknownRow s 0 (literalOf l)) → n ≡ total look s (readRows look s 0 (literalOf l)) → Counting look s from end (l .end) (rows + (m + n))
+      counting-next m n k q =
           let i = found-in s at end l (p .ahead) (b .within) e in
           record { ahead = i .ends; same = omega (arith, split) }
 

@@ -8,11 +8,11 @@ use Rattle.definition.specs.Escapes.{Naming}
 use Rattle.definition.specs.Entry as d
 use Rattle.definition_scripts.specs.IsCut.{Ending, reachesEnd, breaksOff, EachLiteral}
 use Rattle.definition_scripts.specs.Cut.{Cut, firstCut, cutFrom, cutPart}
-use Rattle.definition_scripts.specs.Listing.{ListRow, ofRefusal, tenOf, readRows, allRead, brokenRow, cutRows, reached}
+use Rattle.definition_scripts.specs.Listing.{ListRow, ofRefusal, tenOf, ownRows, allRead, brokenRow, cutRows, reached}
 use Rattle.definition_scripts.proofs.cut.CutSteps.{cutAfter, cut-after}
 use Rattle.definition_scripts.proofs.cut.PartLaws.{part-cut-is, InPart, in-part}
 use Rattle.definition_scripts.proofs.listing.RowCount.{countRows}
-use Rattle.definition_scripts.proofs.listing.FewRows.{literal-few}
+use Rattle.definition_scripts.proofs.listing.FewRows.{own-few}
 use Rattle.buffers.specs.Over.{over}
 use Rattle.literals.specs.declared.Literal.{Literal}
 use Rattle.literals.specs.Answers.{literalOf}
@@ -29,7 +29,7 @@ count-flat look s (r ∷ rs) = omega (arith, count-flat look s rs)
 all-append : (look : Naming) → (s : List ℕ) (w : ℕ) (ls ms : List d.Literal) → allRead look s w (ls ++ ms) ≡ allRead look s w ls ++ allRead look s w ms
 unfolding allRead
 all-append look s w [] ms = refl
-all-append look s w (l ∷ ls) ms = ap (λ r. readRows look s w l ++ r) (all-append look s w ls ms) ∙ sym (append-assoc (readRows look s w l) (allRead look s w ls) (allRead look s w ms))
+all-append look s w (l ∷ ls) ms = ap (λ r. ownRows look s w l ++ r) (all-append look s w ls ms) ∙ sym (append-assoc (ownRows look s w l) (allRead look s w ls) (allRead look s w ms))
 
 -- a part of a script that is not too long is not too long
 pub short-part : (s : List ℕ) (from end count : ℕ) → Bounded s from end count → 1048576 < length (take end s) → ⊥
@@ -102,14 +102,14 @@ module _ (look : Naming) (s : List ℕ) (from end w : ℕ) (rows : List ℕ) (co
       pub cutting-less : end - l .end < end - at
       cutting-less = let i = cut-in in omega arith
 
-      pub cutting-next : (rows″ : List ℕ) (n : ℕ) → Puts (readRows look s w (literalOf l)) rows′ rows″ done n → Cutting look s from end w rows rows″ count (l .end) n (literals + 1)
+      pub cutting-next : (rows″ : List ℕ) (n : ℕ) → Puts (ownRows look s w (literalOf l)) rows′ rows″ done n → Cutting look s from end w rows rows″ count (l .end) n (literals + 1)
       unfolding allRead
       cutting-next rows″ n q =
           let i = cut-in in
           let x = i .starts in
           let y = i .ends in
           let k = q .counted in
-          let m : length (readRows look s w (literalOf l)) ≤ l .end - l .start = rw (count-flat look s (readRows look s w (literalOf l))) at (literal-few look 1 s w at end (b .within) (literalOf l) i) in
+          let m : length (ownRows look s w (literalOf l)) ≤ l .end - l .start = rw (count-flat look s (ownRows look s w (literalOf l))) at (own-few look 1 s w at end (b .within) (literalOf l) i) in
           let f = p .few in
           let g = p .fewer in
           record {
@@ -117,7 +117,7 @@ module _ (look : Naming) (s : List ℕ) (from end w : ℕ) (rows : List ℕ) (co
             ahead = y;
             same = p .same ∙ ap (cutAfter (p .before)) e ∙ cut-after (p .before) (literalOf l) (cutFrom t (l .end));
             counted = omega (arith, p .counted, length-append (p .before) (literalOf l ∷ []));
-            puts = rw (all-append look s w (p .before) (literalOf l ∷ []), append-nil (readRows look s w (literalOf l))) (puts-append (allRead look s w (p .before)) (readRows look s w (literalOf l)) rows rows′ rows″ count done n (p .puts) q);
+            puts = rw (all-append look s w (p .before) (literalOf l ∷ []), append-nil (ownRows look s w (literalOf l))) (puts-append (allRead look s w (p .before)) (ownRows look s w (literalOf l)) rows rows′ rows″ count done n (p .puts) q);
             few = omega arith;
             fewer = omega arith;
           }

@@ -28,7 +28,7 @@ use Rattle.listing.specs.declared.Fields.the-variants.{Listed, TooLong, 
 use Rattle.sources.specs.Source.{signsOf, rowOf, Source}
 use Rattle.listing.specs.Put.{Puts, PartIs, rowAt, rowsIn, fieldOf, Lies, Bounded}
 use Rattle.listing.specs.Answers.{Filled, CallIs}
-use Rattle.listing.proofs.Written.{puts-none, puts-append, row-back, rows-back}
+use Rattle.listing.proofs.Written.{told-most, puts-none, puts-append, row-back, rows-back}
 
 -- THE SOURCE OF A ROW that stands in a buffer
 module _ (look : Naming) (s rows : List ℕ) (i : ℕ) where
@@ -55,11 +55,7 @@ module _ (look : Naming) (s rows : List ℕ) (i : ℕ) where
 
     otherwise-most : (n : ℕ) → length (otherwiseRow s n (rowOf f) c) ≤ 1
     unfolding otherwiseRow
-    otherwise-most n = go (ltb (otherwise s (rowOf f) c) (length s))
-      where
-        go : (t : Bool) → length (if t then ofRefusal n (f .start) (otherwise s (rowOf f) c) readOtherwise 0 0 0 ∷ [] else []) ≤ 1
-        go true = omega arith
-        go false = omega arith
+    otherwise-most n = told-most (ltb (otherwise s (rowOf f) c) (length s)) n (f .start) (otherwise s (rowOf f) c) readOtherwise
 
     module _ (count : ℕ) (p : Lies s rows i count) (rows₁ : List ℕ) (m : ℕ) (a : Puts (otherwiseRow s (i + 1) (rowOf f) c) rows rows₁ count m) where
       pub source-bounded : Bounded s (f .place) (sourceEnd (signsOf f)) m

@@ -10,12 +10,13 @@ use lib.Dec.{eqb}
 use lib.ListN.{length, take, drop, getD, length-append, length-take, length-drop}
 use lib.Seq.{take-length}
 use borrow.Rule.Slice.PartMut.{putMid, midOf}
-use Rattle.definition.specs.Numbers.{isFString}
+use Rattle.definition.specs.Numbers.{isFString, unknownPrefix}
 use Rattle.definition.specs.Chars.{if_then_else_}
 use Rattle.definition.specs.Escapes.{Naming}
 use Rattle.definition.specs.Entry.{Literal}
 use Rattle.definition.specs.Rows.{reason, Row, rowNumbers}
-use Rattle.definition_scripts.specs.Listing.{ListRow, ofField, ofRefusal, tenOf, tens, readRows, refusalsIn}
+use Rattle.definition_scripts.specs.Keywords.{wordStart, mayStand}
+use Rattle.definition_scripts.specs.Listing.{ListRow, ofField, ofRefusal, tenOf, tens, readRows, unknownRow, ownRows, refusalsIn}
 use Rattle.definition_scripts.proofs.listing.ListingSteps.{ten, tens-length, tens-append}
 use Rattle.buffers.specs.Over.{over}
 use Rattle.buffers.proofs.Over.{over-nil, length-over, over-append, over-front, over-lent}
@@ -37,6 +38,11 @@ puts-one r rows rows′ count e =
       kept = ap length e ∙ length-over rows (count * 10) (tenOf r);
     }
 
+-- a refusal that is told or not
+pub told-most : (t : Bool) (w start place number : ℕ) → length (if t then ofRefusal w start place number 0 0 0 ∷ [] else []) ≤ 1
+told-most true w start place number = omega arith
+told-most false w start place number = omega arith
+
 pub puts-append : (xs ys : List ListRow) (rows rows₁ rows₂ : List ℕ) (count m n : ℕ) → Puts xs rows rows₁ count m → Puts ys rows₁ rows₂ m n → Puts (xs ++ ys) rows rows₂ count n
 puts-append xs ys rows rows₁ rows₂ count m n a b =
     let e = a .counted in
@@ -53,6 +59,22 @@ puts-append xs ys rows rows₁ rows₂ count m n a b =
 pub not-read : (look : Naming) → (s : List ℕ) (within : ℕ) (l : Literal) → isFString (l .kind) ≡ false → readRows look s within l ≡ []
 unfolding readRows
 not-read look s within l e = rw (e, readRows)
+
+-- its 76
+pub puts-unknown : (s : List ℕ) (w : ℕ) (l : Literal) (rows rows′ : List ℕ) (count word : ℕ) → mayStand s (l .start) ≡ false → word ≡ wordStart s (l .start)
+    → rows′ ≡ over rows (count * 10) (tenOf (ofRefusal w (l .start) word unknownPrefix 0 0 0)) → Puts (unknownRow s w l) rows rows′ count (count + 1)
+unfolding unknownRow
+puts-unknown s w l rows rows′ count word e f g = rw (e, ← f) (puts-one (ofRefusal w (l .start) word unknownPrefix 0 0 0) rows rows′ count g)
+
+-- with its 76 before them
+module _ (s : List ℕ) (w : ℕ) (l : Literal) (rows rows₁ : List ℕ) (count m : ℕ) (a : Puts (unknownRow s w l) rows rows₁ count m) where
+  pub unknown-most : m ≤ count + 1
+  unfolding unknownRow
+  unknown-most = let k = a .counted in omega (arith, told-most (not (mayStand s (l .start))) w (l .start) (wordStart s (l .start)) unknownPrefix)
+
+  pub puts-own : (look : Naming) → (rows₂ : List ℕ) (n : ℕ) → Puts (readRows look s w l) rows₁ rows₂ m n → Puts (ownRows look s w l) rows rows₂ count n
+  unfolding ownRows
+  puts-own look rows₂ n b = puts-append (unknownRow s w l) (readRows look s w l) rows rows₁ rows₂ count m n a b
 
 pub puts-short : (xs : List ListRow) (rows : List ℕ) (count n : ℕ) → n ≡ count + length xs → length rows / 10 < n → Puts xs rows rows count n
 puts-short xs rows count n e h = record { counted = e; wrote = λ k. absurd (omega arith); kept = refl }

@@ -6,6 +6,7 @@ use crate::rows::read_alone;
 use literals::Literal;
 use literals::Next;
 use literals::next_literal;
+use scans::words;
 use sources::Field;
 use sources::lesser;
 use sources::otherwise;
@@ -16,7 +17,7 @@ ghost use Prim.Native.Nat.{_+_, _≤_, _<_};
 ghost use lib.ListN.{length};
 ghost use Rattle.definition.specs.Numbers.{isFString};
 ghost use Rattle.definition_scripts.specs.Cut.{cutPart};
-ghost use Rattle.definition_scripts.specs.Listing.{readRows, cutRows, sourceEnd, otherwiseRow};
+ghost use Rattle.definition_scripts.specs.Listing.{unknownRow, readRows, cutRows, sourceEnd, otherwiseRow};
 ghost use Rattle.escapes.specs.Answers.{namesBy};
 ghost use Rattle.literals.specs.Answers.{literalOf};
 ghost use Rattle.sources.specs.Source.{signsOf, rowOf, Source};
@@ -93,6 +94,16 @@ fn count_literal(s: &[u8], l: Literal, file: &[u8], index: &[u32]) -> usize
     rows
 }
 
+// A literal's row of 76, if it has one.
+fn unknown_rows(s: &[u8], l: Literal) -> usize
+    ensures { λ r. ⌜ r ≡ length (unknownRow (now (s .entry)) 0 (literalOf l)) ⌝ }
+{
+    if words::may_stand(s, l.start as usize) {
+        return 0;
+    }
+    1
+}
+
 // The rows of a part of the script, with those of their sources.
 pub(crate) fn count_part(s: &[u8], from: usize, end: usize, file: &[u8], index: &[u32]) -> usize
     requires { ⌜ Bounded (now s) from end 0 ⌝ }
@@ -112,7 +123,9 @@ pub(crate) fn count_part(s: &[u8], from: usize, end: usize, file: &[u8], index: 
                 return rows + 1;
             }
             Next::Literal(l) => {
-                rows += count_literal(s, l, file, index);
+                let told = unknown_rows(s, l);
+                let read = count_literal(s, l, file, index);
+                rows += told + read;
                 at = l.end as usize;
             }
         }

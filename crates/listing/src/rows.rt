@@ -4,6 +4,7 @@ use buffers::put_row;
 use literals::Literal;
 use literals::Next;
 use literals::next_literal;
+use scans::words;
 use sources::Field;
 use sources::otherwise;
 use sources::source_end;
@@ -15,7 +16,7 @@ ghost use Prim.Native.Nat.{_+_, _*_, _≤_, _<_};
 ghost use lib.ListN.{length};
 ghost use Rattle.definition.specs.Numbers.{isFString};
 ghost use Rattle.definition_scripts.specs.Cut.{cutPart};
-ghost use Rattle.definition_scripts.specs.Listing.{readRows, tenOf, sourceEnd, otherwiseRow, sourceRows};
+ghost use Rattle.definition_scripts.specs.Listing.{unknownRow, readRows, ownRows, tenOf, sourceEnd, otherwiseRow, sourceRows};
 ghost use Rattle.buffers.specs.Over.{over};
 ghost use Rattle.escapes.specs.Answers.{namesBy};
 ghost use Rattle.literals.specs.Answers.{literalOf};
@@ -25,6 +26,8 @@ ghost use Rattle.listing.specs.Put.{refusalRow, AloneIs, rowAt, fieldOf,
 const REFUSAL: u32 = 5;
 
 const READ_OTHERWISE: u32 = 75;
+
+const UNKNOWN_PREFIX: u32 = 76;
 
 // Why a literal or a field is refused, and where.
 pub(crate) struct Told {
@@ -137,6 +140,28 @@ fn fstring_rows(
     }
 }
 
+// Writes the row of 76 of a literal, if it has one.
+fn unknown_row(s: &[u8], l: Literal, within: u32, rows: &mut [u32], count: usize) -> usize
+    requires { ⌜ count < 4294967296 ⌝ }
+    ensures { λ r. ⌜ Puts (unknownRow (now (s .entry)) within (literalOf l)) (now (rows .entry)) (now (rows .exit)) count r ⌝ }
+{
+    let start = l.start as usize;
+    if words::may_stand(s, start) {
+        return count;
+    }
+    let word = words::word_start(s, start);
+    let told = Told {
+        start: l.start,
+        place: word as u32,
+        number: UNKNOWN_PREFIX,
+        a: 0,
+        b: 0,
+        opened: 0,
+    };
+    put_refusal(rows, count, within, told);
+    count + 1
+}
+
 // Writes the rows of a literal behind so many. Only f-strings are read.
 fn literal_rows(
     s: &[u8],
@@ -147,13 +172,14 @@ fn literal_rows(
     file: &[u8],
     index: &[u32],
 ) -> usize
-    requires { ⌜ count < 4294967296 ⌝ }
-    ensures { λ r. ⌜ Puts (readRows (namesBy (now (file .entry)) (now (index .entry))) (now (s .entry)) within (literalOf l)) (now (rows .entry)) (now (rows .exit)) count r ⌝ }
+    requires { ⌜ count < 4294967295 ⌝ }
+    ensures { λ r. ⌜ Puts (ownRows (namesBy (now (file .entry)) (now (index .entry))) (now (s .entry)) within (literalOf l)) (now (rows .entry)) (now (rows .exit)) count r ⌝ }
 {
+    let past = unknown_row(s, l, within, rows, count);
     if is_fstring(l.kind) {
-        return fstring_rows(s, l, within, rows, count, file, index);
+        return fstring_rows(s, l, within, rows, past, file, index);
     }
-    count
+    past
 }
 
 // Writes the rows of the cut of a part of the script.

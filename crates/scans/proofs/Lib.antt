@@ -1,2 +1,4 @@
 pub mod Openings
 pub mod Closings
+pub mod Packing
+pub mod WordBefore

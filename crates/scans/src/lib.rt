@@ -1,4 +1,6 @@
 // What is looked for in a script: what opens a literal and where it closes, the ends of lines and comments, and what stands before a prefix.
+pub mod words;
+
 ghost use mathlib.Core.Path.{_≡_};
 ghost use Prim.Native.Nat.{_+_, _<_};
 ghost use lib.ListN.{length, drop};

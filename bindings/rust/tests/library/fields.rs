@@ -199,6 +199,18 @@ fn what_python_reads_otherwise_is_told() {
 }
 
 #[test]
+fn a_word_that_python_does_not_let_stand_before_a_string_is_told() {
+    let listing = fields("x = t'{y:.0f}'").unwrap();
+    assert_eq!(written(&listing), ["1:5 refusal 76"]);
+    let last = listing.rows().last().unwrap();
+    assert_eq!((refusal(&last).number, &refusal(&last).reason), (76, &Reason::UnknownPrefix));
+    assert_eq!((last.within, last.place), (None, 4));
+
+    assert_eq!(rows("f'{rt\"{x}\"}' f'{y}'"), ["1:4 rt\"{x}\"", ".1:4 refusal 76", "1:17 y"]);
+    assert_eq!(rows("1if''else''or'' f'{y}'"), ["1:20 y"]);
+}
+
+#[test]
 fn bytes_that_are_no_text_are_told_where_they_stand_in_a_field() {
     let listing = fields(b"# \xff\n'\xff' f'{a}\xff' f'{b}'").unwrap();
     assert_eq!(written(&listing), ["2:10 refusal 6", "2:16 b"]);

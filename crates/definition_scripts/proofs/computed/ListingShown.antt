@@ -16,7 +16,8 @@ use Rattle.definition.specs.Rows.{reason, rowNumbers, signAt, signsAt, fieldRow
 use Rattle.definition_scripts.specs.Opening.{oneLetter, twoLetters, opens, quotesOf, tripled, quotesAt, apart}
 use Rattle.definition_scripts.specs.Literals.{bodyCase, closingN, closing, closedAt, literalAt}
 use Rattle.definition_scripts.specs.Cut.{begins, cutCase, firstCut, cutN, cutFrom, cut, cutPart}
-use Rattle.definition_scripts.specs.Listing.{tenOf, tens, readRows, allRead, brokenRow, cutRows, sourceEnd, reached, firstIn, quotedInside, firstOdd, moreAfter, specBackslash, otherwise, otherwiseRow, sourceRows, below, levelsN, rowsOf, refusalsIn, fieldsOf, fieldsAfter, fieldsCall, fieldsInto, fieldsNumbers}
+use Rattle.definition_scripts.specs.Keywords.{wordStart, keywords, isOneOf, endsInKeyword, known, mayStand}
+use Rattle.definition_scripts.specs.Listing.{tenOf, tens, readRows, unknownRow, ownRows, allRead, brokenRow, cutRows, sourceEnd, reached, firstIn, quotedInside, firstOdd, moreAfter, specBackslash, otherwise, otherwiseRow, sourceRows, below, levelsN, rowsOf, refusalsIn, fieldsOf, fieldsAfter, fieldsCall, fieldsInto, fieldsNumbers}
 
 -- the answer's numbers and the row buffer, which held so many nines
 abbrev asked : (look : Naming) → String → ℕ → List ℕ × List ℕ
@@ -37,7 +38,7 @@ scripts look =
     -- reasons and signs; a plain literal is not read
     (asked look "x = f'{a!r}{b=}{c=:3}{d}' 'e{'" 41 gives (0 ∷ 4 ∷ 0 ∷ 2 ∷ 30 ∷ [], 1 ∷ 4 ∷ 7 ∷ 1 ∷ 114 ∷ 0 ∷ 9 ∷ 0 ∷ 11 ∷ 0 ∷ 3 ∷ 4 ∷ 12 ∷ 1 ∷ 114 ∷ 14 ∷ 0 ∷ 0 ∷ 15 ∷ 0 ∷ 4 ∷ 4 ∷ 16 ∷ 1 ∷ 0 ∷ 18 ∷ 0 ∷ 19 ∷ 21 ∷ 0 ∷ 2 ∷ 4 ∷ 22 ∷ 1 ∷ 0 ∷ 0 ∷ 0 ∷ 0 ∷ 24 ∷ 0 ∷ 9 ∷ []))
     -- nested fields; neither a comment's quote nor a prefix after a letter
-    ∷ (asked look "f'{x:{y}>{z!s}}' # f'{no}'\nxf'{n}'" 31 gives (0 ∷ 3 ∷ 0 ∷ 2 ∷ 34 ∷ [], 2 ∷ 0 ∷ 3 ∷ 1 ∷ 0 ∷ 0 ∷ 0 ∷ 5 ∷ 15 ∷ 0 ∷ 2 ∷ 0 ∷ 6 ∷ 1 ∷ 0 ∷ 0 ∷ 0 ∷ 0 ∷ 8 ∷ 0 ∷ 1 ∷ 0 ∷ 10 ∷ 1 ∷ 115 ∷ 0 ∷ 12 ∷ 0 ∷ 14 ∷ 0 ∷ 9 ∷ []))
+    ∷ (asked look "f'{x:{y}>{z!s}}' # f'{no}'\nxf'{n}'" 41 gives (0 ∷ 4 ∷ 1 ∷ 2 ∷ 34 ∷ [], 2 ∷ 0 ∷ 3 ∷ 1 ∷ 0 ∷ 0 ∷ 0 ∷ 5 ∷ 15 ∷ 0 ∷ 2 ∷ 0 ∷ 6 ∷ 1 ∷ 0 ∷ 0 ∷ 0 ∷ 0 ∷ 8 ∷ 0 ∷ 1 ∷ 0 ∷ 10 ∷ 1 ∷ 115 ∷ 0 ∷ 12 ∷ 0 ∷ 14 ∷ 0 ∷ 5 ∷ 29 ∷ 27 ∷ 76 ∷ 0 ∷ 0 ∷ 0 ∷ 0 ∷ 0 ∷ 0 ∷ 9 ∷ []))
     -- adjacent ones; b and u have none
     ∷ (asked look "f'{a}'f'{b}'b'{c}'u'{d}'" 21 gives (0 ∷ 2 ∷ 0 ∷ 4 ∷ 24 ∷ [], 2 ∷ 0 ∷ 3 ∷ 1 ∷ 0 ∷ 0 ∷ 0 ∷ 0 ∷ 5 ∷ 0 ∷ 2 ∷ 6 ∷ 9 ∷ 1 ∷ 0 ∷ 0 ∷ 0 ∷ 0 ∷ 11 ∷ 0 ∷ 9 ∷ []))
     -- literals in expressions, level by level, and in a nested field's
@@ -62,10 +63,19 @@ scripts look =
     -- the first of them counts, and one is told
     ∷ (asked look "f'{[\"\\a\"#]}'" 20 gives (0 ∷ 2 ∷ 1 ∷ 1 ∷ 12 ∷ [], 2 ∷ 0 ∷ 3 ∷ 7 ∷ 0 ∷ 0 ∷ 0 ∷ 0 ∷ 11 ∷ 0 ∷ 5 ∷ 0 ∷ 5 ∷ 75 ∷ 0 ∷ 0 ∷ 0 ∷ 0 ∷ 0 ∷ 1 ∷ []))
     ∷ (asked look "f'{[x#\"\\a\"]=:\\n}'" 20 gives (0 ∷ 2 ∷ 1 ∷ 1 ∷ 17 ∷ [], 4 ∷ 0 ∷ 3 ∷ 8 ∷ 0 ∷ 12 ∷ 0 ∷ 13 ∷ 16 ∷ 0 ∷ 5 ∷ 0 ∷ 5 ∷ 75 ∷ 0 ∷ 0 ∷ 0 ∷ 0 ∷ 0 ∷ 1 ∷ []))
+    -- 76: a prefix of another Python, a word from 80 (hex) on before an f-string, one in a source; places where the word begins
+    ∷ (asked look "t\"{x}\"" 11 gives (0 ∷ 1 ∷ 1 ∷ 1 ∷ 6 ∷ [], 5 ∷ 1 ∷ 0 ∷ 76 ∷ 0 ∷ 0 ∷ 0 ∷ 0 ∷ 0 ∷ 0 ∷ 9 ∷ []))
+    ∷ (asked look "Ã©f\"{x}\"" 20 gives (0 ∷ 2 ∷ 1 ∷ 1 ∷ 8 ∷ [], 5 ∷ 2 ∷ 0 ∷ 76 ∷ 0 ∷ 0 ∷ 0 ∷ 0 ∷ 0 ∷ 0 ∷ 2 ∷ 2 ∷ 5 ∷ 1 ∷ 0 ∷ 0 ∷ 0 ∷ 0 ∷ 7 ∷ 0 ∷ []))
+    ∷ (asked look "(bt'..'x_9'')" 20 gives (0 ∷ 2 ∷ 2 ∷ 2 ∷ 13 ∷ [], 5 ∷ 3 ∷ 1 ∷ 76 ∷ 0 ∷ 0 ∷ 0 ∷ 0 ∷ 0 ∷ 0 ∷ 5 ∷ 10 ∷ 7 ∷ 76 ∷ 0 ∷ 0 ∷ 0 ∷ 0 ∷ 0 ∷ 0 ∷ []))
+    ∷ (asked look "f\"{t'a'}\"" 20 gives (0 ∷ 2 ∷ 1 ∷ 1 ∷ 9 ∷ [], 2 ∷ 0 ∷ 3 ∷ 4 ∷ 0 ∷ 0 ∷ 0 ∷ 0 ∷ 8 ∷ 0 ∷ 5 ∷ 4 ∷ 3 ∷ 76 ∷ 0 ∷ 0 ∷ 0 ∷ 0 ∷ 0 ∷ 1 ∷ []))
+    -- keywords may stand there, and numbers with one behind them; no other keyword, and none behind a letter
+    ∷ (asked look "and''as''assert''await''case''del''elif''else''except''for''from''if''in''is''match''not''or''raise''return''while''with''yield''" 1 gives (0 ∷ 0 ∷ 0 ∷ 22 ∷ 129 ∷ [], 9 ∷ []))
+    ∷ (asked look "1if\"a\"else\"b\"0x1for\"c\"2.5and\"d\"0if''9in''\u{7f}''" 1 gives (0 ∷ 0 ∷ 0 ∷ 7 ∷ 44 ∷ [], 9 ∷ []))
+    ∷ (asked look "False''None''True''async''break''class''continue''def''finally''global''import''lambda''nonlocal''pass''try''_''9''1t''xif''Else''Ã©in''\u{80}''ÿ''" 1 gives (53 ∷ 0 ∷ 0 ∷ 0 ∷ 0 ∷ 0 ∷ 0 ∷ 0 ∷ 0 ∷ 23 ∷ [], 0 ∷ []))
     -- 53
     ∷ (asked look "f'{f\"{g}\"}{h}'" 29 gives (53 ∷ 0 ∷ 0 ∷ 0 ∷ 0 ∷ 0 ∷ 0 ∷ 0 ∷ 0 ∷ 3 ∷ [], 0 ∷ 0 ∷ 0 ∷ 0 ∷ 0 ∷ 0 ∷ 0 ∷ 0 ∷ 0 ∷ 0 ∷ 0 ∷ 0 ∷ 0 ∷ 0 ∷ 0 ∷ 0 ∷ 0 ∷ 0 ∷ 0 ∷ 0 ∷ 0 ∷ 0 ∷ 0 ∷ 0 ∷ 0 ∷ 0 ∷ 0 ∷ 0 ∷ 0 ∷ []))
     ∷ []
 
 pub scripts-listed : (look : Naming) → map (λ r. r .asks) (scripts look) ≡ map (λ r. r .is) (scripts look)
-unfolding scripts prefix ascii insideAny table37 following follow width decoded code next char formedFrom wellFormed utf8 whiteSpace before same more countFrom counted octalDigit octalFrom hexDigit scalar hexFrom lookup named unicodeName escapeCase escape encode meant withEscape stringCase stringMove stringN textCase textMove filled withEquals withBang withColon withClose fresh add documented spaced formatted outside fieldCase caseOf conversionMove openMove closeMove quoteMove fieldMove direct conversionOf fieldPieces selfDocumenting finished specified plainRun textN alone readBody touching covers item itemOf glue merge bothItems merged texts recordAt laid cover answerOf opening placeOf body refusal moved notEmpty notMany firstBad bad allGood total notLong formed illFormed allUtf8 anyOf firstStart notMixed firstOf entry openedAt refusalIn readLiteral andThen readFrom sortOf uMark lastEnd allChars answered read reason rowNumbers signAt signsAt fieldRows piecesOf literalRows oneLetter twoLetters opens quotesOf tripled quotesAt apart bodyCase closingN closing closedAt literalAt begins cutCase firstCut cutN cutFrom cut cutPart tenOf tens readRows allRead brokenRow cutRows sourceEnd reached firstIn quotedInside firstOdd moreAfter specBackslash otherwise otherwiseRow sourceRows below levelsN rowsOf refusalsIn fieldsOf fieldsAfter fieldsCall fieldsInto fieldsNumbers
+unfolding scripts prefix ascii insideAny table37 following follow width decoded code next char formedFrom wellFormed utf8 whiteSpace before same more countFrom counted octalDigit octalFrom hexDigit scalar hexFrom lookup named unicodeName escapeCase escape encode meant withEscape stringCase stringMove stringN textCase textMove filled withEquals withBang withColon withClose fresh add documented spaced formatted outside fieldCase caseOf conversionMove openMove closeMove quoteMove fieldMove direct conversionOf fieldPieces selfDocumenting finished specified plainRun textN alone readBody touching covers item itemOf glue merge bothItems merged texts recordAt laid cover answerOf opening placeOf body refusal moved notEmpty notMany firstBad bad allGood total notLong formed illFormed allUtf8 anyOf firstStart notMixed firstOf entry openedAt refusalIn readLiteral andThen readFrom sortOf uMark lastEnd allChars answered read reason rowNumbers signAt signsAt fieldRows piecesOf literalRows oneLetter twoLetters opens quotesOf tripled quotesAt apart bodyCase closingN closing closedAt literalAt begins cutCase firstCut cutN cutFrom cut cutPart wordStart keywords isOneOf endsInKeyword known mayStand tenOf tens readRows unknownRow ownRows allRead brokenRow cutRows sourceEnd reached firstIn quotedInside firstOdd moreAfter specBackslash otherwise otherwiseRow sourceRows below levelsN rowsOf refusalsIn fieldsOf fieldsAfter fieldsCall fieldsInto fieldsNumbers
 scripts-listed look = refl

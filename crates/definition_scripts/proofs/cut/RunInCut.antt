@@ -33,12 +33,17 @@ quotes-last s quote flag j e =
     (λ f. rw f (let k : j + 3 - 1 ≡ j + 2 = omega arith in rw k (eqb-true (byte s (j + 2)) quote (and-both (eqb (byte s (j + 1)) quote) (eqb (byte s (j + 2)) quote) (rw f at (b .1)) .1))))
     (λ f. rw f (let k : j + 1 - 1 ≡ j = omega arith in rw k (eqb-true (byte s j) quote (b .0))))
 
+pub last-quote : (s : List ℕ) (l : Literal) → IsLiteral s l → byte s (l .end - 1) ≤ 39
+last-quote s l p =
+    let q = quote-within (quoteOf s (l .start)) (quote-of s (l .start) (rw (p .opened) (p .known))) in
+    let e : byte s (l .end - 1) ≡ quoteOf s (l .start) = rw (p .last) (quotes-last s (quoteOf s (l .start)) (l .triple) (bodyEnd l) (p .ended)) in
+    omega arith
+
 after-apart : (s : List ℕ) (l : Literal) → IsLiteral s l → apart s (l .end) ≡ true
 unfolding apart
 after-apart s l p =
     let w = literal-lies s l p .ahead in
-    let q = quote-within (quoteOf s (l .start)) (quote-of s (l .start) (rw (p .opened) (p .known))) in
-    let e : byte s (l .end - 1) ≡ quoteOf s (l .start) = rw (p .last) (quotes-last s (quoteOf s (l .start)) (l .triple) (bodyEnd l) (p .ended)) in
+    let q = last-quote s l p in
     cases (isWord (byte s (l .end - 1)))
     (λ t. let h = word-within (byte s (l .end - 1)) t in absurd (omega arith))
     (λ t. rw (ne-eqb (l .end) 0 (λ z. omega arith), t))

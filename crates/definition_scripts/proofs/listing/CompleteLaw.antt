@@ -7,6 +7,7 @@ use native.Mathlib.Omega.{arith}
 use borrow.Author.Tests.{ltb-false}
 use lib.Dec.{ltb}
 use lib.ListN.{length, take, drop, length-append, length-drop, length-replicate}
+use Rattle.definition.specs.Numbers.{readOtherwise}
 use Rattle.definition.specs.Escapes.{Naming}
 use Rattle.definition.specs.Entry.{Literal}
 use Rattle.definition.specs.Reading.{inFront}
@@ -22,7 +23,7 @@ use Rattle.definition_scripts.proofs.cut.PartLaws.{part-cut-is, InPart,
 use Rattle.definition_scripts.proofs.listing.SourceLaws.{Sourced, AllFit}
 use Rattle.definition_scripts.proofs.listing.ListingLaws.{rows-again, rows-fit}
 use Rattle.definition_scripts.proofs.listing.OtherwiseLaws.{Lying, none-told}
-use Rattle.definition_scripts.proofs.listing.FieldsLaw.{refusals-append, refused-told, all-fielded, not-broken}
+use Rattle.definition_scripts.proofs.listing.FieldsLaw.{refusals-append, refused-told, not-told, all-stand, all-fielded, not-broken}
 
 -- no refusal in the whole of two parts, none in either
 none-in-both : (xs ys : List ListRow) → refusalsIn (xs ++ ys) ≡ 0 → (refusalsIn xs ≡ 0) × (refusalsIn ys ≡ 0)
@@ -52,15 +53,16 @@ module _ (look : Naming) (s : List ℕ) (w from end : ℕ) (a : from ≤ end) (h
   covered = record {
     literals = part .literals;
     isCut = subst (λ (e : Ending). IsCut (take end s) from (part .literals) e) part-ends (part-cut-is s from end a h);
+    standing = all-stand look s w (part .literals) (rw part-rows at n);
     fielded = rw part-rows (all-fielded look s w (part .literals) begun (rw part-rows at n));
   }
 
 -- NO 75 of a field is told
-not-told : (s : List ℕ) (i : ℕ) (r : Row) (c : Cut) → refusalsIn (otherwiseRow s i r c) ≡ 0 → (otherwiseRow s i r c ≡ []) × (length s ≤ otherwise s r c)
+no-row : (s : List ℕ) (i : ℕ) (r : Row) (c : Cut) → refusalsIn (otherwiseRow s i r c) ≡ 0 → (otherwiseRow s i r c ≡ []) × (length s ≤ otherwise s r c)
 unfolding otherwiseRow
-not-told s i r c n =
-    cases (ltb (otherwise s r c) (length s)) (λ t. absurd (refused-told i (r .start) (otherwise s r c) 75 0 0 0 [] (rw t at n)))
-    (λ t. rw t (refl, ltb-false (otherwise s r c) (length s) t))
+no-row s i r c n =
+    let t = not-told (ltb (otherwise s r c) (length s)) i (r .start) (otherwise s r c) readOtherwise n in
+    rw t (refl, ltb-false (otherwise s r c) (length s) t)
 
 lying : (s : List ℕ) (from end : ℕ) (ls : List Literal) → EachLiteral (InPart s from end) ls → EachLiteral (Lying s) ls
 lying s from end [] p = tt
@@ -91,7 +93,7 @@ all-sources look s n i (ofField w r ∷ rs) p z y =
     rest z = z
 
     own : refusalsIn (sourceRows look s (suc i) (ofField w r)) ≡ 0 → sourceRows look s (suc i) (ofField w r) ≡ cutRows look s (suc i) c
-    own m = ap (λ x. x ++ cutRows look s (suc i) c) (not-told s (suc i) r c (parts m .0) .0)
+    own m = ap (λ x. x ++ cutRows look s (suc i) c) (no-row s (suc i) r c (parts m .0) .0)
 
     whole : refusalsIn (sourceRows look s (suc i) (ofField w r)) ≡ 0 → Covered look s (suc i) (r .place) end (cutRows look s (suc i) c)
     whole m = covered look s (suc i) (r .place) end (f .ahead) (f .within) (parts m .1)
@@ -100,7 +102,7 @@ all-sources look s n i (ofField w r ∷ rs) p z y =
     alike m =
         none-told s r c (part-ends look s (suc i) (r .place) end (f .ahead) (f .within) (parts m .1)) (f .within) (f .equals-in)
         (lying s (r .place) end (c .literals) (in-part s (r .place) end (f .within) (r .place) (omega arith) (c .literals) (c .ending) (part-cut-is s (r .place) end (f .ahead) (f .within))))
-        (not-told s (suc i) r c (parts m .0) .1)
+        (no-row s (suc i) r c (parts m .0) .1)
 
 -- the script was cut to its end
 pub script-ends : (look : Naming) → (s : List ℕ) → refusalsIn (rowsOf look s) ≡ 0 → cut s .ending ≡ reachesEnd

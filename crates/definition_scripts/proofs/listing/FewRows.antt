@@ -2,12 +2,12 @@
 use mathlib.Core.Path.{_≡_, refl}
 use mathlib.Core.Bool.{Bool, true, false, not}
 use mathlib.Core.List.{List, [], _∷_, map}
-use Prim.Native.Nat.{ℕ, zero, suc, _+_, _-_, _≤_}
+use Prim.Native.Nat.{ℕ, zero, suc, _+_, _-_, _≤_, _<_}
 use native.Mathlib.Omega.{arith}
 use borrow.Author.Tests.{ne-eqb}
 use lib.Dec.{ltb, eqb}
 use lib.ListN.{length, take, length-take}
-use Rattle.definition.specs.Numbers.{isFString, readOtherwise}
+use Rattle.definition.specs.Numbers.{isFString, readOtherwise, unknownPrefix}
 use Rattle.definition.specs.Chars.{if_then_else_}
 use Rattle.definition.specs.Escapes.{Naming}
 use Rattle.definition.specs.Body.{Signs, Piece, literal, field, spec, readBody}
@@ -17,7 +17,8 @@ use Rattle.definition.specs.Reading.{Outcome, accepts, refuses, read}
 use Rattle.definition.specs.Rows.{Row, signAt, signsAt, fieldRows, piecesOf, literalRows}
 use Rattle.definition_scripts.specs.IsCut.{Ending, reachesEnd, breaksOff, IsCut, EachLiteral}
 use Rattle.definition_scripts.specs.Cut.{Cut, cutPart}
-use Rattle.definition_scripts.specs.Listing.{ofField, ofRefusal, readRows, allRead, brokenRow, cutRows, sourceEnd, otherwise, otherwiseRow, sourceRows, rowsOf}
+use Rattle.definition_scripts.specs.Keywords.{wordStart, mayStand}
+use Rattle.definition_scripts.specs.Listing.{ofField, ofRefusal, readRows, unknownRow, ownRows, allRead, brokenRow, cutRows, sourceEnd, otherwise, otherwiseRow, sourceRows, rowsOf}
 use Rattle.definition.proofs.moves.Moves.{part-short}
 use Rattle.definition_scripts.proofs.literals.OpeningLaws.{opens-in}
 use Rattle.definition_scripts.proofs.cut.PartLaws.{part-cut-is, InPart, in-part, cut-is-part}
@@ -44,13 +45,17 @@ one-row look s zero w start place number a b o = omega arith
 one-row look s (suc n) w start place number a b o = omega (arith, count-none look n s)
 
 module _ (look : Naming) (s : List ℕ) (n : ℕ) where
+  told-few : (t : Bool) (w start place number : ℕ) → countRows look n s (if t then ofRefusal w start place number 0 0 0 ∷ [] else []) ≤ 1
+  told-few true w start place number = one-row look s n w start place number 0 0 0
+  told-few false w start place number = omega (arith, count-none look n s)
+
   otherwise-few : (w : ℕ) (r : Row) (c : Cut) → countRows look n s (otherwiseRow s w r c) ≤ 1
   unfolding otherwiseRow
-  otherwise-few w r c = go (ltb (otherwise s r c) (length s))
-    where
-      go : (t : Bool) → countRows look n s (if t then ofRefusal w (r .start) (otherwise s r c) readOtherwise 0 0 0 ∷ [] else []) ≤ 1
-      go true = one-row look s n w (r .start) (otherwise s r c) readOtherwise 0 0 0
-      go false = omega (arith, count-none look n s)
+  otherwise-few w r c = told-few (ltb (otherwise s r c) (length s)) w (r .start) (otherwise s r c) readOtherwise
+
+  unknown-few : (w : ℕ) (l : Literal) → countRows look n s (unknownRow s w l) ≤ 1
+  unfolding unknownRow
+  unknown-few w l = told-few (not (mayStand s (l .start))) w (l .start) (wordStart s (l .start)) unknownPrefix
 
   -- n levels deep: the rows of a part, and those of the fields of a body
   abbrev PartsFew : Type 0
@@ -67,8 +72,8 @@ module _ (look : Naming) (s : List ℕ) (n : ℕ) where
       omega (arith, count-append look n s (otherwiseRow s i r c) (cutRows look s i c), otherwise-few i r c, few i (r .place) (sourceEnd (r .signs)) (p .ahead) (p .within))
 
   module _ (few : FieldsFew) (from end : ℕ) (h : end ≤ length s) (w : ℕ) where
-    -- A LITERAL'S
-    literal-by : (l : Literal) → InPart s from end l → countRows look n s (readRows look s w l) ≤ l .end - l .start
+    -- A LITERAL'S, fewer than it has bytes
+    literal-by : (l : Literal) → InPart s from end l → countRows look n s (readRows look s w l) < l .end - l .start
     unfolding readRows literalRows body
     literal-by l p = go (isFString (l .kind)) refl (read look s (l ∷ [])) refl
       where
@@ -81,10 +86,15 @@ module _ (look : Naming) (s : List ℕ) (n : ℕ) where
         fields : countRows look n s (map (ofField w) (fieldRows (l .start) (placeOf l 0) ps)) ≤ weight ps
         fields = few (suc (length s)) w (l .start) (placeOf l 0) ps (read-fit look s (suc (length s)) from end h (omega arith) w l p (readBody look (l .kind) (body s l)) refl)
 
-        go : (t : Bool) → isFString (l .kind) ≡ t → (o : Outcome Answer) → read look s (l ∷ []) ≡ o → countRows look n s (readRows look s w l) ≤ l .end - l .start
+        go : (t : Bool) → isFString (l .kind) ≡ t → (o : Outcome Answer) → read look s (l ∷ []) ≡ o → countRows look n s (readRows look s w l) < l .end - l .start
         go false t o e = rw (t, readRows) (omega (arith, count-none look n s))
         go true t (accepts x) e = rw (t, e, readRows) (omega (arith, fields, body-few look (l .kind) (body s l), part-short s (l .offset) (l .offset + l .size)))
         go true t (refuses r) e = rw (t, e, readRows) (omega (arith, one-row look s n w (l .start) (r .place) (r .number) (r .a) (r .b) (r .opened)))
+
+    -- with its 76
+    own-by : (l : Literal) → InPart s from end l → countRows look n s (ownRows look s w l) ≤ l .end - l .start
+    unfolding ownRows
+    own-by l p = omega (arith, count-append look n s (unknownRow s w l) (readRows look s w l), unknown-few w l, literal-by l p)
 
     -- those of literals and of what breaks off after them, from i on
     rest-by : (i : ℕ) → i ≤ end → (ls : List Literal) (e : Ending) → IsCut (take end s) i ls e → EachLiteral (InPart s from end) ls → countRows look n s (allRead look s w ls) + countRows look n s (brokenRow w e) ≤ end - i
@@ -98,7 +108,7 @@ module _ (look : Naming) (s : List ℕ) (n : ℕ) where
         let a = p .0 .after in
         let b = q .0 .ends in
         let c = q .0 .lies .ahead in
-        omega (arith, count-append look n s (readRows look s w l) (allRead look s w ls), literal-by l (q .0), rest-by (l .end) b ls e (p .2) (q .1))
+        omega (arith, count-append look n s (ownRows look s w l) (allRead look s w ls), own-by l (q .0), rest-by (l .end) b ls e (p .2) (q .1))
 
   parts-by : FieldsFew → PartsFew
   unfolding cutRows
@@ -128,7 +138,11 @@ part-few look n s = parts-by look s n (fields-few look s n)
 
 -- a literal of it
 pub literal-few : (look : Naming) → (n : ℕ) (s : List ℕ) (w from end : ℕ) → end ≤ length s → (l : Literal) → InPart s from end l → countRows look n s (readRows look s w l) ≤ l .end - l .start
-literal-few look n s w from end h = literal-by look s n (fields-few look s n) from end h w
+literal-few look n s w from end h l p = omega (arith, literal-by look s n (fields-few look s n) from end h w l p)
+
+-- with its 76
+pub own-few : (look : Naming) → (n : ℕ) (s : List ℕ) (w from end : ℕ) → end ≤ length s → (l : Literal) → InPart s from end l → countRows look n s (ownRows look s w l) ≤ l .end - l .start
+own-few look n s w from end h = own-by look s n (fields-few look s n) from end h w
 
 -- a field's source, with its 75
 pub source-few : (look : Naming) → (n : ℕ) (s : List ℕ) (m i w : ℕ) (r : Row) → Sourced s m r → countRows look n s (sourceRows look s i (ofField w r)) ≤ sourceEnd (r .signs) - r .place + 1

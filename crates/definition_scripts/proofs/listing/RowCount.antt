@@ -1,12 +1,12 @@
 -- HOW MANY ROWS A LIST HAS, counted depth first: each row, and the rows of its source. Assumes nothing.
 use mathlib.Core.Path.{_≡_, refl, sym, _∙_, ap, ap₂}
-use mathlib.Core.Bool.{Bool, true, false}
+use mathlib.Core.Bool.{Bool, true, false, not}
 use mathlib.Core.List.{List, [], _∷_, _++_, map, map-append}
 use Prim.Native.Nat.{ℕ, zero, suc, _+_}
 use native.Mathlib.Omega.{arith}
 use lib.Dec.{ltb}
 use lib.ListN.{length, length-append}
-use Rattle.definition.specs.Numbers.{isFString, readOtherwise}
+use Rattle.definition.specs.Numbers.{isFString, readOtherwise, unknownPrefix}
 use Rattle.definition.specs.Chars.{if_then_else_}
 use Rattle.definition.specs.Escapes.{Naming}
 use Rattle.definition.specs.Records.{Answer}
@@ -15,7 +15,8 @@ use Rattle.definition.specs.Reading.{Outcome, accepts, refuses, read}
 use Rattle.definition.specs.Rows.{Row, literalRows}
 use Rattle.definition_scripts.specs.IsCut.{Ending, reachesEnd, breaksOff}
 use Rattle.definition_scripts.specs.Cut.{Cut, cut, cutPart}
-use Rattle.definition_scripts.specs.Listing.{ListRow, ofField, ofRefusal, readRows, allRead, brokenRow, cutRows, sourceEnd, otherwise, otherwiseRow, sourceRows, below, levelsN, rowsOf}
+use Rattle.definition_scripts.specs.Keywords.{wordStart, mayStand}
+use Rattle.definition_scripts.specs.Listing.{ListRow, ofField, ofRefusal, readRows, unknownRow, ownRows, allRead, brokenRow, cutRows, sourceEnd, otherwise, otherwiseRow, sourceRows, below, levelsN, rowsOf}
 use Rattle.definition_scripts.proofs.listing.SourceLaws.{AllFit, fit-more, none-fits, source-fit}
 
 -- THE COUNT of rows and of all rows of their sources, n levels deep
@@ -61,10 +62,19 @@ module _ (look : Naming) (s : List ℕ) (w : ℕ) where
       go true t (accepts x) e = rw (t, e, readRows) (fields-within (literalRows look s l))
       go true t (refuses r) e = rw (t, e, readRows)
 
+  -- a refusal that is told or not
+  told-within : (t : Bool) (start place number : ℕ) → (if t then ofRefusal w start place number 0 0 0 ∷ [] else []) ≡ map (within w) (if t then ofRefusal 0 start place number 0 0 0 ∷ [] else [])
+  told-within true start place number = refl
+  told-within false start place number = refl
+
+  own-within : (l : Literal) → ownRows look s w l ≡ map (within w) (ownRows look s 0 l)
+  unfolding ownRows unknownRow
+  own-within l = ap₂ _++_ (told-within (not (mayStand s (l .start))) (l .start) (wordStart s (l .start)) unknownPrefix) (read-within l) ∙ sym (map-append (within w) (unknownRow s 0 l) (readRows look s 0 l))
+
   all-within : (ls : List Literal) → allRead look s w ls ≡ map (within w) (allRead look s 0 ls)
   unfolding allRead
   all-within [] = refl
-  all-within (l ∷ ls) = ap₂ _++_ (read-within l) (all-within ls) ∙ sym (map-append (within w) (readRows look s 0 l) (allRead look s 0 ls))
+  all-within (l ∷ ls) = ap₂ _++_ (own-within l) (all-within ls) ∙ sym (map-append (within w) (ownRows look s 0 l) (allRead look s 0 ls))
 
   broken-within : (e : Ending) → brokenRow w e ≡ map (within w) (brokenRow 0 e)
   unfolding brokenRow
@@ -77,14 +87,7 @@ module _ (look : Naming) (s : List ℕ) (w : ℕ) where
 
   otherwise-within : (r : Row) (c : Cut) → otherwiseRow s w r c ≡ map (within w) (otherwiseRow s 0 r c)
   unfolding otherwiseRow
-  otherwise-within r c = go (ltb (otherwise s r c) (length s))
-    where
-      row : ℕ → ListRow
-      row v = ofRefusal v (r .start) (otherwise s r c) readOtherwise 0 0 0
-
-      go : (t : Bool) → (if t then row w ∷ [] else []) ≡ map (within w) (if t then row 0 ∷ [] else [])
-      go true = refl
-      go false = refl
+  otherwise-within r c = told-within (ltb (otherwise s r c) (length s)) (r .start) (otherwise s r c) readOtherwise
 
   source-within : (r : ListRow) → sourceRows look s w r ≡ map (within w) (sourceRows look s 0 r)
   unfolding sourceRows

@@ -15,10 +15,12 @@ use Rattle.definition.specs.Join.{joinOutcomes, shifted}
 use Rattle.definition.specs.Rows.{Row, literalRows, allRows, rowField, recordFields}
 use Rattle.definition_scripts.specs.Literals.{Run, literalsFrom}
 use Rattle.definition_scripts.specs.Cut.{cut}
-use Rattle.definition_scripts.specs.Listing.{ListRow, ofField, readRows, allRead, brokenRow, cutRows, below, rowsOf}
+use Rattle.definition_scripts.specs.Listing.{ListRow, ofField, readRows, unknownRow, ownRows, allRead, brokenRow, cutRows, below, rowsOf}
 use Rattle.definition.proofs.join.JoinLaw.{read-join}
 use Rattle.definition.proofs.rows.FieldRows.{list-fields, others-none}
-use Rattle.definition_scripts.proofs.listing.FieldsLaw.{accepted-rows, other-rows}
+use Rattle.definition_scripts.proofs.listing.FieldsLaw.{accepted-rows, other-rows, known-rows}
+use Rattle.definition_scripts.proofs.listing.WordLaws.{LaterStand, adjacent-stand}
+use Rattle.definition_scripts.proofs.literals.ListLaw.{given}
 use Rattle.definition_scripts.proofs.listing.ListingLaws.{rows-again}
 use Rattle.definition_scripts.proofs.cut.RunInCut.{run-in-cut}
 
@@ -53,18 +55,29 @@ module _ (look : Naming) (s : List ℕ) (w : ℕ) where
       go true t = accepted-rows look s w l x t e
       go false t = other-rows look s w l t ∙ sym (ap (map (ofField w)) (others-none look s l t))
 
+  -- the 76 of a list's first literal
+  pub firstUnknown : List Literal → List ListRow
+  firstUnknown [] = []
+  firstUnknown (l ∷ ls) = unknownRow s w l
+
   -- THE ROWS OF AN ACCEPTED LIST, each literal read alone, are the list's
-  pub list-rows : (l : Literal) (ls : List Literal) (y : Answer) → read look s (l ∷ ls) ≡ accepts y → allRead look s w (l ∷ ls) ≡ map (ofField w) (allRows look s (l ∷ ls))
-  unfolding allRead allRows
-  list-rows l [] y e = ap (λ x. x ++ []) (one-rows l y e) ∙ sym (map-append w (literalRows look s l) [])
-  list-rows l (m ∷ ls) y e =
-      both-accepted 1 (read look s (l ∷ [])) (read look s (m ∷ ls)) y (sym (read-join look s l [] m ls (entered (l ∷ m ∷ ls) y e)) ∙ e)
-      (λ a b f g. ap₂ (λ x z. x ++ z) (one-rows l a f) (list-rows m ls b g) ∙ sym (map-append w (literalRows look s l) (allRows look s (m ∷ ls))))
+  pub list-rows : (ls : List Literal) (y : Answer) → LaterStand s ls → read look s ls ≡ accepts y → allRead look s w ls ≡ firstUnknown ls ++ map (ofField w) (allRows look s ls)
+  unfolding allRead ownRows allRows firstUnknown
+  list-rows [] y p e = refl
+  list-rows (l ∷ []) y p e =
+      append-assoc (unknownRow s w l) (readRows look s w l) [] ∙ ap (λ x. unknownRow s w l ++ x) (ap (λ x. x ++ []) (one-rows l y e) ∙ sym (map-append w (literalRows look s l) []))
+  list-rows (l ∷ m ∷ ls) y p e =
+      append-assoc (unknownRow s w l) (readRows look s w l) (allRead look s w (m ∷ ls))
+      ∙ ap (λ x. unknownRow s w l ++ x)
+      (both-accepted 1 (read look s (l ∷ [])) (read look s (m ∷ ls)) y (sym (read-join look s l [] m ls (entered (l ∷ m ∷ ls) y e)) ∙ e)
+      (λ a b f g.
+      let h : allRead look s w (m ∷ ls) ≡ map (ofField w) (allRows look s (m ∷ ls)) = list-rows (m ∷ ls) b (p .1) g ∙ ap (λ x. x ++ map (ofField w) (allRows look s (m ∷ ls))) (known-rows s w m (p .0)) in
+      ap₂ (λ x z. x ++ z) (one-rows l a f) h ∙ sym (map-append w (literalRows look s l) (allRows look s (m ∷ ls)))))
 
   read-append : (ks ls : List Literal) → allRead look s w (ks ++ ls) ≡ allRead look s w ks ++ allRead look s w ls
   unfolding allRead
   read-append [] ls = refl
-  read-append (k ∷ ks) ls = ap (λ r. readRows look s w k ++ r) (read-append ks ls) ∙ sym (append-assoc (readRows look s w k) (allRead look s w ks) (allRead look s w ls))
+  read-append (k ∷ ks) ls = ap (λ r. ownRows look s w k ++ r) (read-append ks ls) ∙ sym (append-assoc (ownRows look s w k) (allRead look s w ks) (allRead look s w ls))
 
 -- the rows stand together in the list, and their fields are the answer's
 pub record RunListed (look : Naming) (s : List ℕ) (ls : List Literal) (y : Answer) : Type 0 where
@@ -76,21 +89,25 @@ pub record RunListed (look : Naming) (s : List ℕ) (ls : List Literal) (y : Ans
 -- A RUN from a literal of the script on, where no byte is 13
 pub run-listed : (look : Naming) → (s : List ℕ) → ((m : ℕ) → byte s m ≡ 13 → ⊥) → (ks : List Literal) (m : Literal) (ms : List Literal) → cut s .literals ≡ ks ++ (m ∷ ms)
     → (x : Run) → literalsFrom s (m .start) ≡ accepts x → (y : Answer) → read look s (x .literals) ≡ accepts y → RunListed look s (x .literals) y
-unfolding cutRows allRead allRows
+unfolding cutRows
 run-listed look s no-return ks m ms e x f y g =
     run-in-cut s no-return ks m ms e x f (λ later h. record {
-      front = allRead look s 0 ks;
+      front = allRead look s 0 ks ++ firstUnknown look s 0 (x .literals);
       back = allRead look s 0 later ++ (brokenRow 0 (cut s .ending) ++ below look s 0 (rowsOf look s));
-      whole = rows-again look s ∙ laid (x .literals) later (brokenRow 0 (cut s .ending)) (below look s 0 (rowsOf look s)) (e ∙ ap (λ z. ks ++ z) h) (rows (x .literals) g);
+      whole = rows-again look s ∙ laid (x .literals) later (brokenRow 0 (cut s .ending)) (below look s 0 (rowsOf look s)) (e ∙ ap (λ z. ks ++ z) h) (list-rows look s 0 (x .literals) y (adjacent-stand s (x .literals) (x .stop) (given s (m .start) x f .is-run .adjacent)) g);
       same = sym (list-fields look s (x .literals) y g);
     })
   where
-    rows : (ls : List Literal) → read look s ls ≡ accepts y → allRead look s 0 ls ≡ map (ofField 0) (allRows look s ls)
-    rows [] g = refl
-    rows (l ∷ ls) g = list-rows look s 0 l ls y g
-
-    laid : (ls later : List Literal) (b z : List ListRow) → cut s .literals ≡ ks ++ (ls ++ later) → allRead look s 0 ls ≡ map (ofField 0) (allRows look s ls)
-        → (allRead look s 0 (cut s .literals) ++ b) ++ z ≡ allRead look s 0 ks ++ (map (ofField 0) (allRows look s ls) ++ (allRead look s 0 later ++ (b ++ z)))
+    laid : (ls later : List Literal) (b z : List ListRow) → cut s .literals ≡ ks ++ (ls ++ later) → allRead look s 0 ls ≡ firstUnknown look s 0 ls ++ map (ofField 0) (allRows look s ls)
+        → (allRead look s 0 (cut s .literals) ++ b) ++ z ≡ (allRead look s 0 ks ++ firstUnknown look s 0 ls) ++ (map (ofField 0) (allRows look s ls) ++ (allRead look s 0 later ++ (b ++ z)))
     laid ls later b z c r =
-        let p : allRead look s 0 (cut s .literals) ≡ allRead look s 0 ks ++ (map (ofField 0) (allRows look s ls) ++ allRead look s 0 later) = ap (allRead look s 0) c ∙ read-append look s 0 ks (ls ++ later) ∙ ap (λ q. allRead look s 0 ks ++ q) (read-append look s 0 ls later ∙ ap (λ q. q ++ allRead look s 0 later) r) in
-        append-assoc (allRead look s 0 (cut s .literals)) b z ∙ ap (λ q. q ++ (b ++ z)) p ∙ append-assoc (allRead look s 0 ks) (map (ofField 0) (allRows look s ls) ++ allRead look s 0 later) (b ++ z) ∙ ap (λ q. allRead look s 0 ks ++ q) (append-assoc (map (ofField 0) (allRows look s ls)) (allRead look s 0 later) (b ++ z))
+        let A = allRead look s 0 ks in
+        let U = firstUnknown look s 0 ls in
+        let R = map (ofField 0) (allRows look s ls) in
+        let L = allRead look s 0 later in
+        let p : allRead look s 0 (cut s .literals) ≡ A ++ ((U ++ R) ++ L) = ap (allRead look s 0) c ∙ read-append look s 0 ks (ls ++ later) ∙ ap (λ q. A ++ q) (read-append look s 0 ls later ∙ ap (λ q. q ++ L) r) in
+        append-assoc (allRead look s 0 (cut s .literals)) b z
+        ∙ ap (λ q. q ++ (b ++ z)) p
+        ∙ append-assoc A ((U ++ R) ++ L) (b ++ z)
+        ∙ ap (λ q. A ++ q) (append-assoc (U ++ R) L (b ++ z) ∙ append-assoc U R (L ++ (b ++ z)))
+        ∙ sym (append-assoc A U (R ++ (L ++ (b ++ z))))

@@ -1,12 +1,12 @@
 -- THE SOURCE OF EVERY ROW lies in the script, and those of its own rows are shorter. Assumes nothing.
 use mathlib.Core.Path.{_≡_, refl}
-use mathlib.Core.Bool.{Bool, true, false}
+use mathlib.Core.Bool.{Bool, true, false, not}
 use mathlib.Core.List.{List, [], _∷_, _++_, map}
 use Prim.Native.Nat.{ℕ, zero, suc, _+_, _-_, _≤_, _<_}
 use native.Mathlib.Omega.{arith}
 use lib.Dec.{ltb}
 use lib.ListN.{length, length-take}
-use Rattle.definition.specs.Numbers.{isFString, readOtherwise}
+use Rattle.definition.specs.Numbers.{isFString, readOtherwise, unknownPrefix}
 use Rattle.definition.specs.Chars.{if_then_else_}
 use Rattle.definition.specs.Escapes.{Naming, Read, got, refused}
 use Rattle.definition.specs.Body.{Piece, literal, field, spec, readBody}
@@ -16,7 +16,8 @@ use Rattle.definition.specs.Reading.{Outcome, accepts, refuses, read}
 use Rattle.definition.specs.Rows.{Row, signAt, signsAt, fieldRows, piecesOf, literalRows}
 use Rattle.definition_scripts.specs.IsCut.{Ending, reachesEnd, breaksOff, EachLiteral}
 use Rattle.definition_scripts.specs.Cut.{Cut, cut, cutPart}
-use Rattle.definition_scripts.specs.Listing.{ListRow, ofField, ofRefusal, readRows, allRead, brokenRow, cutRows, sourceEnd, otherwise, otherwiseRow, sourceRows, below}
+use Rattle.definition_scripts.specs.Keywords.{wordStart, mayStand}
+use Rattle.definition_scripts.specs.Listing.{ListRow, ofField, ofRefusal, readRows, unknownRow, ownRows, allRead, brokenRow, cutRows, sourceEnd, otherwise, otherwiseRow, sourceRows, below}
 use Rattle.definition_scripts.specs.Complete.{Placed}
 use Rattle.definition.proofs.moves.Moves.{part-short}
 use Rattle.definition.proofs.rows.SignLaws.{After, Signed, body-signed}
@@ -55,6 +56,11 @@ pub none-fits : (s : List ℕ) (rs : List ListRow) → AllFit s 0 rs → rs ≡ 
 none-fits s [] p = refl
 none-fits s (ofField w r ∷ rs) p = let h = p .0 .levels in absurd (omega arith)
 none-fits s (ofRefusal w start place number a b o ∷ rs) p = let h = p .0 in absurd (omega arith)
+
+-- a refusal that is told or not
+told-fit : (s : List ℕ) (n : ℕ) (t : Bool) (w start place number : ℕ) → 1 ≤ n → AllFit s n (if t then ofRefusal w start place number 0 0 0 ∷ [] else [])
+told-fit s n true w start place number h = (h, tt)
+told-fit s n false w start place number h = tt
 
 -- THE ROWS OF A CUT of the part from `from` up to `end`
 module _ (look : Naming) (s : List ℕ) (n from end : ℕ) (h : end ≤ length s) (k : end - from < n) (w : ℕ) where
@@ -110,10 +116,14 @@ module _ (look : Naming) (s : List ℕ) (n from end : ℕ) (h : end ≤ length s
       go true t (accepts x) e = rw (t, e, readRows) (read-fit l p (readBody look (l .kind) (body s l)) refl)
       go true t (refuses r) e = rw (t, e, readRows) (omega arith, tt)
 
+  own-fit : (l : Literal) → InPart s from end l → AllFit s n (ownRows look s w l)
+  unfolding ownRows unknownRow
+  own-fit l p = fit-append s n (unknownRow s w l) (readRows look s w l) (told-fit s n (not (mayStand s (l .start))) w (l .start) (wordStart s (l .start)) unknownPrefix (omega arith)) (literal-fit l p)
+
   all-fit : (ls : List Literal) → EachLiteral (InPart s from end) ls → AllFit s n (allRead look s w ls)
   unfolding allRead
   all-fit [] p = tt
-  all-fit (l ∷ ls) p = fit-append s n (readRows look s w l) (allRead look s w ls) (literal-fit l (p .0)) (all-fit ls (p .1))
+  all-fit (l ∷ ls) p = fit-append s n (ownRows look s w l) (allRead look s w ls) (own-fit l (p .0)) (all-fit ls (p .1))
 
   broken-fit : (e : Ending) → AllFit s n (brokenRow w e)
   unfolding brokenRow
@@ -133,11 +143,7 @@ first-fit look s = rw (cut-is-part s) (cut-fit look s (suc (length s)) 0 (length
 -- THE ROWS OF SOURCES need a level less
 otherwise-fit : (s : List ℕ) (n w : ℕ) (r : Row) (c : Cut) → 1 ≤ n → AllFit s n (otherwiseRow s w r c)
 unfolding otherwiseRow
-otherwise-fit s n w r c h = go (ltb (otherwise s r c) (length s))
-  where
-    go : (t : Bool) → AllFit s n (if t then ofRefusal w (r .start) (otherwise s r c) readOtherwise 0 0 0 ∷ [] else [])
-    go true = (h, tt)
-    go false = tt
+otherwise-fit s n w r c h = told-fit s n (ltb (otherwise s r c) (length s)) w (r .start) (otherwise s r c) readOtherwise h
 
 pub source-fit : (look : Naming) → (s : List ℕ) (n i : ℕ) (r : ListRow) → Fits s (suc n) r → AllFit s n (sourceRows look s i r)
 unfolding sourceRows

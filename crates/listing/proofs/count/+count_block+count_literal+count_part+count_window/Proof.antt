@@ -28,6 +28,7 @@ use Rattle.listing.proofs.count.count_window.Reads as count-window
 use Rattle.listing.proofs.count.count_window.Kinds as count-window-kinds
 use Rattle.listing.proofs.count.+count_block+count_literal+count_part+count_window.Lts-count_window as count-window-lts
 use Rattle.listing.proofs.count.own_rows.Reads as own-rows-reads
+use Rattle.listing.proofs.count.unknown_rows.Reads as unknown-rows-reads
 use Rattle.sources.proofs.lesser.Reads as lesser-reads
 use Rattle.sources.proofs.source_end.Reads as source-end-reads
 use Rattle.listing.proofs.rows.field_at.Reads as field-at-reads
@@ -112,7 +113,7 @@ abbrev count-literal-μ-loop : count-literal-lts.MeasureT-loop
 count-literal-μ-loop s l file index rows₀ seen₀ rows seen = length (readRows (namesBy file index) s 0 (literalOf l)) - seen
 
 abbrev count-part-calls : ℕ → count-part-lts.Claims
-count-part-calls t = (next-literal-reads.Asked, next-literal-reads.Learnt, count-literal-below t, count-literal.Post)
+count-part-calls t = (next-literal-reads.Asked, next-literal-reads.Learnt, unknown-rows-reads.Asked, unknown-rows-reads.Learnt, count-literal-below t, count-literal.Post)
 
 abbrev count-part-Inv-loop : count-part-lts.InvT-loop
 count-part-Inv-loop s from end file index at₀ rows₀ at rows = Counting (namesBy file index) s from end at rows
@@ -167,11 +168,13 @@ pub +count-block+count-literal+count-part+count-window-spec : {M : Type 1} → s
     (λ c. let m = counting-most _ _ _ _ ((c .before .before .before .before .before .before .before .before .pre .1)) _ _ (c .before .before .before .before .loop .inv) in omega (arith, m))  -- add-result
     (λ c. let n = rw (c .enum-told3 .given .1) at (c .before .before .next-literal .ensures) in counting-breaks _ _ _ _ ((c .before .before .before .before .before .before .before .before .pre .1)) _ _ (c .before .before .before .before .loop .inv) _ _ (n .1))  -- returns-3
     (λ c. search needs)  -- enum-known-l
-    (λ c κs. let n = rw (c .before .l .given .1) at (c .before .before .before .next-literal .ensures) in (omega (arith, (c .before .before .before .before .before .before .before .before .before .pre .0), counting-less _ _ _ _ ((c .before .before .before .before .before .before .before .before .before .pre .1)) _ _ (c .before .before .before .before .before .loop .inv) _ (n .1) .1), counting-found _ _ _ _ ((c .before .before .before .before .before .before .before .before .before .pre .1)) _ _ (c .before .before .before .before .before .loop .inv) _ (n .1)))  -- count-literal-requires
-    (λ c. let n = rw (c .before .before .l .given .1) at (c .before .before .before .before .next-literal .ensures) in let m = counting-most _ _ _ _ ((c .before .before .before .before .before .before .before .before .before .before .pre .1)) _ _ (counting-next _ _ _ _ ((c .before .before .before .before .before .before .before .before .before .before .pre .1)) _ _ (c .before .before .before .before .before .before .loop .inv) _ (n .1) _ (c .count-literal .ensures)) in omega (arith, m))  -- add-rows
+    (λ c κs. search needs)  -- unknown-rows-requires
+    (λ c κs. let n = rw (c .before .before .l .given .1) at (c .before .before .before .before .next-literal .ensures) in (omega (arith, (c .before .before .before .before .before .before .before .before .before .before .pre .0), counting-less _ _ _ _ ((c .before .before .before .before .before .before .before .before .before .before .pre .1)) _ _ (c .before .before .before .before .before .before .loop .inv) _ (n .1) .1), counting-found _ _ _ _ ((c .before .before .before .before .before .before .before .before .before .before .pre .1)) _ _ (c .before .before .before .before .before .before .loop .inv) _ (n .1)))  -- count-literal-requires
+    (λ c. let n = rw (c .before .before .before .l .given .1) at (c .before .before .before .before .before .next-literal .ensures) in let m = counting-most _ _ _ _ ((c .before .before .before .before .before .before .before .before .before .before .before .pre .1)) _ _ (counting-next _ _ _ _ ((c .before .before .before .before .before .before .before .before .before .before .before .pre .1)) _ _ (c .before .before .before .before .before .before .before .loop .inv) _ (n .1) _ _ (c .before .unknown-rows .ensures) (c .count-literal .ensures)) in omega (arith, m))  -- add-rows
+    (λ c. let n = rw (c .before .before .before .l .given .1) at (c .before .before .before .before .before .next-literal .ensures) in let m = counting-most _ _ _ _ ((c .before .before .before .before .before .before .before .before .before .before .before .pre .1)) _ _ (counting-next _ _ _ _ ((c .before .before .before .before .before .before .before .before .before .before .before .pre .1)) _ _ (c .before .before .before .before .before .before .before .loop .inv) _ (n .1) _ _ (c .before .unknown-rows .ensures) (c .count-literal .ensures)) in omega (arith, m))  -- add-rows-2
     (λ c. search needs)  -- cast-at
-    (λ c. let n = rw (c .before .before .before .l .given .1) at (c .before .before .before .before .before .next-literal .ensures) in counting-less _ _ _ _ ((c .before .before .before .before .before .before .before .before .before .before .before .pre .1)) _ _ (c .before .before .before .before .before .before .before .loop .inv) _ (n .1) .0)  -- loop-less
-    (λ c. let n = rw (c .before .before .before .l .given .1) at (c .before .before .before .before .before .next-literal .ensures) in counting-next _ _ _ _ ((c .before .before .before .before .before .before .before .before .before .before .before .pre .1)) _ _ (c .before .before .before .before .before .before .before .loop .inv) _ (n .1) _ (c .before .count-literal .ensures)))  -- loop-again
+    (λ c. let n = rw (c .before .before .before .before .l .given .1) at (c .before .before .before .before .before .before .next-literal .ensures) in counting-less _ _ _ _ ((c .before .before .before .before .before .before .before .before .before .before .before .before .pre .1)) _ _ (c .before .before .before .before .before .before .before .before .loop .inv) _ (n .1) .0)  -- loop-less
+    (λ c. let n = rw (c .before .before .before .before .l .given .1) at (c .before .before .before .before .before .before .next-literal .ensures) in counting-next _ _ _ _ ((c .before .before .before .before .before .before .before .before .before .before .before .before .pre .1)) _ _ (c .before .before .before .before .before .before .before .before .loop .inv) _ (n .1) _ _ (c .before .before .unknown-rows .ensures) (c .before .count-literal .ensures)))  -- loop-again
     (λ t. count-window-lts.spec (count-window-calls t) (count-window-at t) count-window.Post
     (λ c. let p = (c .before .before .before .pre .1 .2) in search needs)  -- cast-read-alone
     (λ c. search needs)  -- slice-aggregate-read-alone

@@ -1,7 +1,8 @@
 -- `listing::rows::literal_rows` meets its contract. Assumes nothing.
 use borrow.Author.Needs.{needs}
+use native.Mathlib.Omega.{arith}
 use mathlib.Core.Path.{sym, _∙_}
-use Rattle.listing.proofs.Written.{puts-none, not-read}
+use Rattle.listing.proofs.Written.{puts-none, not-read, unknown-most, puts-own}
 use Rattle.listing.proofs.rows.literal_rows.Statement.{statement}
 use Rattle.listing.proofs.rows.literal_rows.Tie as tie
 
@@ -9,8 +10,10 @@ pub literal-rows-spec : {M : Type 1} → statement M
 literal-rows-spec =
     tie.close
     (tie.spec
+    (λ c κs. omega (arith, c .before .before .before .before .before .pre))  -- unknown-row-requires
     (λ c κs. search needs)  -- is-fstring-requires
-    (λ c κs. (sym (c .before .before .is-fstring .ensures) ∙ (c .before .if1 .taken), (c .before .before .before .before .before .before .before .pre)))  -- fstring-rows-requires
+    (λ c κs. (sym (c .before .before .is-fstring .ensures) ∙ (c .before .if1 .taken), omega (arith, c .before .before .before .before .before .before .before .before .before .before .before .pre, unknown-most _ _ _ _ _ _ _ (c .before .before .before .before .before .unknown-row .ensures))))  -- fstring-rows-requires
     (λ c. search needs)  -- same-length
-    (λ c. (c .before .before .fstring-rows .ensures))  -- returns
-    (λ c. rw (not-read _ _ _ _ (sym (c .before .is-fstring .ensures) ∙ (c .if1 .left))) (puts-none _ _)))  -- returns-2
+    (λ c. puts-own _ _ _ _ _ _ _ (c .before .before .before .before .before .before .before .before .unknown-row .ensures) _ _ _ (c .before .before .fstring-rows .ensures))  -- returns
+    (λ c. search needs)  -- same-length-2
+    (λ c. puts-own _ _ _ _ _ _ _ (c .before .before .before .before .unknown-row .ensures) _ _ _ (rw (not-read _ _ _ _ (sym (c .before .is-fstring .ensures) ∙ (c .if1 .left))) (puts-none _ _))))  -- returns-2
