@@ -1,10 +1,14 @@
 # For the scripts that build and run programs over the library, which is for x86-64. Sets `cc`, a C compiler for
-# x86-64, and `runner`, the emulator to put in front of a program, empty on an x86-64 machine.
+# x86-64, `runner`, the emulator to put in front of a program, empty on an x86-64 machine, and `called`, the name of what the
+# Python module calls. STUMPGARRET_MACHINE is for tests: what machine this is taken for.
+machine=${STUMPGARRET_MACHINE:-$(uname -m)}
 cc=gcc
 runner=
-if [ "$(uname -m)" != x86_64 ]; then
+called=libstumpgarret.so
+if [ "$machine" != x86_64 ]; then
     cc=x86_64-linux-gnu-gcc
     runner=qemu-x86_64
+    called=stumpgarret-pipe
 fi
 
 # need COMMAND DEBIAN_PACKAGE..: ends the script if the command is missing.

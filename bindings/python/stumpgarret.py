@@ -27,7 +27,8 @@ At a shell: `python3 stumpgarret.py --help`, and `--help` behind the words repla
 what the exit status means. Any Python from 3.7 on will do.
 
 The shared library is the one that the variable STUMPGARRET_LIBRARY names, else libstumpgarret.so beside this file,
-else the one under target/python of the clone, where `bindings/python/build` puts it.
+else the one under target/python of the clone, where `bindings/python/build` puts it. On a machine that is not x86-64 the
+program stumpgarret-pipe stands there in its place, which STUMPGARRET_PROGRAM may name, and an emulator runs it.
 """
 
 from __future__ import annotations
@@ -43,7 +44,6 @@ import importlib
 import itertools
 import operator
 import os
-import platform
 import re
 import signal
 import sys
@@ -479,13 +479,11 @@ def _meaning(number: int, details: tuple[int, int], told: int = 0, **known: str)
 
 
 class Unavailable(Exception):
-    """The shared library is not there, or cannot be used."""
+    """The library is not there, or cannot be used, or gave no answer."""
 
 
 # The calls
 
-SHARED_LIBRARY = "libstumpgarret.so"
-ELF_MACHINES = {62: "x86_64", 183: "aarch64"}
 WORDS_OF_A_RECORD = 8
 NUMBERS_OF_A_ROW = 10
 REFUSAL_ROW = 5
@@ -1040,68 +1038,12 @@ def _record(
     return Field(own_text.decode(), _conversion(mark), spec, start, end, place, reason, own_signs)
 
 
-TEXT, NUMBERS, LENGTH = ctypes.c_char_p, ctypes.POINTER(ctypes.c_uint32), ctypes.c_size_t
-# The types of each C call's arguments, in order.
-CALLS = {
-    "read": [TEXT, LENGTH, NUMBERS, LENGTH, NUMBERS, LENGTH, TEXT, LENGTH, NUMBERS],
-    "signs": [TEXT, LENGTH, NUMBERS, LENGTH, NUMBERS, LENGTH, NUMBERS],
-    "literals": [TEXT, LENGTH, ctypes.c_uint32, NUMBERS, LENGTH, NUMBERS],
-    **dict.fromkeys(["cut", "fields"], [TEXT, LENGTH, NUMBERS, LENGTH, NUMBERS]),
-    "names_build": [TEXT, LENGTH, NUMBERS, LENGTH, NUMBERS],
-    "names_check": [TEXT, LENGTH, NUMBERS, LENGTH, NUMBERS],
-    **dict.fromkeys(
-        ["read_named", "read_searched"],
-        [TEXT, LENGTH, NUMBERS, LENGTH, TEXT, LENGTH, NUMBERS, LENGTH, NUMBERS, LENGTH, TEXT, LENGTH, NUMBERS],
-    ),
-    "fields_named": [TEXT, LENGTH, TEXT, LENGTH, NUMBERS, LENGTH, NUMBERS, LENGTH, NUMBERS],
-    "spec": [TEXT, LENGTH, NUMBERS],
-    **dict.fromkeys(["cuts_check", "cuts_plan"], [TEXT, LENGTH, ctypes.c_uint32, NUMBERS, LENGTH, NUMBERS]),
-    "compare": [NUMBERS, LENGTH, TEXT, LENGTH, NUMBERS] * 2 + [NUMBERS, LENGTH, NUMBERS],
-    "replay": [TEXT, LENGTH, NUMBERS, LENGTH, TEXT, LENGTH, NUMBERS, LENGTH, TEXT, LENGTH, TEXT, LENGTH, NUMBERS],
-    "write": [NUMBERS, LENGTH, TEXT, LENGTH, NUMBERS, TEXT, LENGTH, NUMBERS],
-}
-
-
 @functools.lru_cache(maxsize=None)
 def _function(name: str) -> Callable[..., None]:
     """A function of the library, by its name without `stumpgarret_`."""
-    path = _library_path()
-    machine = _machine_of(path)
-    if machine != platform.machine():
-        raise Unavailable(f"{path} is for {machine}, and this Python runs on {platform.machine()}")
-    try:
-        function = getattr(ctypes.CDLL(path), "stumpgarret_" + name)
-    except (OSError, AttributeError) as error:
-        raise Unavailable(f"{path} cannot be used: {error}") from error
-    function.argtypes = CALLS[name]
-    function.restype = None
-    return function
+    import stumpgarret_calls
 
-
-def _library_path() -> str:
-    named = os.environ.get("STUMPGARRET_LIBRARY")
-    here = os.path.dirname(os.path.abspath(__file__))
-    built = os.path.normpath(os.path.join(here, "..", "..", "target", "python"))
-    places = [named] if named else [os.path.join(place, SHARED_LIBRARY) for place in (here, built)]
-    for path in places:
-        if os.path.isfile(path):
-            return os.path.abspath(path)
-    raise Unavailable(
-        f"the shared library is missing: there is no {' and no '.join(places)}. "
-        "bindings/python/build makes it from the static library; STUMPGARRET_LIBRARY may name it."
-    )
-
-
-def _machine_of(path: str) -> str:
-    try:
-        with open(path, "rb") as file:
-            head = file.read(20)
-    except OSError as error:
-        raise Unavailable(f"{path} cannot be read: {error.strerror}") from error
-    if len(head) < 20 or not head.startswith(b"\x7fELF"):
-        raise Unavailable(f"{path} is no shared library")
-    number = int.from_bytes(head[18:20], "little")
-    return ELF_MACHINES.get(number, f"ELF machine {number}")
+    return stumpgarret_calls.function(name)
 
 
 # Scripts

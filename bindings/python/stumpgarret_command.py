@@ -9,7 +9,6 @@ from __future__ import annotations
 
 import argparse
 import functools
-import hashlib
 import io
 import json
 import os
@@ -21,6 +20,7 @@ import unicodedata
 from dataclasses import dataclass
 
 import stumpgarret
+import stumpgarret_calls
 import stumpgarret_files
 import stumpgarret_formatters
 import stumpgarret_notebook
@@ -199,10 +199,10 @@ def _listed(parser: argparse.ArgumentParser, path: str) -> list[str]:
 
 
 def _version_lines() -> list[str]:
-    commit, library = _commit(), _library_hash()
+    commit = _commit()
     return [
         f"stumpgarret {stumpgarret.__version__}" + (f", commit {commit}" if commit else ""),
-        f"library: {f'SHA-256 {library}' if library else 'missing'}",
+        stumpgarret_calls.told(),
     ]
 
 
@@ -227,15 +227,6 @@ def _commit() -> str:
         with open(os.path.join(git, "packed-refs"), encoding="utf-8") as file:
             return next((line.split()[0] for line in file if line.rstrip().endswith(head[4:])), "")
     except (OSError, ValueError):
-        return ""
-
-
-def _library_hash() -> str:
-    """The SHA-256 of the shared library; nothing if it is missing."""
-    try:
-        with open(stumpgarret._library_path(), "rb") as file:
-            return hashlib.sha256(file.read()).hexdigest()
-    except (OSError, stumpgarret.Unavailable):
         return ""
 
 

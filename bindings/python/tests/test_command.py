@@ -5,7 +5,6 @@ import contextlib
 import hashlib
 import io
 import json
-import os
 import pathlib
 import re
 import subprocess
@@ -14,7 +13,7 @@ import tempfile
 import unittest
 from unittest import mock
 
-from support import CLONE, HAS_STANDIN, stumpgarret
+from support import CALLED, CLONE, EMULATED, stumpgarret
 import stumpgarret_rules
 
 BENCH = 'print("VDD "\n      f"{mv / 12.5:.0f} {n!r}\\n")\n'
@@ -25,9 +24,11 @@ IS_3_11 = sys.version_info[:2] == (3, 11)
 
 
 COMMIT = subprocess.run(["git", "-C", CLONE, "rev-parse", "HEAD"], capture_output=True, text=True).stdout.strip()
-LIBRARY_HASH = hashlib.sha256(pathlib.Path(os.environ["STUMPGARRET_LIBRARY"]).read_bytes()).hexdigest()
+BY_LIBRARY = "STUMPGARRET_LIBRARY" in CALLED
+CALLED_HASH = hashlib.sha256(pathlib.Path(CALLED["STUMPGARRET_LIBRARY" if BY_LIBRARY else "STUMPGARRET_PROGRAM"]).read_bytes()).hexdigest()
+OVER_A_PIPE = f"program: SHA-256 {CALLED_HASH}, called over a pipe" + EMULATED * ", under qemu-x86_64"
 VERSION_LINES = [f"stumpgarret {stumpgarret.__version__}" + (f", commit {COMMIT}" if COMMIT else "")]
-VERSION_LINES += [f"library: SHA-256 {LIBRARY_HASH}"]
+VERSION_LINES += [f"library: SHA-256 {CALLED_HASH}" if BY_LIBRARY else OVER_A_PIPE]
 
 
 class Command(unittest.TestCase):
@@ -186,14 +187,12 @@ class Plain(Command):
         with mock.patch.object(stumpgarret, "_function", unavailable):
             self.assertEqual(self.run_on(a="''"), (2, "", "stumpgarret: it is missing\n"))
 
-    @unittest.skipIf(HAS_STANDIN, "a process of its own has no stand-in for the library")
     def test_process(self):
-        """The command as it is used; STUMPGARRET_PYTHON has the command of a Python that can load the library."""
-        python = os.environ.get("STUMPGARRET_PYTHON", sys.executable).split()
+        """The command as it is used."""
         pathlib.Path("bench.py").write_text(BENCH)
         for path, shown in (("bench.py", BENCH_FIELDS), ("-", BENCH_FIELDS.replace("bench.py", "<stdin>"))):
             with open("bench.py") as given:
-                command = [*python, stumpgarret.__file__, path]
+                command = [sys.executable, stumpgarret.__file__, path]
                 ran = subprocess.run(command, stdin=given, capture_output=True, text=True)
             self.assertEqual((ran.returncode, ran.stdout, ran.stderr), (0, shown, "2 fields in 1 script, complete\n"))
 

@@ -20,7 +20,7 @@ import tokenize
 import unittest
 from unittest import mock
 
-from support import CLONE, HAS_STANDIN, stumpgarret
+from support import CLONE, stumpgarret
 
 import by_python
 import compare_model
@@ -383,10 +383,9 @@ class Command(unittest.TestCase):
         with mock.patch.object(stumpgarret, "_function", side_effect=stumpgarret.Unavailable("none")):
             self.assertEqual(self.run_main("old.py", "new.py"), (2, "", "none\n"))
 
-    @unittest.skipIf(HAS_STANDIN, "this Python cannot load the library")
     def test_standard_output(self):
         """A full disk and a closed standard output are one line, and status 2."""
-        command = [*os.environ.get("STUMPGARRET_PYTHON", sys.executable).split(), "-B", stumpgarret.__file__, "compare"]
+        command = [sys.executable, "-B", stumpgarret.__file__, "compare"]
         for redirected, said in ((">/dev/full", "standard output: No space left on device\n"), (">&-", "standard output is closed\n")):
             arguments = ["sh", "-c", f'"$@" {redirected}', "sh", *command, "old.py", "new.py"]
             ended = subprocess.run(arguments, stderr=subprocess.PIPE)

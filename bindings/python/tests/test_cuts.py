@@ -16,7 +16,7 @@ import unittest
 import warnings
 from unittest import mock
 
-from support import HAS_STANDIN, TESTS
+from support import TESTS
 
 import stumpgarret
 import stumpgarret_wrap
@@ -264,7 +264,6 @@ class Command(unittest.TestCase):
         self.assertEqual(run(path + "x:1")[0], 2)
         self.assertEqual(run("--help")[0], 0)
 
-    @unittest.skipIf(HAS_STANDIN, "the library is in another process")
     def test_the_command_itself(self):
         path = self.script("print(f'rail {rail:<8} at {mv / 1000:.3f} V')\n")
         command = [sys.executable, str(TESTS.parent / "stumpgarret.py"), "wrap", "--limit", "27", path + ":1"]

@@ -1,14 +1,15 @@
 """./fields and ./install: built once, then run by any user, without the kit, from a clone that nobody may write to.
 
-STUMPGARRET_STATIC names the static library. Where the tests run as root the other user is nobody, else the same one.
+STUMPGARRET_STATIC names the static library. Where the tests run as root the other user is nobody, else the same one. With
+STUMPGARRET_MACHINE all is done as on such a machine, over the pipe and under an emulator.
 """
 
 import base64
 import contextlib
 import hashlib
+import importlib.util
 import os
 import pathlib
-import platform
 import re
 import shutil
 import stat
@@ -18,11 +19,11 @@ import tempfile
 import unittest
 import zipfile
 
-from support import CLONE, stumpgarret
+from support import CALLED, CLONE, EMULATED, stumpgarret
+import stumpgarret_calls
 import stumpgarret_rules
 
 CALLS_AT_ONCE = 24
-EMULATED = platform.machine() != "x86_64"
 EMULATOR = ["qemu-x86_64"] if EMULATED else []
 SYSTEM = "/usr/local/bin:/usr/bin:/bin"
 OTHER_USER = ["runuser", "-u", "nobody", "--"] if os.geteuid() == 0 else []
@@ -53,12 +54,16 @@ ONE_FIELD = "1 field in 1 script, complete\n"
 SYSTEM_NAMES = pathlib.Path(stumpgarret.SYSTEM_NAMES)
 PARTS = "LICENSE NOTICE CHANGELOG.md bindings crates crates.txt docs examples fields install prepare stumpgarret".split()
 COMMIT = "0123456789abcdef0123456789abcdef01234567"
-LIBRARY_HASH = hashlib.sha256((CLONE / "target/python/libstumpgarret.so").read_bytes()).hexdigest()
+FILE = "stumpgarret-pipe" if EMULATED else "libstumpgarret.so"
+FILE_HASH = hashlib.sha256((CLONE / "target/python" / FILE).read_bytes()).hexdigest()
+SAID = f"program: SHA-256 {FILE_HASH}, called over a pipe, under qemu-x86_64" if EMULATED else f"library: SHA-256 {FILE_HASH}"
+TAG = f"py3-none-linux_{stumpgarret_calls._machine()}"
 VERSION = f"""\
 stumpgarret {stumpgarret.__version__}, commit {COMMIT}
-library: SHA-256 {LIBRARY_HASH}
+{SAID}
 names of characters: {SYSTEM_NAMES if SYSTEM_NAMES.exists() else "fourteen, of the library"}
 """
+RUN = "bin/stumpgarret", "lib/stumpgarret/stumpgarret-pipe"
 NAMES = "2603;SNOWMAN;So;0;ON;;;;;N;;;;;\n"
 # A stand-in for rt, which writes the static library in two halves.
 RT = """#!/bin/sh
@@ -75,6 +80,7 @@ tail -c +$((size / 2 + 1)) "$STUMPGARRET_STATIC" >> target/staticlib/libstumpgar
 
 def start(*command, user=(), cwd, **variables):
     streams = {"stdin": subprocess.DEVNULL, "stdout": subprocess.PIPE, "stderr": subprocess.PIPE}
+    variables = {**CALLED, **variables}
     return subprocess.Popen([*user, "env", "-i", *command_line(variables), *command], cwd=cwd, text=True, **streams)
 
 
@@ -135,7 +141,7 @@ class Copy(unittest.TestCase):
         clone = self.folder() / "clone"
         subprocess.run(["cp", "-a", self.built, clone], check=True)
         subprocess.run(["chmod", "-R", "u+w", clone], check=True)
-        (clone / "target/python/libstumpgarret.so").unlink()
+        (clone / "target/python" / FILE).unlink()
         return clone
 
     def folder(self):
@@ -184,7 +190,6 @@ class Fields(Copy):
         folder = self.folder()
         (folder / "a.py").write_text("f'{x}\\N{SNOWMAN}'")
         (folder / "names.txt").write_text(NAMES)
-        self.assertFalse((self.built / "target/python/root/usr/share/unicode").exists())
         call = run(self.built / "fields", "a.py", user=OTHER_USER, cwd=folder, PATH=self.few)
         self.assertEqual(call[:2], (0, "a.py:1:4\tx\t\t\n") if SYSTEM_NAMES.exists() else (1, ""))
         call = run(self.built / "fields", "--names", "names.txt", "a.py", user=OTHER_USER, cwd=folder, PATH=self.few)
@@ -198,7 +203,7 @@ class Fields(Copy):
         self.assertEqual([status for status, _, _ in found], CALLS_AT_ONCE * [0])
         self.assertIn((0, "", "another call is building the library: waiting for it\n"), found)
         self.assertEqual((clone / "rt-calls").read_text(), "called\n")
-        self.assertLessEqual({path.name for path in (clone / "target/python").glob("*.so*")}, {"libstumpgarret.so"})
+        self.assertLessEqual({path.name for path in (clone / "target/python").glob(f"{FILE}*")}, {FILE})
         self.assertEqual(run("./fields", "examples/bench.py", cwd=clone, PATH=self.few), (0, BENCH_FIELDS, BENCH_LAST))
 
     def test_told(self):
@@ -253,14 +258,36 @@ class Fields(Copy):
     def test_names_are_prepared(self):
         """What ./fields needs has the names of characters with it; it goes on if they cannot be had."""
         variables = {**self.with_rt(), "NAMES": "/none"}
+        asked = self.installer(variables)
+        begun = "installing Debian's unicode-data, which may take a minute\n"
+        self.assertEqual(run("./prepare", "run", cwd=CLONE, **variables), (0, "", begun))
+        self.assertEqual(asked.read_text(), "-q update\n-q install -y --no-install-recommends unicode-data\n")
+        asked = self.installer(variables, status=1)
+        said = "./prepare: Debian's unicode-data cannot be had: fourteen names of characters are known\n"
+        self.assertEqual(run("./prepare", "run", cwd=CLONE, **variables), (0, "", begun + 2 * "raw lines\n" + said))
+        self.assertEqual(run("./prepare", "run", cwd=CLONE, **{**variables, "NAMES": "/dev/null"}), (0, "", ""))
+
+    def installer(self, variables, status=0):
+        """Puts a stand-in for apt-get into the path, and gives the file that tells what it was asked; if it fails, then to install."""
         tools = pathlib.Path(variables["PATH"].split(":")[0])
-        for status, said in ((0, ""), (1, "./prepare: Debian's unicode-data cannot be had: fourteen names of characters are known\n")):
-            (tools / "apt-get").write_text(f'#!/bin/sh\necho "$@"\ncase $* in *install*) exit {status} ;; esac\n')
-            (tools / "apt-get").chmod(0o755)
-            ended, out, err = run("./prepare", "run", cwd=CLONE, **variables)
-            self.assertEqual((ended, err), (0, said))
-            self.assertIn("-q install -y --no-install-recommends unicode-data\n", out)
-        self.assertEqual(run("./prepare", "run", cwd=CLONE, **{**variables, "NAMES": "/dev/null"})[0], 0)
+        asked = tools / "asked"
+        asked.unlink(missing_ok=True)
+        (tools / "apt-get").write_text(f'#!/bin/sh\necho "$@" >> {asked}\necho raw lines\ncase $* in *install*) exit {status} ;; esac\n')
+        (tools / "apt-get").chmod(0o755)
+        return asked
+
+    def test_prepared_on_another_machine(self):
+        """There ./fields needs an emulator and a compiler for x86-64, and nothing else; a failure shows the installer's lines."""
+        tools = pathlib.Path(self.tools(f"other-{self.id()}", "bash", "cat", "dirname", "mktemp", "python3", "rm", "uname"))
+        (tools / "rt").symlink_to("/bin/true")
+        variables = {"PATH": str(tools), "NAMES": "/dev/null", "STUMPGARRET_MACHINE": "aarch64"}
+        packages = "gcc-x86-64-linux-gnu libc6-dev-amd64-cross qemu-user"
+        begun = f"installing Debian's {packages}, which may take a minute\n"
+        asked = self.installer(variables)
+        self.assertEqual(run("./prepare", "run", cwd=CLONE, **variables), (0, "", begun))
+        self.assertEqual(asked.read_text(), f"-q update\n-q install -y --no-install-recommends {packages}\n")
+        self.installer(variables, status=7)
+        self.assertEqual(run("./prepare", "run", cwd=CLONE, **variables), (7, "", begun + 2 * "raw lines\n"))
 
     def test_failed(self):
         """Nothing is left of a build that failed, and the next call tries again."""
@@ -270,7 +297,7 @@ class Fields(Copy):
         status, out, err = run("./fields", "examples/bench.py", cwd=clone, **variables)
         self.assertEqual((status, out), (2, ""))
         self.assertIn("it is not proved", err)
-        self.assertEqual([*(clone / "target/python").glob("*.so*")], [])
+        self.assertEqual([*(clone / "target/python").glob(f"{FILE}*")], [])
         rt.write_text(RT)
         self.assertEqual(run("bindings/python/ready", cwd=clone, **variables)[0], 0)
 
@@ -300,30 +327,26 @@ class Install(Copy):
         cls.status, cls.out, cls.err = run("./install", "--prefix", cls.prefix, cwd=cls.built, PATH=SYSTEM)
         cls.unchanged = state(cls.built) == before
         cls.built.rename(cls.work / "away")
-        cls.wheel = cls.prefix / f"share/stumpgarret/stumpgarret-{stumpgarret.__version__}-py3-none-linux_x86_64.whl"
-        # What runs the module: a Python for x86-64.
-        root = cls.prefix / "lib/stumpgarret/root"
-        emulated = [*EMULATOR, "-L", root, root / "usr/bin/python3.11"]
-        cls.python = emulated if EMULATED else [shutil.which("python3", path=SYSTEM)]
+        cls.wheel = cls.prefix / f"share/stumpgarret/stumpgarret-{stumpgarret.__version__}-{TAG}.whl"
+        cls.python = shutil.which("python3", path=SYSTEM)
 
     def test_files(self):
         self.assertEqual((self.status, self.err, self.unchanged), (0, "", True))
         modules = sorted(path.name for path in (CLONE / "bindings/python").glob("stumpgarret*.py"))
-        modules += ["libstumpgarret.so", "stumpgarret_commit", "stumpgarret_rules.md"]
+        modules += [FILE, "stumpgarret_commit", "stumpgarret_rules.md"]
         files = ["bin/stumpgarret", *(f"lib/stumpgarret/{name}" for name in modules), "lib/libstumpgarret.a"]
         files += ["include/stumpgarret.h", "lib/pkgconfig/stumpgarret.pc", "share/man/man1/stumpgarret.1"]
         files += [f"share/doc/stumpgarret/{name}" for name in ("LICENSE", "NOTICE", "CHANGELOG.md", "RULES.md", "AUDIT.md")]
         files += [str(self.wheel.relative_to(self.prefix))]
         said = self.out.splitlines()
         found = [str(path.relative_to(self.prefix)) for path in self.prefix.rglob("*") if path.is_file()]
-        found = [path for path in found if not path.startswith("lib/stumpgarret/root/")]
         self.assertEqual(sorted(found), sorted([*files, "lib/stumpgarret/installed"]))
         for file in files:
             path = self.prefix / file
-            self.assertEqual(stat.S_IMODE(path.stat().st_mode), 0o755 if path.parent.name == "bin" else 0o644, file)
+            self.assertEqual(stat.S_IMODE(path.stat().st_mode), 0o755 if file in RUN else 0o644, file)
             self.assertIn(str(path), said)
         self.assertEqual([*self.prefix.rglob("*.new")], [])
-        self.assertEqual("Python for x86-64 under qemu-x86_64" in self.out, EMULATED)
+        self.assertEqual("a program that runs under qemu-x86_64 (Debian: qemu-user)" in self.out, EMULATED)
 
     def test_command(self):
         """It runs for another user, with the clone gone, in any folder, and by a link."""
@@ -405,7 +428,7 @@ class Install(Copy):
         self.assertEqual((status, err), (0, ""))
         self.assertFalse(pathlib.Path("/opt/stumpgarret").exists())
         for path in (stage / "opt/stumpgarret").rglob("*"):
-            if path.is_file() and path.suffix not in (".whl", ".so", ".a") and "root" not in path.parts:
+            if path.is_file() and path.suffix not in (".whl", ".so", ".a"):
                 self.assertNotIn(str(stage), path.read_text(errors="replace"), path)
         call = run(stage / "opt/stumpgarret/bin/stumpgarret", "--version", cwd="/", PATH=self.few)
         self.assertEqual(call, (0, VERSION, ""))
@@ -478,31 +501,30 @@ class Install(Copy):
                 digest = base64.urlsafe_b64encode(hashlib.sha256(content).digest()).decode().rstrip("=")
                 self.assertEqual(said, f"sha256={digest},{len(content)}")
             self.assertIn(f"Version: {stumpgarret.__version__}\n", archive.read(f"{info}/METADATA").decode())
-            self.assertIn("Tag: py3-none-linux_x86_64\n", archive.read(f"{info}/WHEEL").decode())
+            self.assertIn(f"Tag: {TAG}\n", archive.read(f"{info}/WHEEL").decode())
 
     def test_wheel(self):
         """Installed by pip, if there is one, else unpacked, it is a module that has its library."""
         folder = self.work / "packages"
         if subprocess.run([sys.executable, "-m", "pip", "--version"], capture_output=True).returncode == 0:
-            options = ["-q", "--no-index", "--no-deps", "--only-binary=:all:", "--platform", "linux_x86_64", "--target", folder]
+            options = ["-q", "--no-index", "--no-deps", "--only-binary=:all:", "--platform", TAG.rpartition("-")[2], "--target", folder]
             variables = {**os.environ, "PIP_ROOT_USER_ACTION": "ignore"}
             subprocess.run([sys.executable, "-m", "pip", "install", *options, self.wheel], check=True, env=variables)
             self.assertIn("from stumpgarret import process", (folder / "bin/stumpgarret").read_text())
         else:
             zipfile.ZipFile(self.wheel).extractall(folder)
         program = "import stumpgarret as s; print(s.__file__, [field.spec for field in s.fields(\"f'{x:3}'\")])"
-        call = run(*self.python, "-B", "-c", program, cwd="/", PATH=self.few, PYTHONPATH=folder)
+        call = run(self.python, "-B", "-c", program, cwd="/", PATH=self.few, PYTHONPATH=folder)
         self.assertEqual(call, (0, f"{folder}/stumpgarret.py ['3']\n", ""))
         program = "import stumpgarret; stumpgarret.process()"
         for words, said in ((["--version"], VERSION), (["--explain", "25"], stumpgarret_rules.chapters()[25])):
-            call = run(*self.python, "-B", "-c", program, *words, cwd="/", PATH=self.few, PYTHONPATH=folder)
+            call = run(self.python, "-B", "-c", program, *words, cwd="/", PATH=self.few, PYTHONPATH=folder)
             self.assertEqual(call, (0, said, ""))
         named = r"f'{x:3}\N{SNOWMAN}'"
         program = f"import stumpgarret as s; print(len(s.fields({named!r}, names=s.Names.build({NAMES.encode()!r}))))"
-        call = run(*self.python, "-B", "-c", program, cwd="/", PATH=self.few, PYTHONPATH=folder)
+        call = run(self.python, "-B", "-c", program, cwd="/", PATH=self.few, PYTHONPATH=folder)
         self.assertEqual(call, (0, "1\n", ""))
 
-    @unittest.skipIf(EMULATED, "this machine's own Python cannot load the library")
     def test_import(self):
         """A Python that has modules under the prefix finds it."""
         there = self.work / "environment"
@@ -512,6 +534,39 @@ class Install(Copy):
         program = "import stumpgarret; print(stumpgarret.__file__)"
         call = run("python3", "-B", "-c", program, cwd="/", PATH=path)
         self.assertEqual((status, call), (0, (0, f"{there}/lib/stumpgarret/stumpgarret.py\n", "")))
+
+
+@unittest.skipUnless(importlib.util.find_spec("ensurepip"), "this Python makes no environment with pip")
+class Wheels(unittest.TestCase):
+    """The wheel in a fresh environment, installed by pip: with the library, where this machine can load it, and with the program."""
+
+    def test_wheels(self):
+        work = pathlib.Path(self.enterContext(tempfile.TemporaryDirectory()))
+        subprocess.run([sys.executable, "-m", "venv", work / "there"], check=True)
+        for file in ("libstumpgarret.so", "stumpgarret-pipe"):
+            called = CLONE / "target/python" / file
+            if called.exists() and (file.endswith("-pipe") or not EMULATED):
+                with self.subTest(file=file):
+                    self.installed(work, called)
+
+    def installed(self, work, called):
+        own = {"PATH": f"{work}/there/bin:{SYSTEM}", "STUMPGARRET_MACHINE": ""}
+        status, wheel, err = run(CLONE / "bindings/python/wheel", called, work / called.stem, cwd="/", **own)
+        self.assertEqual((status, err), (0, ""))
+        options = "-q", "--no-index", "--disable-pip-version-check", "--force-reinstall"
+        self.assertEqual(run("python", "-m", "pip", "install", *options, wheel.strip(), cwd="/", **own), (0, "", ""))
+        program = "import stumpgarret as s; print(s.__file__, [field.spec for field in s.fields(\"f'{x:3}'\")])"
+        status, out, err = run("python", "-I", "-c", program, cwd="/", **own)
+        self.assertEqual((status, err), (0, ""))
+        self.assertRegex(out, rf"^{work}/there/lib/.*/stumpgarret.py \['3'\]\n$")
+        call = run("stumpgarret", "examples/bench.py", cwd=CLONE, **own)
+        self.assertEqual(call, (0, BENCH_FIELDS, BENCH_LAST))
+        self.assertIn(hashlib.sha256(called.read_bytes()).hexdigest(), run("stumpgarret", "--version", cwd="/", **own)[1])
+        if called.name == "stumpgarret-pipe":
+            alone = {"PATH": f"{work}/there/bin", "STUMPGARRET_MACHINE": "riscv64"}
+            status, out, err = run(f"{work}/there/bin/stumpgarret", "examples/bench.py", cwd=CLONE, **alone)
+            self.assertEqual((status, out), (2, ""))
+            self.assertIn("is for x86_64, this machine is riscv64, and qemu-x86_64, the emulator for it, is missing (Debian: qemu-user)\n", err)
 
 
 if __name__ == "__main__":

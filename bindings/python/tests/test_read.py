@@ -248,7 +248,8 @@ class Loading(unittest.TestCase):
 
     def test_places(self):
         with mock.patch.dict(os.environ), mock.patch.object(os.path, "isfile", lambda path: False):
-            os.environ.pop("STUMPGARRET_LIBRARY", None)
+            for name in ("STUMPGARRET_LIBRARY", "STUMPGARRET_PROGRAM"):
+                os.environ.pop(name, None)
             with self.assertRaisesRegex(Unavailable, "bindings/python/libstumpgarret.so and no .*/target/python/"):
                 load_function("read")
 

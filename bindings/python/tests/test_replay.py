@@ -13,7 +13,7 @@ import threading
 import unittest
 from unittest import mock
 
-from support import CLONE, HAS_STANDIN, calls_of, stumpgarret
+from support import CLONE, calls_of, stumpgarret
 
 import stumpgarret_replay
 from stumpgarret import Refusal, Replay, Spec
@@ -389,10 +389,9 @@ class Use(Command):
         with mock.patch.object(stumpgarret, "_function", side_effect=stumpgarret.Unavailable("none")):
             self.assertEqual(self.through("f'{x}'", b""), (2, b"", "none\n"))
 
-    @unittest.skipIf(HAS_STANDIN, "this Python cannot load the library")
     def test_standard_output(self):
         """A full disk and a closed standard output are one line, and status 2."""
-        command = [*os.environ.get("STUMPGARRET_PYTHON", sys.executable).split(), "-B", stumpgarret.__file__, "replay"]
+        command = [sys.executable, "-B", stumpgarret.__file__, "replay"]
         for redirected, said in ((">/dev/full", "standard output: No space left on device\n"), (">&-", "standard output is closed\n")):
             ended = subprocess.run(
                 ["sh", "-c", f'"$@" {redirected}', "sh", *command, "--template", "f'{x}'", "-"], input=b"1", stderr=subprocess.PIPE

@@ -11,16 +11,14 @@ import unittest
 from unittest import mock
 
 import test_command
-from support import CLONE, HAS_STANDIN
+from support import CALLED, CLONE
 import stumpgarret_command
 
 MODULE = CLONE / "bindings/python/stumpgarret.py"
-PYTHON = os.environ.get("STUMPGARRET_PYTHON", sys.executable).split()
-COMMAND = [*PYTHON, "-I", "-B", str(MODULE)]
+COMMAND = [sys.executable, "-I", "-B", str(MODULE)]
 LAST = "1 field in 1 script, complete\n"
 
 
-@unittest.skipIf(HAS_STANDIN, "a process of its own has no stand-in for the library")
 class Process(unittest.TestCase):
     def setUp(self):
         self.folder = pathlib.Path(self.enterContext(tempfile.TemporaryDirectory()))
@@ -136,7 +134,7 @@ class Terminal(Process):
         return process.wait(), shown.decode().replace("\r\n", "\n")
 
     def test_colours(self):
-        variables = {"STUMPGARRET_LIBRARY": os.environ["STUMPGARRET_LIBRARY"]}
+        variables = {"PATH": os.environ["PATH"], **CALLED}
         status, shown = self.on_terminal("b.py", **variables)
         self.assertEqual(status, 1)
         self.assertIn("\x1b[36mb.py:1:4\x1b[0m\ty\t\t\n", shown)
