@@ -390,7 +390,7 @@ class Install(Copy):
     def test_wrong_use(self):
         for words in (["--prefix"], ["--prefix", ""], ["--prefix="], ["there"], ["--prefix", "there", "and"]):
             status, _, err = run(CLONE / "install", *words, cwd=self.work, PATH=SYSTEM)
-            self.assertEqual((status, err), (2, f"usage: {CLONE}/install [--uninstall] [--prefix DIR]\n"))
+            self.assertEqual((status, err), (2, f"usage: {CLONE}/install [--uninstall | --native] [--prefix DIR]\n"))
 
     def install(self, *words, **variables):
         """Status, output and errors of ./install, which finds the clone again meanwhile."""
@@ -403,7 +403,7 @@ class Install(Copy):
     def test_help(self):
         status, out, err = self.install("--help")
         self.assertEqual((status, err), (0, ""))
-        for said in ("./install --uninstall [--prefix DIR]", "DIR is /usr/local if it is not given", "DESTDIR"):
+        for said in ("./install [--native] [--prefix DIR]", "./install --uninstall [--prefix DIR]", "DIR is /usr/local if it is not given", "DESTDIR"):
             self.assertIn(said, out)
         self.assertNotIn("set -euo", out)
 
@@ -534,6 +534,61 @@ class Install(Copy):
         program = "import stumpgarret; print(stumpgarret.__file__)"
         call = run("python3", "-B", "-c", program, cwd="/", PATH=path)
         self.assertEqual((status, call), (0, (0, f"{there}/lib/stumpgarret/stumpgarret.py\n", "")))
+
+
+@unittest.skipIf(EMULATED or not shutil.which("qemu-x86_64", path=SYSTEM), "there is no emulator here, or no other machine to be tried on")
+class Native(Copy):
+    """./install --native as on another machine; this one's own library stands for the one that is compiled."""
+
+    def setUp(self):
+        self.clone, self.prefix = self.writable(), self.folder() / "there"
+        self.variables = {**self.with_rt(), "STUMPGARRET_MACHINE": "aarch64", "STUMPGARRET_NATIVE_CALLS": "320"}
+
+    def install(self, *words, compiled='cp "$STUMPGARRET_STATIC" "$1/libstumpgarret.a"', **variables):
+        """Status, output and errors, with a stand-in for what compiles the library."""
+        (self.clone / "bench").mkdir(exist_ok=True)
+        (self.clone / "bench/host-library").write_text(f'#!/bin/sh\nmkdir -p "$1"\n{compiled}\n')
+        (self.clone / "bench/host-library").chmod(0o755)
+        return run("./install", *words, "--prefix", self.prefix, cwd=self.clone, **{**self.variables, **variables})
+
+    def test_installed(self):
+        """Its library is loaded, and version, page and wheel say what it is; what a later ./install does not have is gone."""
+        status, out, err = self.install("--native")
+        self.assertEqual(status, 0, err)
+        self.assertIn("comparing it with the library for x86-64, which may take some minutes\n", err)
+        self.assertRegex(out, "compared with the one for x86-64: [0-9]+ calls alike, at least 20 of each of .*\nWhat the kit promises is for x86-64.\n")
+        lib = self.prefix / "lib/stumpgarret"
+        self.assertTrue((lib / "stumpgarret_native").exists() and not (lib / "stumpgarret-pipe").exists())
+        command, given = self.prefix / "bin/stumpgarret", {"cwd": self.clone, "PATH": self.few}
+        self.assertEqual(run(command, "examples/bench.py", **given), (0, BENCH_FIELDS, BENCH_LAST))
+        said = "compiled for x86_64; the kit's promise is for x86-64"
+        self.assertIn(said, run(command, "--version", **given)[1])
+        self.assertEqual(run(command, "--html", self.prefix / "page.html", "examples/bench.py", **given)[0], 0)
+        self.assertIn("the kit&#x27;s promise is for x86-64", (self.prefix / "page.html").read_text())
+        with zipfile.ZipFile(next((self.prefix / "share/stumpgarret").glob("*.whl"))) as archive:
+            self.assertLessEqual({"libstumpgarret.so", "stumpgarret_native"}, {*archive.namelist()})
+        self.assertEqual(self.install()[0], 0)
+        for name, there in (("stumpgarret_native", False), ("libstumpgarret.so", False), ("stumpgarret-pipe", True)):
+            self.assertEqual((lib / name).exists(), there, name)
+
+    def test_other_answers(self):
+        """A library that answers otherwise is not installed."""
+        swapped = "--redefine-sym stumpgarret_cut=stumpgarret_fields --redefine-sym stumpgarret_fields=stumpgarret_cut"
+        status, out, err = self.install("--native", compiled=f'objcopy {swapped} "$STUMPGARRET_STATIC" "$1/libstumpgarret.a"')
+        self.assertEqual((status, out), (2, ""))
+        self.assertRegex(err, "both_ways: of (cut|fields) .*\n.*/native: it does not answer as the library for x86-64 does\n$")
+        self.assertEqual([*(self.clone / "target/python").glob("native*")], [])
+        self.assertEqual([*self.prefix.rglob("*")], [])
+
+    def test_not_compiled(self):
+        status, out, err = self.install("--native", compiled="echo no such target; exit 1")
+        self.assertEqual((status, out), (2, ""))
+        self.assertTrue(err.endswith("compiling the library for this machine\nno such target\n"), err)
+
+    def test_here(self):
+        """It is for other machines."""
+        said = "./install: --native is for other machines: this one is x86-64, which the library is for\n"
+        self.assertEqual(self.install("--native", STUMPGARRET_MACHINE=""), (2, "", said))
 
 
 @unittest.skipUnless(importlib.util.find_spec("ensurepip"), "this Python makes no environment with pip")
