@@ -3,7 +3,7 @@ use mathlib.Core.Path.{_≡_, refl, sym, _∙_, ap, subst}
 use mathlib.Core.Bool.{true}
 use mathlib.Core.List.{List, map}
 use mathlib.Core.Option.{Option, none, some}
-use Prim.Native.Nat.{ℕ}
+use Prim.Native.Nat.{ℕ, _/_}
 use native.Mathlib.Omega.{arith}
 use lib.ListN.{length, replicate}
 use Rattle.definition.specs.Numbers.{notSixes}
@@ -11,6 +11,7 @@ use Rattle.definition.specs.Records.{Role, covers, Item, Sort, answerOf, merged
 use Rattle.definition.specs.Entry.{Literal, sixes, Refusal, refusal}
 use Rattle.definition.specs.Escapes.{Naming}
 use Rattle.definition.specs.Reading.{refuses, readFrom, sortOf, allChars, answered, read, allWords, zeros}
+use Rattle.definition.specs.Rows.{allRows, allNumbers}
 use Rattle.definition.proofs.join.Laid.{laid-length}
 use Rattle.buffers.specs.Over.{over}
 use Rattle.entry.specs.Literals.{literals}
@@ -18,6 +19,7 @@ use Rattle.entry.specs.declared.Refusal as entry
 use Rattle.entry.specs.Answers.{refusalOf, checkNumbers}
 use Rattle.entry.proofs.Checks.{refused}
 use Rattle.entry.proofs.Passed.{Passed}
+use Rattle.bodies.specs.declared.Written.{Written}
 use Rattle.bodies.specs.declared.Reading.{Reading}
 use Rattle.bodies.specs.declared.Reading.the-variants.{Refused}
 use Rattle.records.specs.declared.Whole.{Whole}
@@ -25,9 +27,10 @@ use Rattle.records.specs.declared.Sink.{Sink}
 use Rattle.bodies.specs.Emit as e
 use Rattle.bodies.specs.Emit.{closed, Tops}
 use Rattle.bodies.specs.Sinks.{outOf, wholeOf}
-use Rattle.bodies.specs.Lists.{wholeFor, roleFor, empty, Wrote, All, readFlat, answerFor, Landed, ReadingIs}
+use Rattle.bodies.specs.Lists.{wholeFor, roleFor, empty, Wrote, All, Rowed, readFlat, answerFor, Landed, ClosedAs, DoneIs, ReadingIs}
 use Rattle.bodies.proofs.Emitted.{done, emitted}
 use Rattle.bodies.proofs.TopLaws.{tops-read, covers-role}
+use Rattle.bodies.proofs.RowCalls.{front-shown}
 
 -- laid out over empty buffers
 count-done : (w : e.Whole) (words text : List ℕ) (xs : List Item) → done w (empty words text) xs .count ≡ length xs
@@ -102,3 +105,22 @@ module _ (look : Naming) (script ns : List ℕ) (n : ℕ) (P : Passed script ns 
       → Landed (answerFor script ls (A .items)) words text words′ text₁ (r .count) (r .used)
   landed-list w words text words₁ text₁ words′ k r e A z =
       landed-for w script ls (roleFor ls) (A .items) words text words₁ text₁ words′ k r (covers-role ls) (subst (λ v. Tops v (roleFor ls) (A .items)) (sym e) (tops-read look script 0 ls (A .items) (P .unmixed) (A .reads))) e (A .wrote) z
+
+-- A LIST THAT IS ACCEPTED: all three buffers, and what is counted
+pub done-all : (look : Naming) (within skip : ℕ) (script ns words text rows words₁ text₁ rows′ words′ : List ℕ) (w : Whole) (k : Sink) (n chars : ℕ) (r : Written)
+    → let ls = literals ns 0 (length ns / 6) in Passed script ns (length ns / 6) × (chars ≡ allChars script ls) → wholeOf w ≡ wholeFor ls
+    → All (readFrom look script 0 ls) (wholeOf w) words text words₁ text₁ k → Rowed look (record { within = within; skip = skip }) script ls rows rows′ k n
+    → ClosedAs w k n chars words₁ words′ r → DoneIs look within skip script ns words text rows words′ text₁ rows′ r
+done-all look within skip script ns words text rows words₁ text₁ rows′ words′ w k n chars r Q e A R C =
+    let ls = literals ns 0 (length ns / 6) in
+    rw (C .is)
+    (record {
+      passed = Q .0;
+      items = A .items;
+      reads = A .reads;
+      landed = landed-list look script ns (length ns / 6) (Q .0) w words text words₁ text₁ words′ k (C .sink) e A (C .out);
+      rows-are = front-shown (record { within = within; skip = skip }) rows rows′ (allNumbers within (allRows look script ls)) (R .wrote);
+      whole = e;
+      fields = R .counted;
+      chars = Q .1;
+    })

@@ -11,3 +11,4 @@ pub mod ListLaws
 pub mod RowCalls
 pub mod TopLaws
 pub mod CallLaws
+pub mod AloneLaws

@@ -28,8 +28,8 @@ use Rattle.records.specs.declared.Window.{Window}
 use Rattle.records.specs.declared.Frame.{Frame}
 use Rattle.records.specs.declared.Sink.{Sink}
 use Rattle.bodies.specs.Emit as e
-use Rattle.bodies.specs.Emit.{Out, emits}
-use Rattle.bodies.specs.Sinks.{loadOf, outOf, Fits}
+use Rattle.bodies.specs.Emit.{Out, emits, closed}
+use Rattle.bodies.specs.Sinks.{wholeOf, loadOf, outOf, Fits}
 use Rattle.bodies.specs.Rows.{Through}
 use Rattle.buffers.specs.Over.{over}
 
@@ -44,6 +44,14 @@ roleFor ls = if anyOf isBytes ls then raw else top
 -- nothing is written yet
 abbrev pub empty : List ℕ → List ℕ → Out
 empty words text = record { words = words; text = text; count = 0; used = 0; held = false; from = 0 }
+
+-- and counted
+abbrev pub nothing : Sink
+nothing = record { count = 0; used = 0; held = 0; from = 0; parts = 0 }
+
+-- the window of a call without rows
+abbrev pub noRows : Window
+noRows = record { within = 0; skip = 0 }
 
 -- the body of a good literal lies in the script, and all that is still to come fits
 pub record Room (script : List ℕ) (l : Descriptor) (k : Sink) : Type 0 where
@@ -99,6 +107,12 @@ pub record Rowed (look : Naming) (v : Window) (script : List ℕ) (ls : List Lit
 abbrev pub RowsAre : (look : Naming) → Window → List ℕ → List Literal → List ℕ → List ℕ → Listed → Type 0
 RowsAre look v script ls rows rows′ (listed.Done r n) = Rowed look v script ls rows rows′ r n
 RowsAre look v script ls rows rows′ (listed.Refused x) = Unit {0}
+
+-- what is told of a list whose held text is closed
+pub record ClosedAs (w : Whole) (k : Sink) (fields chars : ℕ) (words words′ : List ℕ) (r : Written) : Type 0 where
+  pub sink : Sink
+  pub out : (text : List ℕ) → outOf sink words′ text ≡ closed (wholeOf w) (outOf k words text)
+  pub is : r ≡ record { kind = w .kind; mark = w .mark; start = w .start; end = w .end; records = sink .count; text = sink .used; fields = fields; chars = chars }
 
 -- A WHOLE LIST OF FLAT NUMBERS, with room for anything
 unfoldable pub readFlat : Naming → (script ns : List ℕ) → lists.Outcome Answer

@@ -20,21 +20,23 @@ use utf8::Cursor;
 use utf8::Step;
 ghost use mathlib.Core.Path.{_≡_};
 ghost use mathlib.Core.Option.{none};
+ghost use mathlib.Core.List.{[]};
 ghost use Prim.Native.Nat.{_<_, _≤_};
 ghost use Rattle.definition.specs.Numbers.{isBytes, isUnicode};
 ghost use Rattle.definition.specs.Chars.{if_then_else_};
+ghost use Rattle.definition.specs.Escapes.{heldNames};
 ghost use Rattle.definition.specs.Entry.{placeOf, body, notMixed};
 ghost use Rattle.definition.specs.Body.{readBody};
 ghost use Rattle.definition.specs.Reading.{allChars, openedAt, zeros};
 ghost use Rattle.escapes.specs.Answers.{namesBy};
-ghost use Rattle.entry.specs.Answers.{described, refusalOf};
+ghost use Rattle.entry.specs.Answers.{described, six, refusalOf};
 ghost use Rattle.entry.specs.Literals.{literals};
 ghost use Rattle.entry.proofs.Passed.{Passed};
 ghost use Rattle.marks.specs.Marks.{faultOf};
 ghost use Rattle.bodies.specs.declared.Reading.the-variants.{Refused};
-ghost use Rattle.bodies.specs.Sinks.{wholeOf};
+ghost use Rattle.bodies.specs.Sinks.{wholeOf, Fits};
 ghost use Rattle.bodies.specs.Fstring.{Room as BodyRoom, ReadIs, SignedIs};
-ghost use Rattle.bodies.specs.Lists.{wholeFor, Room, Stands, First, refusedAt, frameOf, ListIs, RowsAre, ReadingIs};
+ghost use Rattle.bodies.specs.Lists.{wholeFor, nothing, noRows, Room, Stands, First, refusedAt, frameOf, ListIs, RowsAre, ClosedAs, ReadingIs};
 ghost use Rattle.bodies.specs.FieldEnds.{Opens, EndIs};
 ghost use Rattle.texts.specs.Text.{Whether};
 ghost use lib.ListN.{length};
@@ -309,6 +311,24 @@ fn refuse(words: &mut [u32], text: &mut [u8], rows: &mut [u32], r: entry::Refusa
     Reading::Refused(r)
 }
 
+// What was written of a list, once its held text is closed.
+fn written_of(words: &mut [u32], whole: Whole, sink: Sink, fields: usize, chars: u32) -> Written
+    requires { ⌜ Fits sink × (fields ≤ sink .count) ⌝ }
+    ensures { λ r. ⌜ ClosedAs whole sink fields chars (now (words .entry)) (now (words .exit)) r ⌝ }
+{
+    let k = close_held(words, whole, sink);
+    Written {
+        kind: whole.kind,
+        mark: whole.mark,
+        start: whole.start,
+        end: whole.end,
+        records: k.count as u32,
+        text: k.used as u32,
+        fields: fields as u32,
+        chars,
+    }
+}
+
 // Reads the literals whose numbers are listed, six for each, with the names of a lent file, or where that is empty the held ones: their records, their text, and the
 // rows of their fields from number `skip` on, each with `within` as its last number, are written as far as there is room.
 pub fn read_all(
@@ -344,17 +364,106 @@ pub fn read_all(
             ) {
                 Listed::Refused(r) => refuse(words, text, rows, r),
                 Listed::Done(sink, fields) => {
-                    let k = close_held(words, whole, sink);
-                    Reading::Done(Written {
-                        kind: whole.kind,
-                        mark: whole.mark,
-                        start: whole.start,
-                        end: whole.end,
-                        records: k.count as u32,
-                        text: k.used as u32,
-                        fields: fields as u32,
-                        chars,
-                    })
+                    Reading::Done(written_of(words, whole, sink, fields, chars))
+                }
+            }
+        }
+    }
+}
+
+// A body that is read alone: into buffers that hold nothing yet, with the held names and no rows.
+fn body_alone(s: &[u8], fr: Frame, words: &mut [u32], text: &mut [u8]) -> Read
+    requires { ⌜ BodyRoom (now s) 0 fr nothing ⌝ }
+    ensures { λ r. ⌜ ReadIs (readBody heldNames (fr .kind) (now (s .entry))) fr 0 (now (words .entry)) (now (text .entry)) (now (words .exit)) (now (text .exit)) nothing r × SignedIs r (readBody heldNames (fr .kind) (now (s .entry))) fr [] [] 0 ⌝ }
+{
+    let file = [0u8; 0];
+    let index = [0u32; 0];
+    if entry::is_of(Class::FStrings, fr.kind) {
+        let k = Sink {
+            count: 0,
+            used: 0,
+            held: 0,
+            from: 0,
+            parts: 0,
+        };
+        let mut rows = [0u32; 0];
+        return parse_fstring(
+            s,
+            Cursor { at: 0 },
+            0,
+            fr,
+            words,
+            text,
+            &mut rows,
+            k,
+            0,
+            &file,
+            &index,
+            false,
+        );
+    }
+    match parse_string(s, fr.kind, text, 0, &file, &index) {
+        Text::Refused(r) => Read::Refused(r),
+        Text::Done(used) => {
+            let k = Sink {
+                count: 0,
+                used,
+                held: 1,
+                from: 0,
+                parts: 1,
+            };
+            Read::Done(Cursor { at: s.len() }, k, 0)
+        }
+    }
+}
+
+// A literal that is read alone.
+fn literal_alone(
+    script: &[u8],
+    l: Descriptor,
+    whole: Whole,
+    words: &mut [u32],
+    text: &mut [u8],
+) -> Read
+    requires { ⌜ Room (now script) l nothing ⌝ }
+    ensures { λ r. ⌜ ReadIs (readBody heldNames (l .kind) (body (now (script .entry)) (described l))) (frameOf l whole noRows) 0 (now (words .entry)) (now (text .entry)) (now (words .exit)) (now (text .exit)) nothing r × SignedIs r (readBody heldNames (l .kind) (body (now (script .entry)) (described l))) (frameOf l whole noRows) [] [] 0 ⌝ }
+{
+    let from = l.offset as usize;
+    let to = from + l.size as usize;
+    let base = l.start + entry::opening(l);
+    let window = Window { within: 0, skip: 0 };
+    let fr = Frame {
+        kind: l.kind,
+        start: l.start,
+        end: l.end,
+        base,
+        whole,
+        window,
+    };
+    body_alone(&script[from..to], fr, words, text)
+}
+
+// Reads one literal with the held names, as a list of its own: its records and its text are written as far as there is room.
+pub fn read_one(script: &[u8], l: Descriptor, words: &mut [u32], text: &mut [u8]) -> Reading
+    ensures { λ r. ⌜ ReadingIs heldNames 0 0 (now (script .entry)) (six l) (now (words .entry)) (now (text .entry)) [] (now (words .exit)) (now (text .exit)) [] r ⌝ }
+{
+    let none = [0u32; 0];
+    let mut rows = [0u32; 0];
+    match entry::check_one(script, l) {
+        Checked::Refused(r) => refuse(words, text, &mut rows, r),
+        Checked::Passed(chars) => {
+            let whole = Whole {
+                kind: kind_of(l.kind),
+                start: l.start,
+                end: l.end,
+                mark: u_mark(l.kind),
+            };
+            match literal_alone(script, l, whole, words, text) {
+                Read::Refused(x) => {
+                    refuse(words, text, &mut rows, refusal_in(script, &none, 0, l, x))
+                }
+                Read::Done(_, sink, fields) => {
+                    Reading::Done(written_of(words, whole, sink, fields, chars))
                 }
             }
         }

@@ -2,3 +2,4 @@ pub mod Literals
 pub mod Checks
 pub mod Passed
 pub mod One
+pub mod OnePass

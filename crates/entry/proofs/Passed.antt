@@ -33,7 +33,7 @@ both true b e = (cc, cc)
 both false b e = (refl, e)
 
 -- a descriptor that is not bad is good
-not-bad : (script : List ℕ) (previous : ℕ) (l : Literal) → bad script previous l ≡ false → Good script l
+pub not-bad : (script : List ℕ) (previous : ℕ) (l : Literal) → bad script previous l ≡ false → Good script l
 unfolding bad placeOf
 not-bad script previous l e =
     let h₅ = both _ _ e in

@@ -18,6 +18,10 @@ use Rattle.entry.specs.declared.Class.the-variants.{FStrings, Bytes, Oth
 unfoldable pub described : Descriptor → Literal
 described l = record { kind = l .kind; triple = l .triple; offset = l .offset; size = l .size; start = l .start; end = l .end }
 
+-- its six numbers
+unfoldable pub six : Descriptor → List ℕ
+six l = l .kind ∷ l .triple ∷ l .offset ∷ l .size ∷ l .start ∷ l .end ∷ []
+
 -- the definition's refusal
 abbrev pub refusalOf : Refusal → d.Refusal
 refusalOf r =

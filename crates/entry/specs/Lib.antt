@@ -1,2 +1,3 @@
 pub mod Literals
 pub mod Answers
+pub mod Passing

@@ -4,11 +4,14 @@ ghost use mathlib.Core.Bool.{_||_};
 ghost use mathlib.Core.Option.{none};
 ghost use lib.Dec.{eqb};
 ghost use lib.ListN.{getD};
-ghost use Rattle.definition.specs.Numbers.{prefix};
+ghost use Rattle.definition.specs.Numbers.{isBytes, prefix};
+ghost use Rattle.definition.specs.Chars.{if_then_else_};
 ghost use Rattle.definition.specs.Entry.{refusal, opening, placeOf, bad, allGood, total, notLong, allUtf8, anyOf, notMixed};
 ghost use Rattle.definition.specs.Reading.{refuses, allChars, outcomeOf, shortOf, roomFor};
-ghost use Rattle.entry.specs.Answers.{described, says, isOf, laterChecks, checkNumbers};
+ghost use Rattle.entry.specs.declared.Class.the-variants.{Bytes, Others};
+ghost use Rattle.entry.specs.Answers.{described, six, says, isOf, laterChecks, checkNumbers};
 ghost use Rattle.entry.specs.Literals.{literalAt, literals};
+ghost use Rattle.entry.specs.Passing.{OneIs, AllIs};
 
 // A literal's descriptor: six numbers.
 pub struct Descriptor {
@@ -40,6 +43,12 @@ pub enum Checked {
     Refused(Refusal),
 }
 
+// What one pass says: so many characters pass 4 to 7; or not all do.
+enum Passing {
+    Chars(u32),
+    Not,
+}
+
 // A class of kinds.
 pub enum Class {
     FStrings,
@@ -60,6 +69,8 @@ const BODIES_TOO_LONG: u32 = 5;
 const NOT_UTF8: u32 = 6;
 
 const MIXED_BYTES: u32 = 7;
+
+const LARGEST_BODIES: u32 = 1048576;
 
 const TOO_FEW_RECORD_PLACES: u32 = 30;
 
@@ -283,7 +294,7 @@ fn not_mixed(numbers: &[u32], count: u32) -> Checked
 }
 
 // 4 to 7 in order, each over the whole list before the next; how many characters passed.
-fn check_literals(script: &[u8], numbers: &[u32], count: u32) -> Checked
+fn in_order(script: &[u8], numbers: &[u32], count: u32) -> Checked
     ensures { λ r. ⌜ says r ≡ outcomeOf (allChars (now (script .entry)) (literals (now (numbers .entry)) 0 count)) (laterChecks (now (script .entry)) (literals (now (numbers .entry)) 0 count)) ⌝ }
 {
     let good = all_good(script, numbers, count);
@@ -301,6 +312,82 @@ fn check_literals(script: &[u8], numbers: &[u32], count: u32) -> Checked
     let unmixed = not_mixed(numbers, count);
     let Checked::Passed(_) = unmixed else {
         return unmixed;
+    };
+    Checked::Passed(chars)
+}
+
+// The characters of one body, after a literal that ended at `previous` and with so many bytes left: whether it passes 4 to 6.
+fn pass_one(script: &[u8], previous: u32, left: u32, l: Descriptor) -> Passing
+    ensures { λ r. ⌜ OneIs (now (script .entry)) previous left (described l) r ⌝ }
+{
+    if is_bad(script, previous, l) {
+        return Passing::Not;
+    }
+    if left < l.size {
+        return Passing::Not;
+    }
+    let from = l.offset as usize;
+    let to = from + l.size as usize;
+    let formed = utf8::well_formed(&script[from..to]);
+    if formed.len < to - from {
+        return Passing::Not;
+    }
+    Passing::Chars(formed.chars as u32)
+}
+
+// The class that must not stand beside a kind.
+fn other_class(kind: u32) -> Class
+    ensures { λ r. ⌜ r ≡ (if isBytes kind then Others else Bytes) ⌝ }
+{
+    if is_of(Class::Bytes, kind) {
+        return Class::Others;
+    }
+    Class::Bytes
+}
+
+// Whether all pass 4 to 7, in one pass: the first that does not ends it.
+fn pass_all(script: &[u8], numbers: &[u32], count: u32) -> Passing
+    ensures { λ r. ⌜ AllIs (now (script .entry)) (literals (now (numbers .entry)) 0 count) r ⌝ }
+{
+    let first = literal_at(numbers, 0);
+    let other = other_class(first.kind);
+    let mut ended = 0;
+    let mut left = LARGEST_BODIES;
+    let mut chars: u32 = 0;
+    let mut i = 0;
+    while i < count {
+        let l = literal_at(numbers, i);
+        if is_of(other, l.kind) {
+            return Passing::Not;
+        }
+        let Passing::Chars(n) = pass_one(script, ended, left, l) else {
+            return Passing::Not;
+        };
+        ended = l.end;
+        left -= l.size;
+        chars += n;
+        i += 1;
+    }
+    Passing::Chars(chars)
+}
+
+// 4 to 7: in one pass, and in order only if not all pass, for the first refusal.
+fn check_literals(script: &[u8], numbers: &[u32], count: u32) -> Checked
+    ensures { λ r. ⌜ says r ≡ outcomeOf (allChars (now (script .entry)) (literals (now (numbers .entry)) 0 count)) (laterChecks (now (script .entry)) (literals (now (numbers .entry)) 0 count)) ⌝ }
+{
+    let Passing::Chars(chars) = pass_all(script, numbers, count) else {
+        return in_order(script, numbers, count);
+    };
+    Checked::Passed(chars)
+}
+
+// The entry checks of a list of one literal; how many characters passed.
+pub fn check_one(script: &[u8], l: Descriptor) -> Checked
+    ensures { λ r. ⌜ says r ≡ checkNumbers (now (script .entry)) (six l) ⌝ }
+{
+    let Passing::Chars(chars) = pass_one(script, 0, LARGEST_BODIES, l) else {
+        let numbers = [l.kind, l.triple, l.offset, l.size, l.start, l.end];
+        return in_order(script, &numbers, 1);
     };
     Checked::Passed(chars)
 }

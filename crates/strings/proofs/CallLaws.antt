@@ -15,13 +15,14 @@ use Rattle.definition.specs.Escapes.{Naming}
 use Rattle.definition.specs.Reading.{accepts, refuses, sortOf, sortNumber, uMark, lastEnd, answered, outcomeOf, roomFor, roomed, Call, called, readInto, readNumbers, wordsAfter, textAfter, allWords, numbers, zeros, numbersBy}
 use Rattle.definition.specs.Reading as o
 use Rattle.buffers.proofs.Over.{length-over, over-front}
-use Rattle.entry.specs.Literals.{literals}
+use Rattle.entry.specs.Literals.{literalAt, literals}
+use Rattle.entry.specs.declared.Descriptor.{Descriptor}
 use Rattle.entry.specs.declared.Refusal.{Refusal}
-use Rattle.entry.specs.Answers.{refusalOf}
+use Rattle.entry.specs.Answers.{described, six, refusalOf}
 use Rattle.entry.proofs.Checks.{room-enough}
 use Rattle.entry.proofs.Passed.{passed-reads}
 use Rattle.bodies.specs.declared.Written.{Written}
-use Rattle.bodies.specs.Lists.{readFlat, answerFor, Landed, DoneIs}
+use Rattle.bodies.specs.Lists.{readFlat, answerFor, Landed, DoneIs, RefusedIs}
 use Rattle.strings.specs.declared.Outcome.{Outcome}
 use Rattle.strings.specs.declared.Outcome.the-variants.{Accepted, Refused}
 use Rattle.strings.specs.Strings as made
@@ -109,6 +110,11 @@ refused-flat look script ns words text x e = go (sixes ns) refl
     go none q = rw (q, readNumbers, numbersBy) (ap (λ r. called r words text) (rw (q, readFlat) at e))
     go (some ls) q = rw (q, readNumbers, numbersBy, rw (q, readFlat) at e, roomed)
 
+pub refused-is : {look : Naming} {script ns words text rows words′ text′ rows′ : List ℕ} {x : Refusal} → RefusedIs look script ns words text rows words′ text′ rows′ x
+    → CallIs (readNumbers look script ns words text) words′ text′ (Refused x)
+refused-is {look} {script} {ns} {words} {text} {rows} {words′} {text′} {rows′} {x} R =
+    refused-call words text words text words′ text′ x (Refused x) _ (refused-flat look script ns words text x (R .reads)) refl refl (refl, R .words-are, R .text-is)
+
 -- A LIST THAT IS ACCEPTED, if there is room
 module _ {look : Naming} {within skip : ℕ} {script ns words text rows words₁ text₁ rows′ : List ℕ} {w : Written} (D : DoneIs look within skip script ns words text rows words₁ text₁ rows′ w) where
   abbrev there : o.Outcome Answer
@@ -136,3 +142,15 @@ module _ {look : Naming} {within skip : ℕ} {script ns words text rows words₁
       rw done-reads
       (accepted (answerFor script (listed ns) (D .items)) words text words₁ text₁ (w .records) (w .text) (D .landed) (Accepted (made.answerOf (listed ns) (w .records) (w .text) (w .chars)))
       (ap (roomFor (length words₁ / 8) (length text₁) (w .records) (w .text)) (sym (D .chars)) ∙ e) refl (λ i. 0 ∷ sortNumber (sortOf (listed ns)) ∷ uMark (listed ns) ∷ firstStart (listed ns) ∷ lastEnd 0 (listed ns) ∷ w .records ∷ w .text ∷ 0 ∷ D .chars i ∷ []))
+
+-- six numbers are those of their literal
+pub six-numbers : (ns : List ℕ) (l : Descriptor) → length ns ≡ 6 → described l ≡ literalAt ns 0 → six l ≡ ns
+unfolding six described literalAt
+six-numbers [] l h q = absurd (omega arith)
+six-numbers (a ∷ []) l h q = absurd (omega arith)
+six-numbers (a ∷ b ∷ []) l h q = absurd (omega arith)
+six-numbers (a ∷ b ∷ c ∷ []) l h q = absurd (omega arith)
+six-numbers (a ∷ b ∷ c ∷ d ∷ []) l h q = absurd (omega arith)
+six-numbers (a ∷ b ∷ c ∷ d ∷ e ∷ []) l h q = absurd (omega arith)
+six-numbers (a ∷ b ∷ c ∷ d ∷ e ∷ f ∷ g ∷ ns) l h q = absurd (omega arith)
+six-numbers (a ∷ b ∷ c ∷ d ∷ e ∷ f ∷ []) l h q = λ i. q i .kind ∷ q i .triple ∷ q i .offset ∷ q i .size ∷ q i .start ∷ q i .end ∷ []

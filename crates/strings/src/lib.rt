@@ -107,10 +107,25 @@ fn parse_by(
     }
 }
 
+// Reads a list of one literal from a script into both buffers.
+fn parse_one(script: &[u8], numbers: &[u32], words: &mut [u32], text: &mut [u8]) -> Outcome
+    requires { ⌜ length (now numbers) ≡ 6 ⌝ }
+    ensures { λ r. ⌜ CallIs (readNumbers heldNames (now (script .entry)) (now (numbers .entry)) (now (words .entry)) (now (text .entry))) (now (words .exit)) (now (text .exit)) r ⌝ }
+{
+    let l = entry::literal_at(numbers, 0);
+    match bodies::read_one(script, l, words, text) {
+        Reading::Refused(r) => Outcome::Refused(r),
+        Reading::Done(w) => finish(numbers, w, words, text),
+    }
+}
+
 // Reads the literals whose numbers are listed, six for each, from a script into both buffers.
 pub fn parse_strings(script: &[u8], numbers: &[u32], words: &mut [u32], text: &mut [u8]) -> Outcome
     ensures { λ r. ⌜ CallIs (readNumbers heldNames (now (script .entry)) (now (numbers .entry)) (now (words .entry)) (now (text .entry))) (now (words .exit)) (now (text .exit)) r ⌝ }
 {
+    if numbers.len() == 6 {
+        return parse_one(script, numbers, words, text);
+    }
     let file = [0u8; 0];
     let index = [0u32; 0];
     let mut rows = [0u32; 0];

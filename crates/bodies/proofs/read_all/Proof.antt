@@ -2,13 +2,9 @@
 use borrow.Author.Needs.{needs}
 use native.Mathlib.Omega.{arith}
 use mathlib.Core.Path.{refl}
-use Rattle.definition.specs.Rows.{allRows, allNumbers}
 use Rattle.entry.proofs.Passed.{passed}
 use Rattle.entry.specs.Answers.{refusalOf}
-use Rattle.bodies.proofs.CallLaws.{refused-flat, refused-all, refused-list, landed-list}
-use Rattle.bodies.proofs.RowCalls.{front-shown}
-use Rattle.bodies.proofs.RecordLaws.{closed-written}
-use Rattle.bodies.proofs.SinkLaws.{after-closed}
+use Rattle.bodies.proofs.CallLaws.{refused-flat, refused-all, refused-list, done-all}
 use Rattle.bodies.proofs.read_all.Statement.{statement}
 use Rattle.bodies.proofs.read_all.Tie as tie
 
@@ -26,10 +22,7 @@ read-all-spec =
     (λ c. search needs)  -- enum-known-r-2
     (λ c κs. search needs)  -- refuse-requires-2
     (λ c. search needs)  -- enum-known-sink
-    (λ c κs. search needs)  -- close-held-requires
-    (λ c. let R = rw (c .before .before .before .before .before .before .sink .given .1) at (c .before .before .before .before .before .before .before .before .before .before .before .before .before .before .read-list .ensures) in let h = after-closed (c .before .before .before .before .before .before .before .before .before .before .before .before .before .before .before .before .before .before .whole-of .result) (c .before .before .before .before .before .before .sink .given .0 .0) (c .before .before .before .close-held .result) _ _ (closed-written (c .before .before .before .before .before .before .before .before .before .before .before .before .before .before .before .before .before .before .whole-of .result) (c .before .before .before .before .before .before .sink .given .0 .0) (c .before .before .before .close-held .result) _ _ (R .0 .wrote .fits) (c .before .before .before .close-held .ensures)) in let s = R .0 .wrote .fits .small in omega (arith, h .count, h .used, s))  -- cast-t45
-    (λ c. let R = rw (c .before .before .before .before .before .before .before .sink .given .1) at (c .before .before .before .before .before .before .before .before .before .before .before .before .before .before .before .read-list .ensures) in let h = after-closed (c .before .before .before .before .before .before .before .before .before .before .before .before .before .before .before .before .before .before .before .whole-of .result) (c .before .before .before .before .before .before .before .sink .given .0 .0) (c .before .before .before .before .close-held .result) _ _ (closed-written (c .before .before .before .before .before .before .before .before .before .before .before .before .before .before .before .before .before .before .before .whole-of .result) (c .before .before .before .before .before .before .before .sink .given .0 .0) (c .before .before .before .before .close-held .result) _ _ (R .0 .wrote .fits) (c .before .before .before .before .close-held .ensures)) in let s = R .0 .wrote .fits .small in omega (arith, h .count, h .used, s))  -- cast-t46
-    (λ c. let R = rw (c .before .before .before .before .before .before .before .sink .given .1) at (c .before .before .before .before .before .before .before .before .before .before .before .before .before .before .before .read-list .ensures) in let s = R .0 .wrote .fits .small in omega (arith, R .1 .few, s))  -- cast-t47
+    (λ c κs. let R = rw (c .before .before .sink .given .1) at (c .before .before .before .before .before .before .before .before .before .before .read-list .ensures) in (R .0 .wrote .fits, R .1 .few))  -- written-of-requires
     (λ c. search needs)  -- same-length
     (λ c. search needs)  -- same-length-2
     (λ c. search needs)  -- same-length-3
@@ -41,4 +34,8 @@ read-all-spec =
     (λ c. search needs)  -- same-length-7
     (λ c. search needs)  -- same-length-8
     (λ c. search needs)  -- same-length-9
-    (λ c. let Q = passed (c .before .before .before .before .before .before .before .before .before .before .before .before .before .before .before .before .before .before .before .before .before .before .before .before .before .before .before .before .before .before .before .args .script .now) (c .before .before .before .before .before .before .before .before .before .before .before .before .before .before .before .before .before .before .before .before .before .before .before .before .before .before .before .before .before .before .before .args .numbers .now) (c .before .before .before .before .before .before .before .before .before .before .before .before .before .before .before .before .before .before .before .before .before .chars .given .0 .0) (rw (c .before .before .before .before .before .before .before .before .before .before .before .before .before .before .before .before .before .before .before .before .before .chars .given .1) at (c .before .before .before .before .before .before .before .before .before .before .before .before .before .before .before .before .before .before .before .before .before .before .before .check .ensures)) in let R = rw (c .before .before .before .before .before .before .before .sink .given .1) at (c .before .before .before .before .before .before .before .before .before .before .before .before .before .before .before .read-list .ensures) in record { passed = Q .0; items = R .0 .items; reads = R .0 .reads; landed = landed-list _ (c .before .before .before .before .before .before .before .before .before .before .before .before .before .before .before .before .before .before .before .before .before .before .before .before .before .before .before .before .before .before .before .args .script .now) (c .before .before .before .before .before .before .before .before .before .before .before .before .before .before .before .before .before .before .before .before .before .before .before .before .before .before .before .before .before .before .before .args .numbers .now) _ (Q .0) (c .before .before .before .before .before .before .before .before .before .before .before .before .before .before .before .before .before .before .before .whole-of .result) (c .before .before .before .before .before .before .before .before .before .before .before .before .before .before .before .before .before .before .before .before .before .before .before .before .before .before .before .before .before .before .before .args .words .now) (c .before .before .before .before .before .before .before .before .before .before .before .before .before .before .before .before .before .before .before .before .before .before .before .before .before .before .before .before .before .before .before .args .text .now) _ _ _ _ (c .before .before .before .before .close-held .result) (c .before .before .before .before .before .before .before .before .before .before .before .before .before .before .before .before .before .before .before .whole-of .ensures) (R .0) (closed-written (c .before .before .before .before .before .before .before .before .before .before .before .before .before .before .before .before .before .before .before .whole-of .result) (c .before .before .before .before .before .before .before .sink .given .0 .0) (c .before .before .before .before .close-held .result) _ _ (R .0 .wrote .fits) (c .before .before .before .before .close-held .ensures) .out); rows-are = front-shown (record { within = c .before .before .before .before .before .before .before .before .before .before .before .before .before .before .before .before .before .before .before .before .before .before .before .before .before .before .before .before .before .before .before .args .within; skip = c .before .before .before .before .before .before .before .before .before .before .before .before .before .before .before .before .before .before .before .before .before .before .before .before .before .before .before .before .before .before .before .args .skip }) _ _ (allNumbers (c .before .before .before .before .before .before .before .before .before .before .before .before .before .before .before .before .before .before .before .before .before .before .before .before .before .before .before .before .before .before .before .args .within) (allRows _ _ _)) (R .1 .wrote); whole = (c .before .before .before .before .before .before .before .before .before .before .before .before .before .before .before .before .before .before .before .whole-of .ensures); fields = R .1 .counted; chars = Q .1 }))  -- returns-3
+    (λ c.
+    let a = (c .before .before .before .before .before .before .before .before .before .before .before .before .before .before .before .before .before .before .before .before .before .before .before .before .before .before .before .before .before .args) in
+    let Q = passed (a .script .now) (a .numbers .now) (c .before .before .before .before .before .before .before .before .before .before .before .before .before .before .before .before .before .before .before .chars .given .0 .0) (rw (c .before .before .before .before .before .before .before .before .before .before .before .before .before .before .before .before .before .before .before .chars .given .1) at (c .before .before .before .before .before .before .before .before .before .before .before .before .before .before .before .before .before .before .before .before .before .check .ensures)) in
+    let R = rw (c .before .before .before .before .before .sink .given .1) at (c .before .before .before .before .before .before .before .before .before .before .before .before .before .read-list .ensures) in
+    done-all _ (a .within) (a .skip) (a .script .now) (a .numbers .now) (a .words .now) (a .text .now) (a .rows .now) _ _ _ _ (c .before .before .before .before .before .before .before .before .before .before .before .before .before .before .before .before .before .whole-of .result) (c .before .before .before .before .before .sink .given .0 .0) (c .before .before .before .before .before .sink .given .0 .1 .0) (c .before .before .before .before .before .before .before .before .before .before .before .before .before .before .before .before .before .before .before .chars .given .0 .0) (c .before .before .written-of .result) Q (c .before .before .before .before .before .before .before .before .before .before .before .before .before .before .before .before .before .whole-of .ensures) (R .0) (R .1) (c .before .before .written-of .ensures)))  -- returns-3
