@@ -1,30 +1,17 @@
 -- What the scan of blank text goes by. Assumes nothing.
-use mathlib.Core.Path.{_≡_, refl, sym, _∙_, ap, ap₂}
+use mathlib.Core.Path.{_≡_, refl, sym, _∙_, ap}
 use mathlib.Core.Bool.{true, false, _&&_}
-use mathlib.Core.List.{List, [], _∷_}
-use Prim.Native.Nat.{ℕ, zero, suc, _+_, _-_, _≤_, _<_}
+use mathlib.Core.List.{List}
+use Prim.Native.Nat.{ℕ, zero, suc, _+_, _≤_, _<_}
 use native.Mathlib.Omega.{arith}
-use lib.ListN.{length, take, drop, length-drop, drop-of-length-le, take-append-drop}
-use lib.Seq.{getD-drop, drop-drop, length-take-le}
+use lib.ListN.{length, drop, length-drop, drop-of-length-le}
+use lib.Seq.{getD-drop, drop-drop}
 use borrow.Author.Tests.{lt-leb}
 use Rattle.definition.specs.Chars.{byte, width, decoded, code, next}
 use Rattle.definition.specs.Matched.{blankAfter, blank}
 use Rattle.definition.specs.Body.{isBlank}
-use Rattle.definition.proofs.moves.CharLaws.{next-past}
-use Rattle.definition_formed.proofs.characters.WholeChars.{width-after}
-
-skip : (n : ℕ) (t : List ℕ) → blankAfter n t ≡ blank (drop n t)
-unfolding blankAfter
-skip zero t = refl
-skip (suc n) [] = refl
-skip (suc n) (b ∷ t) = skip n t
-
-blank-first : (t : List ℕ) → 0 < length t → blank t ≡ (isBlank (code t 0) && blank (drop (next t 0) t))
-unfolding blankAfter
-blank-first [] h = absurd (omega arith)
-blank-first (b ∷ t) h =
-    let e : next (b ∷ t) 0 ≡ suc (next (b ∷ t) 0 - 1) = omega (arith, next-past (b ∷ t) 0 h) in
-    ap (λ z. isBlank (code (b ∷ t) 0) && z) (skip (next (b ∷ t) 0 - 1) t ∙ ap (λ n. blank (drop n (b ∷ t))) (sym e))
+use Rattle.definition.proofs.moves.Adds.{blank-first}
+use Rattle.definition_formed.proofs.characters.WholeChars.{width-at}
 
 -- a character by itself
 module _ (s : List ℕ) (i : ℕ) (h : i < length s) where
@@ -39,22 +26,16 @@ module _ (s : List ℕ) (i : ℕ) (h : i < length s) where
   decoded-at (suc (suc (suc zero))) = rw (here 0 i (omega arith), here 1 (i + 1) refl, here 2 (i + 2) refl) refl
   decoded-at (suc (suc (suc (suc w)))) = rw (here 0 i (omega arith), here 1 (i + 1) refl, here 2 (i + 2) refl, here 3 (i + 3) refl) refl
 
-  width-at : width s i ≡ width (drop i s) 0
-  width-at =
-      let e : length (take i s) ≡ i = length-take-le i s (omega arith) in
-      let z : i ≡ length (take i s) + 0 = omega arith in
-      ap₂ width (sym (take-append-drop i s)) z ∙ width-after (take i s) (drop i s) 0
-
   some : 0 < length (drop i s)
   some = omega (arith, length-drop i s)
 
   code-at : code s i ≡ code (drop i s) 0
   unfolding code
-  code-at = rw (lt-leb (length s) i h, lt-leb (length (drop i s)) 0 some) (rw (decoded-at (width s i), width-at) refl)
+  code-at = rw (lt-leb (length s) i h, lt-leb (length (drop i s)) 0 some) (rw (decoded-at (width s i), width-at s i (omega arith)) refl)
 
   next-at : next s i ≡ i + next (drop i s) 0
   unfolding next
-  next-at = rw (lt-leb (length s) i h, lt-leb (length (drop i s)) 0 some, width-at) (omega arith)
+  next-at = rw (lt-leb (length s) i h, lt-leb (length (drop i s)) 0 some, width-at s i (omega arith)) (omega arith)
 
   pub blank-at : (k : ℕ) → next s i ≡ k → blank (drop i s) ≡ (isBlank (code s i) && blank (drop k s))
   blank-at k e = blank-first (drop i s) some ∙ rw (← code-at) (ap (λ t. isBlank (code s i) && blank t) (drop-drop (next (drop i s) 0) i s ∙ ap (λ n. drop n s) (sym next-at ∙ e)))

@@ -10,7 +10,7 @@ ghost use Rattle.formed.specs.Heads.{headAt};
 ghost use Rattle.formed.specs.Good.{recordsAt, followsIn, goodHead, goodFrom};
 
 // The lesser of two numbers.
-fn least(a: usize, b: usize) -> usize
+pub fn least(a: usize, b: usize) -> usize
     ensures { λ r. ⌜ r ≡ min a b ⌝ }
 {
     if a <= b { a } else { b }

@@ -3,11 +3,12 @@ use buffers::fill_words;
 use buffers::put_word;
 use formed::Head;
 use formed::is_formed;
+use formed::least;
 use formed::number_at;
 use formed::record_at;
 ghost use mathlib.Core.Path.{_≡_};
 ghost use mathlib.Core.List.{reverse};
-ghost use Prim.Native.Nat.{_+_, _-_, _*_, _≤_, _<_, min};
+ghost use Prim.Native.Nat.{_+_, _-_, _*_, _≤_, _<_};
 ghost use lib.ListN.{length};
 ghost use Rattle.definition.specs.Chars.{part, same};
 ghost use Rattle.definition.specs.Words.{owing};
@@ -42,13 +43,6 @@ pub(crate) struct Front {
 const FIRST_ILL_FORMED: u32 = 57;
 
 const SECOND_ILL_FORMED: u32 = 58;
-
-// The lesser of two numbers.
-fn least(a: usize, b: usize) -> usize
-    ensures { λ r. ⌜ r ≡ min a b ⌝ }
-{
-    if a <= b { a } else { b }
-}
 
 // What is owed after a record of so many parts.
 fn owing(owed: u64, parts: u32) -> u64

@@ -109,7 +109,8 @@ skip zero t = refl
 skip (suc n) [] = refl
 skip (suc n) (b ∷ t) = skip n t
 
-blank-first : (t : List ℕ) → 0 < length t → blank t ≡ (isBlank (code t 0) && blank (drop (next t 0) t))
+-- blank text by its first character
+pub blank-first : (t : List ℕ) → 0 < length t → blank t ≡ (isBlank (code t 0) && blank (drop (next t 0) t))
 unfolding blankAfter
 blank-first [] h = absurd (omega arith)
 blank-first (b ∷ t) h =

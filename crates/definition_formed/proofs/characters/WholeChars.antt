@@ -123,7 +123,7 @@ width-back c t n e l = row (following table37 (byte (c ++ t) 0)) refl
         rw (← byte-front c t 0 (omega arith), f, ← follow-front c t rs 1 (omega arith), g, width) z)
         (λ g. let z = rw (f, g, width) at e in absurd (omega arith))
 
-width-at : (s : List ℕ) (i : ℕ) → i ≤ length s → width s i ≡ width (drop i s) 0
+pub width-at : (s : List ℕ) (i : ℕ) → i ≤ length s → width s i ≡ width (drop i s) 0
 width-at s i h =
     let e : length (take i s) + 0 ≡ i = omega (arith, length-take-le i s h) in
     ap₂ width (sym (take-append-drop i s)) (sym e) ∙ width-after (take i s) (drop i s) 0
