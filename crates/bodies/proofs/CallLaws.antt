@@ -12,7 +12,7 @@ use Rattle.definition.specs.Entry.{Literal, sixes, Refusal, refusal}
 use Rattle.definition.specs.Escapes.{Naming}
 use Rattle.definition.specs.Reading.{refuses, readFrom, sortOf, allChars, answered, read, allWords, zeros}
 use Rattle.definition.specs.Rows.{allRows, allNumbers}
-use Rattle.definition.proofs.join.Laid.{laid-length}
+use Rattle.definition_laws.proofs.join.Laid.{laid-length}
 use Rattle.buffers.specs.Over.{over}
 use Rattle.entry.specs.Literals.{literals}
 use Rattle.entry.specs.declared.Refusal as entry

@@ -11,8 +11,8 @@ use Rattle.definition.specs.Escapes as d
 use Rattle.definition.specs.Body.{Signs, Piece, spec, direct, filled, fresh, Move, calls, textN, fieldN, specN, enough, firstEnd}
 use Rattle.definition.specs.Rows.{rowNumbers}
 use Rattle.definition.proofs.moves.CharLaws.{next-past, next-in}
-use Rattle.definition.proofs.moves.Steps.{firstPiece}
-use Rattle.definition.proofs.moves.Fuel.{first-in}
+use Rattle.definition_laws.proofs.moves.Steps.{firstPiece}
+use Rattle.definition_laws.proofs.moves.Fuel.{first-in}
 use Rattle.utf8.specs.declared.Cursor.{Cursor}
 use Rattle.buffers.specs.Over.{over}
 use Rattle.marks.specs.declared.Refusal.{Refusal}

@@ -11,10 +11,10 @@ use Rattle.definition.specs.Records.{Role, top, raw, inner, touching, covers, I
 use Rattle.definition.specs.Reading.{allWords}
 use Rattle.definition.specs.Numbers.{isBytes}
 use Rattle.definition.specs.Body.{Piece, literal, field, spec, direct}
-use Rattle.definition.proofs.moves.Moves.{weight}
+use Rattle.definition_laws.proofs.moves.Moves.{weight}
 use lib.Dec.{eqb}
-use Rattle.definition.proofs.join.Seam.{glue-false, glue-both}
-use Rattle.definition.proofs.join.Laid.{itemRole, items-assoc}
+use Rattle.definition_laws.proofs.join.Seam.{glue-false, glue-both}
+use Rattle.definition_laws.proofs.join.Laid.{itemRole, items-assoc}
 use Rattle.buffers.specs.Over.{over}
 use Rattle.buffers.proofs.Over.{over-nil, over-append, over-comm}
 use Rattle.bodies.specs.Emit.{Whole, Out, hold, heldWords, closed, put, emit, emits, reserved, filledIn, bit, Top, Tops}

@@ -9,7 +9,7 @@ use Rattle.definition.specs.Chars.{noCode, code, next}
 use Rattle.definition.specs.Escapes.{Naming, Fault, got, refused}
 use Rattle.definition.specs.Escapes as d
 use Rattle.definition.specs.Body.{Piece, Move, goes, stops, calls, ends, withEscape, TextCase, deep, opens, last, doubled, lone, textCase, textMove, fieldN, fresh, enough}
-use Rattle.definition.proofs.moves.Cases.{text-told}
+use Rattle.definition_laws.proofs.moves.Cases.{text-told}
 use Rattle.texts.specs.Text.{Leads, here, more, Halts, StopsBy, OpensBefore}
 use Rattle.utf8.specs.declared.Cursor.{Cursor}
 use Rattle.utf8.proofs.Steps.{Stepped}

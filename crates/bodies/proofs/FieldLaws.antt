@@ -16,7 +16,7 @@ use Rattle.definition.specs.Chars.{if_then_else_, _is_, byte, part, code, next,
 use Rattle.definition.specs.Escapes.{fault, detail}
 use Rattle.definition.specs.Body.{Bracket, wrong, Move, goes, stops, calls, ends, Field, withEquals, withBang, isBlank, add, documented, spaced, FieldCase, pair, converts, documents, formats, opener, closes, closer, quote, space, backslash, stray, plain, outside, fieldCase, caseOf, conversionMove, openMove, matching, closeMove, quoteMove, fieldMove}
 use Rattle.definition.proofs.moves.CharLaws.{cases, no, byte-in, code-is, next-ascii, next-past, next-in}
-use Rattle.definition.proofs.moves.Cases.{Tells, told}
+use Rattle.definition_laws.proofs.moves.Cases.{Tells, told}
 use Rattle.utf8.specs.declared.Cursor.{Cursor}
 use Rattle.utf8.proofs.Steps.{Stepped}
 use Rattle.buffers.specs.Over.{over}

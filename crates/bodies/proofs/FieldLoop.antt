@@ -14,8 +14,8 @@ use Rattle.definition.specs.Escapes.{Naming, fault, refused}
 use mathlib.Core.Option.{none}
 use Rattle.definition.specs.Body.{Move, goes, stops, calls, ends, Field, state, fresh, isBlank, plain, fieldCase, fieldMove, finished, fieldN, enough}
 use Rattle.definition.proofs.moves.CharLaws.{cases, inside-true, inside-none, code-ascii, next-ascii}
-use Rattle.definition.proofs.moves.Moves.{fieldSize, FieldAhead, field-ahead}
-use Rattle.definition.proofs.moves.Whole.{field-on, field-stop, field-end}
+use Rattle.definition_laws.proofs.moves.Moves.{fieldSize, FieldAhead, field-ahead}
+use Rattle.definition_laws.proofs.moves.Whole.{field-on, field-stop, field-end}
 use Rattle.buffers.specs.Over.{over}
 use Rattle.buffers.proofs.Over.{over-nil, over-append}
 use Rattle.marks.specs.declared.Refusal.{Refusal}

@@ -28,16 +28,16 @@ use Rattle.bodies.specs.Sinks.{wholeOf, outOf, isHeld, loadOf, Fits, Emi
 use Rattle.marks.specs.Marks.{converted, refusal, faultOf}
 use Rattle.bodies.specs.Fstring.{Room, Written, ReadIs, SpecIs, fieldEnd}
 use Rattle.bodies.proofs.Emitted.{spec-last, emits-append, put-free}
-use Rattle.definition.proofs.moves.Moves.{weight, fieldSize, filled-light, part-short}
+use Rattle.definition_laws.proofs.moves.Moves.{weight, fieldSize, filled-light, part-short}
 use Rattle.definition.proofs.moves.CharLaws.{next-past, next-in, next-from}
 use Rattle.texts.specs.Text.{tooLarge, StopsBy}
 use Rattle.texts.proofs.Laws.{Bounds, not-large, text-bounds, text-same}
 use Rattle.bodies.proofs.SinkLaws.{emits-both, grown}
-use Rattle.definition.proofs.moves.Steps.{firstPiece}
-use Rattle.definition.proofs.moves.Whole.{text-end, text-field, text-field-stop, field-end, field-spec, field-spec-stop, spec-text, spec-end}
-use Rattle.definition.proofs.moves.Fuel.{Reading, text-reading, field-reading, spec-reading, first-in}
-use Rattle.definition.proofs.moves.Depths.{spec-apart}
-use Rattle.definition.proofs.moves.Prefix.{following, text-prefix}
+use Rattle.definition_laws.proofs.moves.Steps.{firstPiece}
+use Rattle.definition_laws.proofs.moves.Whole.{text-end, text-field, text-field-stop, field-end, field-spec, field-spec-stop, spec-text, spec-end}
+use Rattle.definition_laws.proofs.moves.Fuel.{Reading, text-reading, field-reading, spec-reading, first-in}
+use Rattle.definition_laws.proofs.moves.Depths.{spec-apart}
+use Rattle.definition_laws.proofs.moves.Prefix.{following, text-prefix}
 use Rattle.bodies.specs.FieldTurns.{isMarked, headState, HeadIs, EndedIs}
 
 part-length : (s : List ℕ) (i j : ℕ) → j ≤ length s → length (part s i j) ≡ j - i

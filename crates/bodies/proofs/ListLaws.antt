@@ -16,9 +16,9 @@ use Rattle.definition.specs.Records.{Item, itemOf}
 use Rattle.definition.specs.Entry.{opening, placeOf, body, total}
 use Rattle.definition.specs.Reading.{accepts, refuses, andThen, refusalIn, readLiteral, readFrom, answered}
 use Rattle.definition.specs.Reading as o
-use Rattle.definition.proofs.moves.Counted.{counted-small}
-use Rattle.definition.proofs.moves.Moves.{weight, Names}
-use Rattle.definition.proofs.moves.Fuel.{Reading, string-reading, string-last, body-reading}
+use Rattle.definition_laws.proofs.moves.Counted.{counted-small}
+use Rattle.definition_laws.proofs.moves.Moves.{weight, Names}
+use Rattle.definition_laws.proofs.moves.Fuel.{Reading, string-reading, string-last, body-reading}
 use Rattle.utf8.specs.declared.Count.{Count}
 use Rattle.utf8.specs.Steps.{countOf}
 use Rattle.buffers.specs.Over.{over}

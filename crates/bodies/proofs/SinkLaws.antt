@@ -20,7 +20,7 @@ use Rattle.bodies.specs.Emit as e
 use Rattle.bodies.specs.Emit.{Out, hold, put, closed, emit, emits}
 use Rattle.bodies.specs.Sinks.{wholeOf, outOf, isHeld, loadOf, Fits, Emits}
 use Rattle.bodies.proofs.Emitted.{emits-append, emit-used, load, load-closed, load-emits, ordered-closed, ordered-emits, direct-light}
-use Rattle.definition.proofs.moves.Moves.{weight}
+use Rattle.definition_laws.proofs.moves.Moves.{weight}
 
 -- what is held becomes a record: the words and counters before and after
 pub record Closes (w : Whole) (words words′ : List ℕ) (k r : Sink) : Type 0 where

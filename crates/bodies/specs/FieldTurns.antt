@@ -9,7 +9,7 @@ use Rattle.definition.specs.Numbers.{emptyExpression}
 use Rattle.definition.specs.Chars.{if_then_else_, byte, part, next}
 use Rattle.definition.specs.Escapes.{Naming, fault, refused}
 use Rattle.definition.specs.Body.{Bracket, signs, Move, goes, stops, calls, ends, Field, state, fresh, fieldMove, fieldN, enough}
-use Rattle.definition.proofs.moves.Moves.{fieldSize}
+use Rattle.definition_laws.proofs.moves.Moves.{fieldSize}
 use Rattle.buffers.specs.Over.{over}
 use Rattle.utf8.specs.declared.Cursor.{Cursor}
 use Rattle.utf8.proofs.Steps.{Stepped}

@@ -12,12 +12,12 @@ use lib.ListN.{length, drop, getD, drop-of-length-le}
 use lib.Seq.{drop-cons}
 use Rattle.definition.specs.Chars.{if_then_else_, byte, _to_, inside, wellFormed}
 use Rattle.definition_cuts.specs.Tokens.{tokenEnd}
-use Rattle.definition_cuts.specs.Standing.{octalAt}
+use Rattle.definition_cuts_laws.specs.Standing.{octalAt}
 use Rattle.cuts.specs.OnePass.{Cursor, inToken, checkAt}
 use Rattle.cuts.proofs.OnePassSteps.{check-end, check-refused, check-within, check-on}
 use Rattle.definition.proofs.moves.CharLaws.{next-past}
-use Rattle.definition_cuts.proofs.tokens.FormedPaths.{Formed, Head, formed-front, formed-head, formed-at, all-formed}
-use Rattle.definition_cuts.proofs.tokens.TokenMarks.{token-formed}
+use Rattle.definition_cuts_laws.proofs.tokens.FormedPaths.{Formed, Head, formed-front, formed-head, formed-at, all-formed}
+use Rattle.definition_cuts_laws.proofs.tokens.TokenMarks.{token-formed}
 use Rattle.plain.specs.Plain.{plainEnd}
 use Rattle.cuts.proofs.PlainRuns.{Run, no-run, run-found, run-later, Clear, check-run, check-cut, check-not, check-tail}
 use Rattle.cuts.specs.declared.Passing.the-variants.{At, Inside}

@@ -8,7 +8,7 @@ use borrow.Author.Tests.{eqb-true, eqb-false, eq-eqb, ne-eqb}
 use lib.Dec.{eqb}
 use lib.ListN.{length, getD, List·getD-eq-default}
 use Rattle.definition.specs.Chars.{_is_, byte, code, next}
-use Rattle.definition_cuts.specs.Standing.{octalAt}
+use Rattle.definition_cuts_laws.specs.Standing.{octalAt}
 use Rattle.definition.proofs.moves.CharLaws.{cases, byte-is, code-is, next-ascii}
 
 digits-by-byte : (s : List ℕ) (x : ℕ) → (code s x is "01234567") ≡ (byte s x is "01234567")

@@ -11,14 +11,14 @@ use lib.ListN.{length}
 use Rattle.definition.specs.Chars.{if_then_else_, atEnd, wellFormed}
 use Rattle.definition_cuts.specs.Cuts.{rise, pieces, allShort, checked}
 use Rattle.definition_cuts.specs.Tokens.{tokenEnd, withFirst, boundariesN, boundaries}
-use Rattle.definition_cuts.specs.Standing.{Standing, between, amongDigits, within, octalAt, standingN, standing, noneWithin, allBetween, isSome, checkedByTokens}
+use Rattle.definition_cuts_laws.specs.Standing.{Standing, between, amongDigits, within, octalAt, standingN, standing, noneWithin, allBetween, isSome, checkedByTokens}
 use Rattle.definition_cuts.specs.Plan.{planFrom, plan}
 use Rattle.cuts.specs.OnePass.{planLoop, planned, Cursor, inToken, checkLoop, numberOf, checkedOnce}
 use Rattle.definition.proofs.moves.CharLaws.{cases}
-use Rattle.definition.proofs.moves.Cases.{and-both}
-use Rattle.definition_cuts.proofs.tokens.TokenMarks.{token-on, marks-of}
-use Rattle.definition_cuts.proofs.plan.PlanLaw.{first-mark}
-use Rattle.definition_cuts.proofs.cuts.NumberLaw.{number-by-tokens}
+use Rattle.definition_laws.proofs.moves.Cases.{and-both}
+use Rattle.definition_cuts_laws.proofs.tokens.TokenMarks.{token-on, marks-of}
+use Rattle.definition_cuts_laws.proofs.plan.PlanLaw.{first-mark}
+use Rattle.definition_cuts_laws.proofs.cuts.NumberLaw.{number-by-tokens}
 
 -- THE PLAN
 -- a plan over boundaries, if there are any

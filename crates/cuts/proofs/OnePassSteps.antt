@@ -12,7 +12,7 @@ use Rattle.definition.specs.Chars.{atEnd}
 use Rattle.definition_cuts.specs.Tokens.{tokenEnd, withFirst}
 use Rattle.cuts.specs.OnePass.{planLoop, Cursor, inToken, checkLoop, planAt, checkAt}
 use Rattle.definition.proofs.moves.CharLaws.{cases}
-use Rattle.definition_cuts.proofs.tokens.TokenMarks.{token-on}
+use Rattle.definition_cuts_laws.proofs.tokens.TokenMarks.{token-on}
 
 -- THE PLAN at a boundary i, in a piece that began at `start`
 plan-fuel : (s : List ℕ) (limit n m start i : ℕ) → i ≤ length s → length s < i + n → length s < i + m → planLoop n s limit start i ≡ planLoop m s limit start i

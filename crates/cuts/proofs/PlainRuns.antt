@@ -11,9 +11,9 @@ use lib.ListN.{length, List·getD-eq-default}
 use Rattle.definition.specs.Chars.{if_then_else_, byte, width, code, next, _to_, inside}
 use Rattle.definition.specs.Body.{textCase, textMove}
 use Rattle.definition_cuts.specs.Tokens.{moveEnd, staying, tokenEnd, withFirst}
-use Rattle.definition_cuts.specs.Standing.{octalAt}
+use Rattle.definition_cuts_laws.specs.Standing.{octalAt}
 use Rattle.definition.proofs.moves.CharLaws.{cases, no, inside-not, next-past, code-is, first-fails, first-passes}
-use Rattle.definition_cuts.proofs.tokens.FormedPaths.{Formed, done, char-on, Head, formed-later, formed-front, formed-next, formed-head, formed-at, next-wide}
+use Rattle.definition_cuts_laws.proofs.tokens.FormedPaths.{Formed, done, char-on, Head, formed-later, formed-front, formed-next, formed-head, formed-at, next-wide}
 use Rattle.marks.specs.Marks.{special}
 use Rattle.plain.specs.Plain.{plainEnd, AllPlain}
 use Rattle.plain.proofs.Runs.{plain, plain-told, end-in, end-later}

@@ -12,8 +12,8 @@ use Rattle.cuts.specs.OnePass.{planAt}
 use Rattle.cuts.proofs.OnePassSteps.{plan-end, plan-refused, plan-on, plan-cut, plan-none}
 use Rattle.buffers.specs.Over.{over}
 use Rattle.buffers.proofs.Over.{over-nil, over-append, length-over}
-use Rattle.definition_cuts.proofs.tokens.FormedPaths.{Formed, formed-front, formed-head, formed-at, all-formed}
-use Rattle.definition_cuts.proofs.tokens.TokenMarks.{token-formed}
+use Rattle.definition_cuts_laws.proofs.tokens.FormedPaths.{Formed, formed-front, formed-head, formed-at, all-formed}
+use Rattle.definition_cuts_laws.proofs.tokens.TokenMarks.{token-formed}
 use Rattle.plain.specs.Plain.{plainEnd}
 use Rattle.cuts.proofs.PlainRuns.{Run, no-run, run-found, run-later, start-path, plan-run, plan-run-cut, plan-run-none}
 use Rattle.cuts.specs.declared.Made.the-variants.{Cuts, Nothing}

@@ -17,11 +17,11 @@ use Rattle.definition_cuts.specs.Cuts.{rise, pieces, allShort, allRead, isRead,
 use Rattle.definition_cuts.specs.Plan.{plan, roomedPlan, planAfter, planInto, planNumbers}
 use Rattle.cuts.specs.OnePass.{planLoop, planned, checkLoop, numberOf, checkedOnce, planAt, checkAt}
 use Rattle.definition.proofs.moves.CharLaws.{cases}
-use Rattle.definition_cuts.proofs.tokens.PieceLaws.{piece-length}
-use Rattle.definition_cuts.proofs.cuts.AloneLaws.{accepted-fit}
-use Rattle.definition_cuts.proofs.cuts.CutsLaw.{last-piece, all-short}
-use Rattle.definition_cuts.proofs.cuts.NumberLaw.{longer-differs}
-use Rattle.definition_cuts.proofs.cuts.BoundaryLaw.{plan-room}
+use Rattle.definition_cuts_laws.proofs.tokens.PieceLaws.{piece-length}
+use Rattle.definition_cuts_laws.proofs.cuts.AloneLaws.{accepted-fit}
+use Rattle.definition_cuts_laws.proofs.cuts.CutsLaw.{last-piece, all-short}
+use Rattle.definition_cuts_laws.proofs.cuts.NumberLaw.{longer-differs}
+use Rattle.definition_cuts_laws.proofs.cuts.BoundaryLaw.{plan-room}
 use Rattle.cuts.proofs.OnePassLaw.{planned-is, checked-once}
 use Rattle.buffers.specs.Over.{over}
 use Rattle.buffers.proofs.Over.{over-front, length-over}

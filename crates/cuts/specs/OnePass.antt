@@ -9,7 +9,7 @@ use Rattle.definition.specs.Numbers.{pieceRefused, readingsDiffer}
 use Rattle.definition.specs.Chars.{if_then_else_, atEnd, wellFormed}
 use Rattle.definition_cuts.specs.Cuts.{pieces, allShort}
 use Rattle.definition_cuts.specs.Tokens.{tokenEnd, withFirst}
-use Rattle.definition_cuts.specs.Standing.{octalAt}
+use Rattle.definition_cuts_laws.specs.Standing.{octalAt}
 
 -- THE PLAN: a piece began at `start`, and tokens were read up to i; n bounds the tokens
 unfoldable pub planLoop : ℕ → (s : List ℕ) (limit start i : ℕ) → Option (List ℕ)

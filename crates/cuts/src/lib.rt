@@ -14,7 +14,7 @@ ghost use Rattle.definition.specs.Chars.{byte, _to_, inside, wellFormed};
 ghost use Rattle.definition.specs.Escapes.{heldNames};
 ghost use Rattle.definition.specs.Reading.{readAlone};
 ghost use Rattle.definition_cuts.specs.Cuts.{rise, pieces, allShort, allRead, isRead, checked};
-ghost use Rattle.definition_cuts.specs.Standing.{octalAt};
+ghost use Rattle.definition_cuts_laws.specs.Standing.{octalAt};
 ghost use Rattle.definition_cuts.specs.Plan.{planInto};
 ghost use Rattle.cuts.specs.OnePass.{planAt, inToken, checkAt};
 ghost use Rattle.cuts.specs.Answers.{StartIs, PlanIs, PassIs, VerdictIs, PlannedIs};

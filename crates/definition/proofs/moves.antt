@@ -1,11 +1,1 @@
 pub mod CharLaws
-pub mod Counted
-pub mod Adds
-pub mod Cases
-pub mod OpenBrackets
-pub mod Moves
-pub mod Steps
-pub mod Fuel
-pub mod Whole
-pub mod Depths
-pub mod Prefix

@@ -1,9 +1,2 @@
-pub mod Outcomes
 pub mod Orders
-pub mod Leaving
-pub mod Placed
-pub mod Room
-pub mod Tight
-pub mod Lent
-pub mod ViewLaw
 pub mod Limits

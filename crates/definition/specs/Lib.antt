@@ -10,6 +10,5 @@ pub mod Rows
 pub mod Join
 pub mod View
 pub mod Matched
-pub mod IsMatched
 pub mod Words
 pub mod Left

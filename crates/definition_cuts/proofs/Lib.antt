@@ -1,5 +1,1 @@
 pub mod computed
-pub mod windows
-pub mod tokens
-pub mod cuts
-pub mod plan

@@ -1,5 +1,3 @@
 pub mod Cuts
-pub mod IsPlan
 pub mod Tokens
 pub mod Plan
-pub mod Standing

@@ -19,11 +19,11 @@ use Rattle.definition_names.specs.Names.{Entry, named, twice, indexOf, i
 use Rattle.definition_scripts.specs.Listing.{tooLong as longScript, wrongNames, fieldsOf, fieldsCall, fieldsNumbers}
 use Rattle.definition_names.specs.NamedReading.{ofNames, readNamed, namedInto, namedNumbers, fieldsNamedOf, fieldsNamedInto}
 use Rattle.definition.proofs.moves.CharLaws.{cases}
-use Rattle.definition.proofs.outcomes.Outcomes.{Listed, Sane, read-sane, numbers-sane}
-use Rattle.definition.proofs.outcomes.Leaving.{left-zeros, left-front, Nonzero, listed-nonzero, read-nonzero, numbers-nonzero, CallLeft, refused-left, called-left}
-use Rattle.definition.proofs.formed.Held.{held, Held, numbers-held, Alike, one-outcome}
-use Rattle.definition.proofs.formed.Marked.{Marked, numbers-marked}
-use Rattle.definition_scripts.proofs.listing.ListingOne.{fields-sane, FieldsLeft, long-left, wrong-left, listing-left}
+use Rattle.definition_laws.proofs.outcomes.Outcomes.{Listed, Sane, read-sane, numbers-sane}
+use Rattle.definition_laws.proofs.outcomes.Leaving.{left-zeros, left-front, Nonzero, listed-nonzero, read-nonzero, numbers-nonzero, CallLeft, refused-left, called-left}
+use Rattle.definition_laws.proofs.formed.Held.{held, Held, numbers-held, Alike, one-outcome}
+use Rattle.definition_laws.proofs.formed.Marked.{Marked, numbers-marked}
+use Rattle.definition_scripts_laws.proofs.listing.ListingOne.{fields-sane, FieldsLeft, long-left, wrong-left, listing-left}
 use Rattle.definition_names.proofs.NamedShown.{ofCheck, Plain, check-plain, of-plain, named-entered, named-wrong, named-read, named-numbers}
 
 -- an entry check's refusal stands in the table

@@ -20,10 +20,10 @@ use Rattle.definition_names.specs.Names.{Entry, named, lookupFile, twice
 use Rattle.definition_scripts.specs.Listing.{tooLong as longScript, wrongNames, fieldsOf, fieldsCall, fieldsInto, fieldsNumbers}
 use Rattle.definition_names.specs.NamedReading.{ofNames, readNamed, namedInto, namedNumbers, fieldsNamedOf, fieldsNamedInto}
 use Rattle.definition.proofs.moves.CharLaws.{cases}
-use Rattle.definition.proofs.join.EntrySplit.{entry-left, entry-right}
-use Rattle.definition.proofs.join.JoinLaw.{read-join, called-join, sixes-append}
-use Rattle.definition_scripts.proofs.listing.CompleteLaw.{CompleteCall, fields-complete}
-use Rattle.definition_scripts.proofs.listing.ListingOne.{Told, one-list, fields-told}
+use Rattle.definition_laws.proofs.join.EntrySplit.{entry-left, entry-right}
+use Rattle.definition_laws.proofs.join.JoinLaw.{read-join, called-join, sixes-append}
+use Rattle.definition_scripts_laws.proofs.listing.CompleteLaw.{CompleteCall, fields-complete}
+use Rattle.definition_scripts_laws.proofs.listing.ListingOne.{Told, one-list, fields-told}
 use Rattle.definition_names.proofs.NamesShown.{searched-checked}
 
 -- WHAT THE CHECK REFUSES is 60, 61 or 63, and nothing else

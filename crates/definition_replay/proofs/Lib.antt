@@ -1,5 +1,1 @@
 pub mod computed
-pub mod spec
-pub mod integers
-pub mod trace
-pub mod replay

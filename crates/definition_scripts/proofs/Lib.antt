@@ -1,4 +1,1 @@
-pub mod literals
-pub mod cut
-pub mod listing
 pub mod computed

@@ -4,4 +4,3 @@ pub mod CutListShown
 pub mod ListingShown
 pub mod LiteralRows
 pub mod LiteralsByPython
-pub mod LongScripts

@@ -6,4 +6,3 @@ pub mod Cut
 pub mod Keywords
 pub mod Listing
 pub mod CutList
-pub mod Complete

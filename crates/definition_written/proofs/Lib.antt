@@ -1,3 +1,1 @@
 pub mod computed
-pub mod readback
-pub mod passes

@@ -11,8 +11,8 @@ use lib.ListN.{length, take}
 use Rattle.definition.specs.Entry.{Literal, sixes, oneMore, body, Refusal, firstBad, total, anyOf, firstStart}
 use Rattle.definition.specs.Counts.{counted}
 use Rattle.definition.specs.Reading.{allChars, lastEnd}
-use Rattle.definition.proofs.moves.Moves.{part-short}
-use Rattle.definition.proofs.moves.Counted.{counted-small}
+use Rattle.definition_laws.proofs.moves.Moves.{part-short}
+use Rattle.definition_laws.proofs.moves.Counted.{counted-small}
 use Rattle.entry.specs.Literals.{literalAt, literals}
 
 -- the end before literal i

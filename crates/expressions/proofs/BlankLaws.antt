@@ -10,7 +10,7 @@ use borrow.Author.Tests.{lt-leb}
 use Rattle.definition.specs.Chars.{byte, width, decoded, code, next}
 use Rattle.definition.specs.Matched.{blankAfter, blank}
 use Rattle.definition.specs.Body.{isBlank}
-use Rattle.definition.proofs.moves.Adds.{blank-first}
+use Rattle.definition_laws.proofs.moves.Adds.{blank-first}
 use Rattle.definition_formed.proofs.characters.WholeChars.{width-at}
 
 -- a character by itself

@@ -13,7 +13,7 @@ use Rattle.definition.specs.Chars.{if_then_else_, _is_}
 use Rattle.definition_replay.specs.Spec.{nothing, partsOf, behindType, specOf}
 use Rattle.definition_replay.specs.Integers.{decimal, decimalFrom, baseOf, outsideOf, formIn, formOf}
 use Rattle.definition_replay.specs.Replay.{made, stopped, column, formMade}
-use Rattle.definition_replay.proofs.integers.WrittenLaws.{base-big}
+use Rattle.definition_replay_laws.proofs.integers.WrittenLaws.{base-big}
 use Rattle.definition_replay.specs.SpecNumbers.{toldOf}
 use Rattle.integers.specs.Written.{formed}
 use Rattle.formats.specs.declared.Parts.{Parts}

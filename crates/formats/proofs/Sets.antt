@@ -14,8 +14,8 @@ use borrow.Author.Tests.{ne-eqb, eq-eqb, leb-true}
 use Rattle.definition.specs.Chars.{_is_, byte, Range, inside, table37, following, follow, width, atEnd, code, next}
 use Rattle.definition_replay.specs.Spec.{aligns, signs, groupings, types, partsOf, first, past, isDigit, front, behind, fillSize, fillCode, pointed, pastPointed}
 use Rattle.definition.proofs.moves.CharLaws.{cases, byte-is}
-use Rattle.definition_replay.proofs.spec.SpecLaws.{both-true}
-use Rattle.definition_replay.proofs.spec.SpecSteps.{first-there, first-not, first-end}
+use Rattle.definition_replay_laws.proofs.spec.SpecLaws.{both-true}
+use Rattle.definition_replay_laws.proofs.spec.SpecSteps.{first-there, first-not, first-end}
 use Rattle.definition_replay.specs.SpecNumbers.{toldOf}
 use Rattle.formats.specs.Parts.{setOf, pointTold, PartsIs}
 

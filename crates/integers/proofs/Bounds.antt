@@ -9,8 +9,8 @@ use lib.ListN.{length, replicate, length-append}
 use borrow.Author.Tests.{ltb-true, ltb-false}
 use Rattle.definition_replay.specs.Integers.{digits, baseOf, figure, groupSize, figures, zeroed}
 use Rattle.definition.proofs.moves.CharLaws.{cases}
-use Rattle.definition_replay.proofs.integers.IntegerSteps.{digits-last, digits-more}
-use Rattle.definition_replay.proofs.integers.WrittenLaws.{Zeroed, zeroed-is, zeros-snoc}
+use Rattle.definition_replay_laws.proofs.integers.IntegerSteps.{digits-last, digits-more}
+use Rattle.definition_replay_laws.proofs.integers.WrittenLaws.{Zeroed, zeroed-is, zeros-snoc}
 use Rattle.integers.specs.Written.{oneMore, comeAfter, comesAfter, restOf, bare, numeralUnits}
 use Rattle.integers.proofs.Placed.{more-two, rest-none, rest-more, rest-snoc, figures-rest}
 

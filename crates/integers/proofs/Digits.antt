@@ -11,7 +11,7 @@ use Rattle.definition.specs.Chars.{byte}
 use Rattle.definition_replay.specs.Spec.{isDigit, front, behind}
 use Rattle.definition_replay.specs.Integers.{decimalFrom}
 use Rattle.definition.proofs.moves.CharLaws.{byte-is, cases}
-use Rattle.definition_replay.proofs.spec.SpecSteps.{front-there, front-not, front-end}
+use Rattle.definition_replay_laws.proofs.spec.SpecSteps.{front-there, front-not, front-end}
 use Rattle.definition_replay.specs.SpecNumbers.{toldOf}
 use Rattle.integers.specs.Told.{moreTold, toldFrom, moreValue, toldAt}
 

@@ -8,8 +8,8 @@ use lib.Dec.{eqb, leb}
 use lib.ListN.{length}
 use borrow.Author.Tests.{eq-eqb, ne-eqb, le-leb, lt-leb, leb-true, not-true}
 use Rattle.definition_replay.specs.Integers.{Integer, baseOf, written}
-use Rattle.definition_replay.proofs.spec.SpecLaws.{both-true}
-use Rattle.definition_replay.proofs.integers.WrittenLaws.{base-big}
+use Rattle.definition_replay_laws.proofs.spec.SpecLaws.{both-true}
+use Rattle.definition_replay_laws.proofs.integers.WrittenLaws.{base-big}
 use Rattle.buffers.specs.Over.{over}
 use Rattle.buffers.proofs.Over.{over-nil}
 use Rattle.integers.specs.declared.Shape.{Shape}

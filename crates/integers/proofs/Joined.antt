@@ -10,8 +10,8 @@ use borrow.Author.Tests.{ne-eqb, eq-eqb, leb-true, leb-false}
 use Rattle.definition.specs.Chars.{same, _is_}
 use Rattle.definition_replay.specs.Integers.{Form, digits, baseOf, groupSize, figures, zeroed, signOf, prefixOf, headOf, zeroPads, leastOf, numeralOf, copies, padOf, leftOf, innerOf, written}
 use Rattle.definition.proofs.moves.CharLaws.{cases}
-use Rattle.definition_replay.proofs.integers.IntegerSteps.{zeroed-done, zeroed-more}
-use Rattle.definition_replay.proofs.integers.WrittenLaws.{fills-in}
+use Rattle.definition_replay_laws.proofs.integers.IntegerSteps.{zeroed-done, zeroed-more}
+use Rattle.definition_replay_laws.proofs.integers.WrittenLaws.{fills-in}
 use Rattle.buffers.specs.Over.{over}
 use Rattle.buffers.proofs.Over.{over-nil, over-append, over-front, length-over}
 use Rattle.integers.specs.declared.Shape.{Shape}

@@ -11,7 +11,7 @@ use lib.Seq.{take-suc}
 use borrow.Author.Tests.{ne-eqb, eq-eqb, lt-ltb, le-ltb, le-leb, lt-leb, leb-true, leb-false}
 use Rattle.definition.specs.Chars.{if_then_else_}
 use Rattle.definition_replay.specs.Integers.{digits, baseOf, figure, grouped, groupSize, figures, zeroed, copies}
-use Rattle.definition_replay.proofs.integers.IntegerSteps.{digits-last, digits-more, zeroed-done, zeroed-more}
+use Rattle.definition_replay_laws.proofs.integers.IntegerSteps.{digits-last, digits-more, zeroed-done, zeroed-more}
 use Rattle.definition.proofs.moves.CharLaws.{cases}
 use Rattle.buffers.specs.Over.{over}
 use Rattle.buffers.proofs.Over.{over-nil, over-append}

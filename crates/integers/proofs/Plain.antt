@@ -9,8 +9,8 @@ use lib.Dec.{eqb, ltb}
 use lib.ListN.{length, replicate, length-append, length-map, length-replicate, length-reverse}
 use borrow.Author.Tests.{eq-eqb, eqb-true, eqb-false, ltb-true, ltb-false, not-true}
 use Rattle.definition_replay.specs.Integers.{Integer, digits, baseOf, figure, figures, zeroed, copies, leftOf, innerOf, written}
-use Rattle.definition_replay.proofs.integers.IntegerSteps.{digits-last, digits-more}
-use Rattle.definition_replay.proofs.integers.WrittenLaws.{base-big, Zeroed, zeroed-is}
+use Rattle.definition_replay_laws.proofs.integers.IntegerSteps.{digits-last, digits-more}
+use Rattle.definition_replay_laws.proofs.integers.WrittenLaws.{base-big, Zeroed, zeroed-is}
 use Rattle.definition.proofs.moves.CharLaws.{cases, no}
 use Rattle.buffers.specs.Over.{over}
 use Rattle.buffers.proofs.Over.{over-append, over-comm}

@@ -11,8 +11,8 @@ use Rattle.definition.specs.Escapes.{heldNames}
 use Rattle.definition.specs.Records.{Answer}
 use Rattle.definition.specs.Entry.{Literal, sixes, oneMore, total}
 use Rattle.definition.specs.Reading.{Outcome, accepts, refuses, read, numbers, wordsAfter, textAfter, called, readNumbers}
-use Rattle.definition.proofs.outcomes.Outcomes.{Sane, read-sane}
-use Rattle.definition.proofs.outcomes.Lent.{read-needs, numbers-lent}
+use Rattle.definition_laws.proofs.outcomes.Outcomes.{Sane, read-sane}
+use Rattle.definition_laws.proofs.outcomes.Lent.{read-needs, numbers-lent}
 use Rattle.entry.specs.declared.Refusal.{Refusal as Why}
 use Rattle.entry.proofs.Checks.{clash}
 use Rattle.strings.specs.declared.Answer.{Answer as Given}

@@ -12,8 +12,8 @@ use lib.Seq.{getD-append-add}
 use Rattle.definition.specs.Chars.{if_then_else_, ascii, part}
 use Rattle.definition.specs.Records.{Record, wordsOf}
 use Rattle.definition.specs.Reading.{allWords}
-use Rattle.definition.proofs.moves.Moves.{part-short}
-use Rattle.definition.proofs.outcomes.Outcomes.{Gapless, sizes, gapless-sum}
+use Rattle.definition_laws.proofs.moves.Moves.{part-short}
+use Rattle.definition_laws.proofs.outcomes.Outcomes.{Gapless, sizes, gapless-sum}
 use Rattle.definition_lines.specs.Lines.{literalLine, fieldLine, specLine, refusalLine, lineOf, recordLine, recordLines}
 use Rattle.lines.specs.Written.{Adds, Fits, placeLine, placeLines}
 use Rattle.lines.proofs.Texts.{decimal-short, escaped-short}

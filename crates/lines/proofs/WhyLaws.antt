@@ -21,10 +21,10 @@ use Rattle.definition.specs.Rows.{reason, Row, rowNumbers, allRows, allNumbers,
 use Rattle.definition_lines.specs.Lines.{refusalLine, oneLiteral}
 use Rattle.definition_lines.specs.Why.{writtenEnd, reasonEnd, whyLine, whyHere, rowsLeft, whyLines, outcomeWhy, bodyWhy}
 use Rattle.definition.proofs.moves.CharLaws.{cases}
-use Rattle.definition.proofs.rows.FieldRows.{list-fields}
-use Rattle.definition.proofs.moves.Moves.{part-short}
-use Rattle.definition.proofs.outcomes.Outcomes.{Sane, read-sane, sizes}
-use Rattle.definition.proofs.outcomes.Lent.{read-needs}
+use Rattle.definition_laws.proofs.rows.FieldRows.{list-fields}
+use Rattle.definition_laws.proofs.moves.Moves.{part-short}
+use Rattle.definition_laws.proofs.outcomes.Outcomes.{Sane, read-sane, sizes}
+use Rattle.definition_laws.proofs.outcomes.Lent.{read-needs}
 use Rattle.entry.specs.declared.Refusal.{Refusal as Why}
 use Rattle.entry.proofs.Checks.{clash}
 use Rattle.strings.specs.declared.Answer.{Answer as Given}

@@ -20,11 +20,11 @@ use Rattle.definition_scripts.specs.IsCut.{reachesEnd, breaksOff}
 use Rattle.definition_scripts.specs.Cut.{Cut, cut, firstCut, cutFrom, cutPart}
 use Rattle.definition_scripts.specs.Keywords.{wordStart, mayStand}
 use Rattle.definition_scripts.specs.Listing.{ListRow, ofField, ofRefusal, tenOf, tens, readRows, unknownRow, ownRows, allRead, brokenRow, cutRows, sourceEnd, otherwise, otherwiseRow, sourceRows, rowsOf, refusalsIn, least}
-use Rattle.definition_scripts.proofs.cut.PartLaws.{cut-is-part}
-use Rattle.definition_scripts.proofs.listing.SourceLaws.{Fits, AllFit, fit-more, literal-fit, source-fit}
-use Rattle.definition_scripts.proofs.listing.ListingSteps.{ten, tens-length}
-use Rattle.definition_scripts.proofs.listing.RowCount.{countRows, count-none, count-append, count-enough, count-whole}
-use Rattle.definition_scripts.proofs.listing.FewRows.{part-few, literal-few}
+use Rattle.definition_scripts_laws.proofs.cut.PartLaws.{cut-is-part}
+use Rattle.definition_scripts_laws.proofs.listing.SourceLaws.{Fits, AllFit, fit-more, literal-fit, source-fit}
+use Rattle.definition_scripts_laws.proofs.listing.ListingSteps.{ten, tens-length}
+use Rattle.definition_scripts_laws.proofs.listing.RowCount.{countRows, count-none, count-append, count-enough, count-whole}
+use Rattle.definition_scripts_laws.proofs.listing.FewRows.{part-few, literal-few}
 use Rattle.literals.specs.declared.Literal.{Literal}
 use Rattle.literals.specs.Answers.{literalOf}
 use Rattle.sources.specs.declared.Field.{Field}

@@ -9,10 +9,10 @@ use Rattle.definition.specs.Entry as d
 use Rattle.definition_scripts.specs.IsCut.{Ending, reachesEnd, breaksOff, EachLiteral}
 use Rattle.definition_scripts.specs.Cut.{Cut, firstCut, cutFrom, cutPart}
 use Rattle.definition_scripts.specs.Listing.{ListRow, ofRefusal, tenOf, ownRows, allRead, brokenRow, cutRows, reached}
-use Rattle.definition_scripts.proofs.cut.CutSteps.{cutAfter, cut-after}
-use Rattle.definition_scripts.proofs.cut.PartLaws.{part-cut-is, InPart, in-part}
-use Rattle.definition_scripts.proofs.listing.RowCount.{countRows}
-use Rattle.definition_scripts.proofs.listing.FewRows.{own-few}
+use Rattle.definition_scripts_laws.proofs.cut.CutSteps.{cutAfter, cut-after}
+use Rattle.definition_scripts_laws.proofs.cut.PartLaws.{part-cut-is, InPart, in-part}
+use Rattle.definition_scripts_laws.proofs.listing.RowCount.{countRows}
+use Rattle.definition_scripts_laws.proofs.listing.FewRows.{own-few}
 use Rattle.buffers.specs.Over.{over}
 use Rattle.literals.specs.declared.Literal.{Literal}
 use Rattle.literals.specs.Answers.{literalOf}

@@ -14,11 +14,11 @@ use Rattle.definition.specs.Escapes.{Naming}
 use Rattle.definition_scripts.specs.Cut.{Cut, cut, cutPart}
 use Rattle.definition.specs.Reading.{zeros}
 use Rattle.definition_scripts.specs.Listing.{ListRow, ofRefusal, tenOf, tens, cutRows, sourceEnd, otherwise, otherwiseRow, sourceRows, rowsOf, refusalsIn, fieldsAfter, fieldsCall, fieldsInto, fieldsNumbers}
-use Rattle.definition_scripts.proofs.cut.PartLaws.{cut-is-part}
-use Rattle.definition_scripts.proofs.listing.SourceLaws.{Fits, AllFit}
-use Rattle.definition_scripts.proofs.listing.ListingLaws.{rows-fit}
-use Rattle.definition_scripts.proofs.listing.ListingSteps.{Listing, listing-start, listing-step, listing-end, fields-long, fields-short, fields-given, tens-length, tens-append}
-use Rattle.definition_scripts.proofs.listing.FewRows.{rows-few}
+use Rattle.definition_scripts_laws.proofs.cut.PartLaws.{cut-is-part}
+use Rattle.definition_scripts_laws.proofs.listing.SourceLaws.{Fits, AllFit}
+use Rattle.definition_scripts_laws.proofs.listing.ListingLaws.{rows-fit}
+use Rattle.definition_scripts_laws.proofs.listing.ListingSteps.{Listing, listing-start, listing-step, listing-end, fields-long, fields-short, fields-given, tens-length, tens-append}
+use Rattle.definition_scripts_laws.proofs.listing.FewRows.{rows-few}
 use Rattle.buffers.specs.Over.{over}
 use Rattle.buffers.proofs.Over.{over-front}
 use Rattle.sources.specs.declared.Field.{Field}

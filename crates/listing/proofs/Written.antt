@@ -17,7 +17,7 @@ use Rattle.definition.specs.Entry.{Literal}
 use Rattle.definition.specs.Rows.{reason, Row, rowNumbers}
 use Rattle.definition_scripts.specs.Keywords.{wordStart, mayStand}
 use Rattle.definition_scripts.specs.Listing.{ListRow, ofField, ofRefusal, tenOf, tens, readRows, unknownRow, ownRows, refusalsIn}
-use Rattle.definition_scripts.proofs.listing.ListingSteps.{ten, tens-length, tens-append}
+use Rattle.definition_scripts_laws.proofs.listing.ListingSteps.{ten, tens-length, tens-append}
 use Rattle.buffers.specs.Over.{over}
 use Rattle.buffers.proofs.Over.{over-nil, length-over, over-append, over-front, over-lent}
 use Rattle.listing.specs.declared.rows.Alone.{Alone}

@@ -6,9 +6,9 @@ use lib.ListN.{length, take, drop}
 use Rattle.definition.specs.Escapes.{Naming}
 use Rattle.definition.specs.Entry as d
 use Rattle.definition_scripts.specs.Listing.{ListRow, readRows, refusalsIn}
-use Rattle.definition_scripts.proofs.cut.PartLaws.{InPart}
-use Rattle.definition_scripts.proofs.listing.SourceLaws.{AllFit}
-use Rattle.definition_scripts.proofs.listing.RowCount.{countRows}
+use Rattle.definition_scripts_laws.proofs.cut.PartLaws.{InPart}
+use Rattle.definition_scripts_laws.proofs.listing.SourceLaws.{AllFit}
+use Rattle.definition_scripts_laws.proofs.listing.RowCount.{countRows}
 use Rattle.listing.specs.declared.count.Window.{Window}
 use Rattle.listing.specs.Put.{rowsIn}
 

@@ -10,7 +10,7 @@ use Rattle.definition.specs.Entry.{Literal}
 use Rattle.definition.specs.Reading.{inFront}
 use Rattle.definition_scripts.specs.Cut.{cutPart}
 use Rattle.definition_scripts.specs.Listing.{ListRow, ofField, ofRefusal, tens, readRows, cutRows, reached, refusalsIn}
-use Rattle.definition_scripts.proofs.listing.SourceLaws.{Fits}
+use Rattle.definition_scripts_laws.proofs.listing.SourceLaws.{Fits}
 use Rattle.buffers.specs.Over.{over}
 use Rattle.sources.specs.declared.Field.{Field}
 use Rattle.listing.specs.declared.rows.Told.{Told}

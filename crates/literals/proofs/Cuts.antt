@@ -15,9 +15,9 @@ use Rattle.definition_scripts.specs.IsCut.{reachesEnd, breaksOff}
 use Rattle.definition_scripts.specs.Literals.{literalAt}
 use Rattle.definition_scripts.specs.Cut.{begins, over, comment, literal, other, cutCase, commentEnd, firstCut, cutFrom}
 use Rattle.definition.proofs.moves.CharLaws.{cases, no, byte-is, before-in, before-end, first-fails}
-use Rattle.definition_scripts.proofs.literals.RunLaws.{sign-in}
-use Rattle.definition_scripts.proofs.cut.CutLaws.{comment-past, apart-begins, cut-facts}
-use Rattle.definition_scripts.proofs.cut.CutSteps.{cut-over, cut-other, cut-comment, cut-breaks, cut-goes}
+use Rattle.definition_scripts_laws.proofs.literals.RunLaws.{sign-in}
+use Rattle.definition_scripts_laws.proofs.cut.CutLaws.{comment-past, apart-begins, cut-facts}
+use Rattle.definition_scripts_laws.proofs.cut.CutSteps.{cut-over, cut-other, cut-comment, cut-breaks, cut-goes}
 use Rattle.scans.specs.Scans.{cutMark}
 use Rattle.literals.specs.declared.Literal.{Literal}
 use Rattle.literals.specs.declared.Refusal.{Refusal}

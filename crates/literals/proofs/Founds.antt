@@ -13,9 +13,9 @@ use Rattle.definition.specs.Reading.{accepts}
 use Rattle.definition_scripts.specs.Opening.{isQuote, opens, quotesOf, tripled, quotes, quotesAt}
 use Rattle.definition_scripts.specs.Literals.{Closing, closed, closing, closedAt, literalAt}
 use Rattle.definition.proofs.moves.CharLaws.{byte-is, byte-in}
-use Rattle.definition_scripts.proofs.literals.OpeningLaws.{quote-within, quote-of, opens-in}
-use Rattle.definition_scripts.proofs.literals.LiteralLaws.{quotes-in}
-use Rattle.definition_scripts.proofs.literals.LiteralFound.{literal-at, literal-lies}
+use Rattle.definition_scripts_laws.proofs.literals.OpeningLaws.{quote-within, quote-of, opens-in}
+use Rattle.definition_scripts_laws.proofs.literals.LiteralLaws.{quotes-in}
+use Rattle.definition_scripts_laws.proofs.literals.LiteralFound.{literal-at, literal-lies}
 use Rattle.literals.specs.Answers.{Within}
 
 -- the quotes that a flag counts stand there

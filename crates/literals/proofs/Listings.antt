@@ -14,15 +14,15 @@ use Rattle.definition_scripts.specs.IsCut.{Ending, reachesEnd, breaksOff}
 use Rattle.definition_scripts.specs.Cut.{cut, cutFrom, firstCut}
 use Rattle.definition_scripts.specs.Listing.{reached}
 use Rattle.definition_scripts.specs.CutList.{endedBy, cutFitting, cutListed}
-use Rattle.definition.proofs.join.JoinLaw.{end-append}
-use Rattle.definition_scripts.proofs.literals.OpeningLaws.{opens-in}
-use Rattle.definition_scripts.proofs.literals.LiteralFound.{LiteralAt, literal-at, literal-lies}
-use Rattle.definition_scripts.proofs.literals.RunLaws.{passed-over, passed-ahead}
-use Rattle.definition_scripts.proofs.literals.LiteralSteps.{run-ends, run-refuses, run-goes, runAfter, run-after}
-use Rattle.definition_scripts.proofs.literals.ListLaw.{flat-length}
-use Rattle.definition_scripts.proofs.cut.CutLaws.{Meets, cut-is}
-use Rattle.definition_scripts.proofs.cut.CutSteps.{cutAfter, cut-after}
-use Rattle.definition_scripts.proofs.cut.CutListLaws.{cut-short}
+use Rattle.definition_laws.proofs.join.JoinLaw.{end-append}
+use Rattle.definition_scripts_laws.proofs.literals.OpeningLaws.{opens-in}
+use Rattle.definition_scripts_laws.proofs.literals.LiteralFound.{LiteralAt, literal-at, literal-lies}
+use Rattle.definition_scripts_laws.proofs.literals.RunLaws.{passed-over, passed-ahead}
+use Rattle.definition_scripts_laws.proofs.literals.LiteralSteps.{run-ends, run-refuses, run-goes, runAfter, run-after}
+use Rattle.definition_scripts_laws.proofs.literals.ListLaw.{flat-length}
+use Rattle.definition_scripts_laws.proofs.cut.CutLaws.{Meets, cut-is}
+use Rattle.definition_scripts_laws.proofs.cut.CutSteps.{cutAfter, cut-after}
+use Rattle.definition_scripts_laws.proofs.cut.CutListLaws.{cut-short}
 use Rattle.buffers.specs.Over.{over}
 use Rattle.buffers.proofs.Over.{over-nil, over-append, length-over, over-front}
 use Rattle.literals.specs.declared.Listed as code

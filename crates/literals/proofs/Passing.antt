@@ -8,8 +8,8 @@ use Rattle.definition.specs.Chars.{_is_}
 use Rattle.definition_scripts.specs.Opening.{lineEnd}
 use Rattle.definition_scripts.specs.Literals.{space, comment, other, blankCase, passed}
 use Rattle.definition.proofs.moves.CharLaws.{before-in}
-use Rattle.definition_scripts.proofs.literals.RunLaws.{blank-facts, space-in, comment-ahead}
-use Rattle.definition_scripts.proofs.literals.LiteralSteps.{passed-other, passed-space, passed-comment}
+use Rattle.definition_scripts_laws.proofs.literals.RunLaws.{blank-facts, space-in, comment-ahead}
+use Rattle.definition_scripts_laws.proofs.literals.LiteralSteps.{passed-other, passed-space, passed-comment}
 
 module _ (s : List ℕ) where
   pub record Passing (from at : ℕ) : Type 0 where

@@ -15,8 +15,8 @@ use Rattle.definition_replay.specs.Integers.{Integer}
 use Rattle.definition_replay.specs.Trace.{Taken, taken, broken, rowOf, rowsN, rowsOf}
 use Rattle.definition_replay.specs.Replay.{Made, made, stopped, followed, Part, itemsFrom, partsFrom, fieldCount, rowLine, allInRange, rowMade, linesFrom, concat}
 use Rattle.definition.proofs.moves.CharLaws.{cases}
-use Rattle.definition_replay.proofs.replay.ReplayLaws.{both, concat-append}
-use Rattle.definition_replay.proofs.trace.TraceTexts.{first-row, first-broken}
+use Rattle.definition_replay_laws.proofs.replay.ReplayLaws.{both, concat-append}
+use Rattle.definition_replay_laws.proofs.trace.TraceTexts.{first-row, first-broken}
 use Rattle.buffers.specs.Over.{over}
 use Rattle.buffers.proofs.Over.{over-nil, over-append}
 use Rattle.traces.specs.Cells.{verdictOf, checkOf}

@@ -19,9 +19,9 @@ use Rattle.definition_replay.specs.Integers.{Integer, written}
 use Rattle.definition_replay.specs.Trace.{rowsOf}
 use Rattle.definition_replay.specs.Replay.{Made, made, stopped, Part, stands, column, itemsFrom, partsFrom, templateOf, fieldCount, rowLine, rowMade, linesFrom, concat, Replayed, roomedLines, linesOf, replayed, linesAfter, keptAfter, replayCall, replayNumbers, replayNumbersOf}
 use Rattle.definition.proofs.moves.CharLaws.{no}
-use Rattle.definition.proofs.outcomes.Outcomes.{Sane, numbers-sane}
-use Rattle.definition.proofs.formed.Held.{numbers-held}
-use Rattle.definition_replay.proofs.spec.SpecLaws.{both-true}
+use Rattle.definition_laws.proofs.outcomes.Outcomes.{Sane, numbers-sane}
+use Rattle.definition_laws.proofs.formed.Held.{numbers-held}
+use Rattle.definition_replay_laws.proofs.spec.SpecLaws.{both-true}
 use Rattle.buffers.specs.Over.{over}
 use Rattle.buffers.proofs.Over.{over-front}
 use Rattle.entry.specs.declared.Refusal.{Refusal as Why}

@@ -14,7 +14,7 @@ use Rattle.definition_replay.specs.Spec.{Spec, specOf}
 use Rattle.definition_replay.specs.Integers.{Form, formOf}
 use Rattle.definition_replay.specs.Replay.{Made, made, stopped, followed, Part, stands, column, itemsFrom, nested, formMade, partOf, fieldsPast, partsFrom, fieldCount}
 use Rattle.definition.proofs.moves.CharLaws.{cases}
-use Rattle.definition_replay.proofs.replay.ReplayFirst.{items-none}
+use Rattle.definition_replay_laws.proofs.replay.ReplayFirst.{items-none}
 use Rattle.formats.specs.declared.Form as formats
 use Rattle.formats.specs.Parts.{FormIs}
 use Rattle.replay.specs.declared.Place.{Place}

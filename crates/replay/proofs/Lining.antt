@@ -14,8 +14,8 @@ use Rattle.definition_replay.specs.Trace.{taken, moreOf, comma, other, rowOf}
 use Rattle.definition_replay.specs.Trace as Trace
 use Rattle.definition_replay.specs.Replay.{Made, made, stopped, followed, Part, stands, column, itemsFrom, formMade, fieldsPast, partsFrom, fieldCount, rowLine, inRange, allInRange}
 use Rattle.definition.proofs.moves.CharLaws.{cases, no}
-use Rattle.definition_replay.proofs.trace.TraceByNumber.{numbersN, row-by-number}
-use Rattle.definition_replay.proofs.replay.ReplayFirst.{items-none}
+use Rattle.definition_replay_laws.proofs.trace.TraceByNumber.{numbersN, row-by-number}
+use Rattle.definition_replay_laws.proofs.replay.ReplayFirst.{items-none}
 use Rattle.buffers.specs.Over.{over}
 use Rattle.buffers.proofs.Over.{over-append}
 use Rattle.traces.specs.Cells.{more, endedWith, cellOf, fitCell, integer, saysCell, checkOf}

@@ -11,8 +11,8 @@ use Rattle.definition_replay.specs.Integers.{Integer}
 use Rattle.definition_replay.specs.Trace.{Taken, taken, broken, moreOf, Behind, comma, ends, other, behindColumn, rowOf}
 use Rattle.definition_replay.specs.Replay.{inRange, allInRange}
 use Rattle.definition.proofs.moves.CharLaws.{cases, no}
-use Rattle.definition_replay.proofs.spec.SpecLaws.{both-true}
-use Rattle.definition_replay.proofs.trace.TraceByNumber.{numberOf, numbersN}
+use Rattle.definition_replay_laws.proofs.spec.SpecLaws.{both-true}
+use Rattle.definition_replay_laws.proofs.trace.TraceByNumber.{numberOf, numbersN}
 use Rattle.traces.specs.Cells.{Cell, wrong, more, last, endedWith, cellOf, fitCell, verdictOf, checkOf}
 
 -- THE COLUMNS of a row, some of which were read before

@@ -12,9 +12,9 @@ use Rattle.definition.specs.Chars.{part}
 use Rattle.definition.specs.Records.{Record}
 use Rattle.definition.specs.Words.{word, owing, recordsFrom}
 use Rattle.definition_replay.specs.Replay.{recordsBelow, itemsFrom, nested, textsOf}
-use Rattle.definition.proofs.moves.Adds.{part-split}
-use Rattle.definition.proofs.outcomes.Outcomes.{Gapless, gapless-sum}
-use Rattle.definition_replay.proofs.replay.ReplayFirst.{items-top, items-below, items-none}
+use Rattle.definition_laws.proofs.moves.Adds.{part-split}
+use Rattle.definition_laws.proofs.outcomes.Outcomes.{Gapless, gapless-sum}
+use Rattle.definition_replay_laws.proofs.replay.ReplayFirst.{items-top, items-below, items-none}
 use Rattle.replay.specs.declared.Below.{Below}
 use Rattle.replay.specs.Walk.{Lies, Stand, BelowIs, PlaceIs}
 

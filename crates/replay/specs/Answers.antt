@@ -7,7 +7,7 @@ use Rattle.definition.specs.Records.{Answer}
 use Rattle.definition.specs.Reading.{accepts, zeros, numbers}
 use Rattle.definition.specs.Words.{recordsFrom}
 use Rattle.definition_replay.specs.Replay.{ReplayCall, replayCall, replayNumbersOf}
-use Rattle.definition.proofs.outcomes.Outcomes.{Gapless}
+use Rattle.definition_laws.proofs.outcomes.Outcomes.{Gapless}
 use Rattle.strings.specs.declared.Answer.{Answer as Read}
 use Rattle.replay.specs.declared.Replay.{Replay}
 use Rattle.replay.specs.declared.Replay.the-variants.{Replayed, Unread, Stopped}

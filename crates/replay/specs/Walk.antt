@@ -10,7 +10,7 @@ use Rattle.definition.specs.Chars.{if_then_else_, part}
 use Rattle.definition.specs.Records.{Record}
 use Rattle.definition.specs.Words.{word}
 use Rattle.definition_replay.specs.Replay.{Made, made, stopped, Part, stands, recordsBelow, itemsFrom, nested, textsOf, formMade, fieldCount}
-use Rattle.definition.proofs.outcomes.Outcomes.{Gapless}
+use Rattle.definition_laws.proofs.outcomes.Outcomes.{Gapless}
 use Rattle.replay.specs.declared.Below.{Below}
 use Rattle.formats.specs.Parts.{FormIs}
 use Rattle.replay.specs.declared.Place.{Place}

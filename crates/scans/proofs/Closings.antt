@@ -12,9 +12,9 @@ use Rattle.definition.specs.Chars.{if_then_else_, _is_, byte, before}
 use Rattle.definition_scripts.specs.Opening.{quotesAt}
 use Rattle.definition_scripts.specs.Literals.{over, takes, closes, breaks, plain, bodyCase, closed, fails, closing}
 use Rattle.definition.proofs.moves.CharLaws.{cases, before-end, before-here, before-next}
-use Rattle.definition.proofs.formed.Accepted.{neither}
-use Rattle.definition_scripts.proofs.literals.LiteralLaws.{facts}
-use Rattle.definition_scripts.proofs.literals.LiteralSteps.{closing-over, closing-closes, closing-breaks, closing-takes, closing-plain}
+use Rattle.definition_laws.proofs.formed.Accepted.{neither}
+use Rattle.definition_scripts_laws.proofs.literals.LiteralLaws.{facts}
+use Rattle.definition_scripts_laws.proofs.literals.LiteralSteps.{closing-over, closing-closes, closing-breaks, closing-takes, closing-plain}
 use Rattle.scans.specs.Scans.{mark, thirdOf}
 
 -- A BODY, scanned up to the first byte that may matter

@@ -12,9 +12,9 @@ use Rattle.definition.specs.Numbers.{_among_}
 use Rattle.definition.specs.Chars.{ascii, part, same}
 use Rattle.definition_scripts.specs.Keywords.{keywords, isOneOf}
 use Rattle.definition.proofs.moves.CharLaws.{cases, same-true, byte-is}
-use Rattle.definition.proofs.moves.Cases.{and-both}
-use Rattle.definition.proofs.moves.Moves.{part-short}
-use Rattle.definition_scripts.proofs.listing.WordLaws.{part-cons, part-none}
+use Rattle.definition_laws.proofs.moves.Cases.{and-both}
+use Rattle.definition_laws.proofs.moves.Moves.{part-short}
+use Rattle.definition_scripts_laws.proofs.listing.WordLaws.{part-cons, part-none}
 use Rattle.scans.specs.Packed.{packed, bytes, allPacked, packedKeywords}
 
 -- at least 1, and less than two to the power of eight for each byte

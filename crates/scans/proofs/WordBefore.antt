@@ -10,7 +10,7 @@ use lib.ListN.{length}
 use Rattle.definition.specs.Chars.{byte, part, _to_, inside}
 use Rattle.definition_scripts.specs.Keywords.{inWord, wordStart, keywords, isOneOf, endsInKeyword, known, mayStand}
 use Rattle.definition.proofs.moves.CharLaws.{cases}
-use Rattle.definition_scripts.proofs.listing.WordLaws.{part-cons, part-none, word-on, word-ends, word-ahead, word-within-script}
+use Rattle.definition_scripts_laws.proofs.listing.WordLaws.{part-cons, part-none, word-on, word-ends, word-ahead, word-within-script}
 
 module _ (s : List ℕ) where
   -- no byte of a word before i, one, or no byte

@@ -14,9 +14,9 @@ use Rattle.definition_scripts.specs.IsCut.{reachesEnd, breaksOff, Begins, IsCut
 use Rattle.definition_scripts.specs.Cut.{Cut, firstCut, cutFrom, cutPart}
 use Rattle.definition_scripts.specs.Listing.{reached, sourceEnd, firstIn, quotedInside, firstOdd, moreAfter, specBackslash, least, otherwise}
 use Rattle.definition.proofs.moves.CharLaws.{cases, byte-is, before-here, before-next}
-use Rattle.definition_scripts.proofs.literals.OpeningLaws.{opens-in}
-use Rattle.definition_scripts.proofs.literals.LiteralFound.{literal-lies}
-use Rattle.definition_scripts.proofs.cut.CutLaws.{cut-is}
+use Rattle.definition_scripts_laws.proofs.literals.OpeningLaws.{opens-in}
+use Rattle.definition_scripts_laws.proofs.literals.LiteralFound.{literal-lies}
+use Rattle.definition_scripts_laws.proofs.cut.CutLaws.{cut-is}
 use Rattle.literals.specs.declared.Literal.{Literal}
 use Rattle.literals.specs.declared.Refusal.{Refusal}
 use Rattle.literals.specs.Answers.{literalOf}

@@ -11,12 +11,12 @@ use Rattle.definition.specs.Words.{word}
 use Rattle.definition_scripts.specs.Literals.{literalsInto, listNumbers}
 use Rattle.definition_scripts.specs.CutList.{cutInto}
 use Rattle.definition_scripts.specs.Listing.{fieldsInto, fieldsNumbers}
-use Rattle.definition.proofs.formed.Held.{numbers-one}
-use Rattle.definition_scripts.proofs.literals.ListOne.{list-one}
-use Rattle.definition_scripts.proofs.cut.CutListLaws.{cut-one}
-use Rattle.definition_scripts.proofs.listing.ListingOne.{fields-one}
+use Rattle.definition_laws.proofs.formed.Held.{numbers-one}
+use Rattle.definition_scripts_laws.proofs.literals.ListOne.{list-one}
+use Rattle.definition_scripts_laws.proofs.cut.CutListLaws.{cut-one}
+use Rattle.definition_scripts_laws.proofs.listing.ListingOne.{fields-one}
 use Rattle.definition_replay.specs.Replay.{replayNumbers, replayNumbersOf}
-use Rattle.definition_replay.proofs.replay.ReplayOne.{replay-one}
+use Rattle.definition_replay_laws.proofs.replay.ReplayOne.{replay-one}
 use Rattle.definition_formed.specs.Formed.{Lent}
 use Rattle.definition_revisions.specs.Revisions.{compareInto, compareNumbers}
 use Rattle.definition_revisions.proofs.laws.Told.{compare-one}

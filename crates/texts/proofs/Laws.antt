@@ -13,8 +13,8 @@ use Rattle.definition.specs.Chars.{noCode, code, next}
 use Rattle.definition.specs.Escapes.{Naming, Fault, fault, Read, got, refused, Meaning, escape}
 use Rattle.definition.specs.Body.{Piece as Record, Move, goes, stops, calls, ends, withEscape, StringCase, stringCase, stringMove, stringN, TextCase, deep, opens, last, doubled, lone, textCase, textMove, textN, enough}
 use Rattle.definition.proofs.moves.CharLaws.{cases, no, next-from, next-in}
-use Rattle.definition.proofs.moves.Moves.{string-ahead, text-ahead}
-use Rattle.definition.proofs.moves.Whole.{string-on, string-stop, string-end, text-on, text-stop}
+use Rattle.definition_laws.proofs.moves.Moves.{string-ahead, text-ahead}
+use Rattle.definition_laws.proofs.moves.Whole.{string-on, string-stop, string-end, text-on, text-stop}
 use Rattle.marks.specs.Marks.{faultOf}
 use Rattle.buffers.specs.Over.{over}
 use Rattle.buffers.proofs.Over.{over-nil, length-over, over-append}

@@ -12,7 +12,7 @@ use Rattle.definition.specs.Escapes.{heldNames, Fault, Read, got, refused, Mean
 use Rattle.definition.specs.Body.{Piece, withEscape, textCase, textMove, fieldN, fresh, enough}
 use Rattle.definition_cuts.specs.Tokens.{endOf, moveEnd, staying, tokenEnd}
 use Rattle.definition.proofs.moves.CharLaws.{cases}
-use Rattle.definition_cuts.proofs.tokens.TokenMarks.{token-on, no-some}
+use Rattle.definition_cuts_laws.proofs.tokens.TokenMarks.{token-on, no-some}
 use Rattle.utf8.specs.declared.Cursor.{Cursor}
 use Rattle.utf8.proofs.Steps.{Stepped}
 use Rattle.texts.specs.EscapeEnds.{escapeAfter}

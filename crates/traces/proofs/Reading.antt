@@ -15,9 +15,9 @@ use Rattle.definition_replay.specs.Spec.{isDigit, first, past, front, behind, n
 use Rattle.definition_replay.specs.Integers.{Integer, decimal}
 use Rattle.definition_replay.specs.Trace.{taken, broken, Behind, comma, ends, other, behindColumn}
 use Rattle.definition.proofs.moves.CharLaws.{cases, byte-is}
-use Rattle.definition_replay.proofs.spec.SpecLaws.{is-some, front-behind}
-use Rattle.definition_replay.proofs.spec.SpecSteps.{first-there, first-not, first-end}
-use Rattle.definition_replay.proofs.trace.TraceByNumber.{integer as made, numberOf}
+use Rattle.definition_replay_laws.proofs.spec.SpecLaws.{is-some, front-behind}
+use Rattle.definition_replay_laws.proofs.spec.SpecSteps.{first-there, first-not, first-end}
+use Rattle.definition_replay_laws.proofs.trace.TraceByNumber.{integer as made, numberOf}
 use Rattle.definition_replay.specs.SpecNumbers.{toldOf}
 use Rattle.traces.specs.Cells.{saysBehind, wrong, endedWith, cellOf, clip, clipCell, fitCell, integer, endedBy, saysCell}
 

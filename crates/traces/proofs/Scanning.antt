@@ -12,7 +12,7 @@ use Rattle.definition_replay.specs.Integers.{Integer}
 use Rattle.definition_replay.specs.Trace.{Taken, taken, broken, moreOf, Behind, comma, ends, other, behindColumn, rowOf}
 use Rattle.definition_replay.specs.Replay.{inRange, allInRange}
 use Rattle.definition.proofs.moves.CharLaws.{cases}
-use Rattle.definition_replay.proofs.trace.TraceByNumber.{numberOf, numbersN, row-by-number}
+use Rattle.definition_replay_laws.proofs.trace.TraceByNumber.{numberOf, numbersN, row-by-number}
 use Rattle.traces.specs.Cells.{saysBehind, Cell, wrong, more, last, endedWith, cellOf, clip, clipCell, fitCell, integer, saysCell, verdictOf, checkOf, scanN}
 use Rattle.traces.proofs.Reading.{cell-past}
 

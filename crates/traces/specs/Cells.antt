@@ -9,7 +9,7 @@ use Rattle.definition.specs.Chars.{if_then_else_}
 use Rattle.definition_replay.specs.Integers.{Integer}
 use Rattle.definition_replay.specs.Trace.{Taken, taken, broken, Behind, comma, ends, other, behindColumn}
 use Rattle.definition_replay.specs.Replay.{inRange, allInRange}
-use Rattle.definition_replay.proofs.trace.TraceByNumber.{numberOf}
+use Rattle.definition_replay_laws.proofs.trace.TraceByNumber.{numberOf}
 
 -- what the code says of what stands behind a column
 abbrev pub saysBehind : List ℕ → (kind next : ℕ) → Behind

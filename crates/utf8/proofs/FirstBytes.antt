@@ -10,7 +10,7 @@ use lib.ListN.{length}
 use Rattle.definition.specs.Chars.{if_then_else_, byte, _to_, inside, width, next, formedFrom, wellFormed}
 use Rattle.definition.specs.Counts.{counted}
 use Rattle.definition.proofs.moves.CharLaws.{cases, inside-true, inside-yes, inside-not, tail-none, between, width-in, width-end, next-past}
-use Rattle.definition.proofs.moves.Counted.{Reached, start, step, counted-none, step-chars}
+use Rattle.definition_laws.proofs.moves.Counted.{Reached, start, step, counted-none, step-chars}
 use Rattle.utf8.specs.Runs.{Below, Ascii, headOf, headsFrom}
 
 head-ascii : (b : ℕ) → b < 0x80 → headOf b ≡ 1

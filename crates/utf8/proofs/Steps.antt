@@ -12,7 +12,7 @@ use Rattle.utf8.specs.declared.Cursor.{Cursor}
 use Rattle.utf8.specs.declared.Step.the-variants.{Char, End}
 use Rattle.utf8.specs.Steps.{stepAt}
 use Rattle.definition.proofs.moves.CharLaws.{cases}
-use Rattle.definition.proofs.moves.Counted.{Counting, count-goes}
+use Rattle.definition_laws.proofs.moves.Counted.{Counting, count-goes}
 
 -- a character of the code c stands at i, and k is after it
 pub record Stepped (s : List ℕ) (i c : ℕ) (k : Cursor) : Type 0 where

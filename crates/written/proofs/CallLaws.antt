@@ -16,7 +16,7 @@ use Rattle.definition.specs.Words.{word, answerFrom, heldFrom}
 use Rattle.definition_formed.specs.Formed.{lent, lentAnswer, isFormed}
 use Rattle.definition_written.specs.Written.{writable, writes, stops, written, bodyAfter, writtenInto, writtenNumbers}
 use Rattle.definition_written.specs.Passes.{passed, found}
-use Rattle.definition_written.proofs.passes.WrittenLaw.{writable-parts, ended, byPass, written-by-pass}
+use Rattle.definition_written_laws.proofs.passes.WrittenLaw.{writable-parts, ended, byPass, written-by-pass}
 use Rattle.buffers.proofs.Over.{over-front}
 use Rattle.formed.specs.Good.{recordsAt}
 use Rattle.formed.proofs.Goods.{formed-lies}

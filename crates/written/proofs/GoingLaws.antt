@@ -12,8 +12,8 @@ use Rattle.definition.specs.Records.{Record}
 use Rattle.definition.specs.Words.{owing, hasSpec, fits, isConversion, allFit, ordered, gapless, noBytes}
 use Rattle.definition_written.specs.Passes.{shut, passed, found}
 use Rattle.definition.proofs.moves.CharLaws.{no, either}
-use Rattle.definition.proofs.moves.Cases.{and-both}
-use Rattle.definition.proofs.moves.Adds.{one-of}
+use Rattle.definition_laws.proofs.moves.Cases.{and-both}
+use Rattle.definition_laws.proofs.moves.Adds.{one-of}
 use Rattle.buffers.proofs.Over.{length-over}
 use Rattle.formed.specs.declared.Head.{Head}
 use Rattle.formed.specs.Heads.{headAt}

@@ -11,7 +11,7 @@ use Rattle.definition.specs.Chars.{if_then_else_, _is_, part}
 use Rattle.definition.specs.Records.{Record}
 use Rattle.definition_written.specs.Written.{Where, top, early, late, spelledByte, spelledText, spelledConversion}
 use Rattle.definition.proofs.moves.CharLaws.{cases}
-use Rattle.definition.proofs.moves.Moves.{part-short}
+use Rattle.definition_laws.proofs.moves.Moves.{part-short}
 use Rattle.formed.specs.declared.Head.{Head}
 use Rattle.written.specs.Opens.{whereOf, pieceOf, Holds}
 

@@ -2,12 +2,13 @@
 use Prim.Native.Nat.{ℕ}
 use Prim.Native.String.{String}
 use mathlib.Core.Path.{_≡_, refl}
+use mathlib.Core.Bool.{false}
 use mathlib.Core.List.{List, [], _∷_, map}
 use mathlib.Core.Option.{Option, none, some}
 use Rattle.definition.specs.Numbers.{prefix}
 use Rattle.definition.specs.Chars.{ascii, insideAny, table37, following, follow, width, decoded, code, next, char, formedFrom, wellFormed, utf8, whiteSpace, before, same}
 use Rattle.definition.specs.Counts.{more, countFrom, counted}
-use Rattle.definition.specs.Escapes.{octalDigit, octalFrom, hexDigit, scalar, hexFrom, lookup, named, unicodeName, escapeCase, escape, encode, meant}
+use Rattle.definition.specs.Escapes.{octalDigit, octalFrom, hexDigit, scalar, hexFrom, lookup, named, unicodeName, escapeCase, escape, encode, meant, heldNames}
 use Rattle.definition.specs.Body.{withEscape, stringCase, stringMove, stringN, textCase, textMove, filled, withEquals, withBang, withColon, withClose, fresh, add, documented, spaced, formatted, outside, fieldCase, caseOf, conversionMove, openMove, closeMove, quoteMove, fieldMove, direct, conversionOf, fieldPieces, selfDocumenting, finished, specified, plainRun, textN, alone, readBody}
 use Rattle.definition.specs.Records.{touching, covers, item, itemOf, glue, merge, bothItems, merged, texts, recordAt, laid, cover, answerOf}
 use Rattle.definition.specs.Entry.{opening, placeOf, body, refusal, moved, notEmpty, notMany, firstBad, bad, allGood, total, notLong, formed, illFormed, allUtf8, anyOf, firstStart, notMixed, firstOf, entry}
@@ -138,3 +139,8 @@ asked r = (r .numbers, r .after)
 pub calls-shown : map made calls ≡ map asked calls
 unfolding calls prefix ascii insideAny table37 following follow width decoded code next char formedFrom wellFormed utf8 whiteSpace before same more countFrom counted octalDigit octalFrom hexDigit scalar hexFrom lookup named unicodeName escapeCase escape encode meant withEscape stringCase stringMove stringN textCase textMove filled withEquals withBang withColon withClose fresh add documented spaced formatted outside fieldCase caseOf conversionMove openMove closeMove quoteMove fieldMove direct conversionOf fieldPieces selfDocumenting finished specified plainRun textN alone readBody touching covers item itemOf glue merge bothItems merged texts recordAt laid cover answerOf opening placeOf body refusal moved notEmpty notMany firstBad bad allGood total notLong formed illFormed allUtf8 anyOf firstStart notMixed firstOf entry openedAt refusalIn readLiteral andThen readFrom sortOf uMark lastEnd allChars answered read bothRecords raise seam seamed joinSort join shifted joinOutcomes readAlone isRead rise pieces allShort allRead joinAll conversion sameRecord sameRecords equal checked endOf moveEnd staying tokenEnd withFirst boundariesN boundaries planFrom plan roomedPlan planAfter planInto planNumbers
 calls-shown = refl
+
+-- what is read is not equal to what is refused, whichever comes first
+pub refused-differs : equal (readAlone heldNames (ascii "a")) (readAlone heldNames (ascii "}")) ∷ equal (readAlone heldNames (ascii "}")) (readAlone heldNames (ascii "a")) ∷ [] ≡ false ∷ false ∷ []
+unfolding prefix ascii insideAny table37 following follow width decoded code next char formedFrom wellFormed utf8 whiteSpace before same more countFrom counted octalDigit octalFrom hexDigit scalar hexFrom lookup named unicodeName escapeCase escape encode meant withEscape stringCase stringMove stringN textCase textMove filled withEquals withBang withColon withClose fresh add documented spaced formatted outside fieldCase caseOf conversionMove openMove closeMove quoteMove fieldMove direct conversionOf fieldPieces selfDocumenting finished specified plainRun textN alone readBody touching covers item itemOf glue merge bothItems merged texts recordAt laid cover answerOf opening placeOf body refusal moved notEmpty notMany firstBad bad allGood total notLong formed illFormed allUtf8 anyOf firstStart notMixed firstOf entry openedAt refusalIn readLiteral andThen readFrom sortOf uMark lastEnd allChars answered read bothRecords raise seam seamed joinSort join shifted joinOutcomes readAlone isRead rise pieces allShort allRead joinAll conversion sameRecord sameRecords equal checked endOf moveEnd staying tokenEnd withFirst boundariesN boundaries planFrom plan roomedPlan planAfter planInto planNumbers
+refused-differs = refl

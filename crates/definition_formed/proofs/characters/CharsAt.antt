@@ -10,7 +10,7 @@ use lib.Seq.{drop-drop, drop-append-seam, take-append-seam, length-take-le}
 use borrow.Author.Tests.{le-leb, lt-leb, ltb-true, ltb-false, eqb-true, eqb-false}
 use Rattle.definition.specs.Chars.{byte, part, width, next, char}
 use Rattle.definition.proofs.moves.CharLaws.{cases, next-past, between}
-use Rattle.definition.proofs.moves.Adds.{part-split}
+use Rattle.definition_laws.proofs.moves.Adds.{part-split}
 use Rattle.definition_formed.proofs.characters.WholeChars.{Chars, no-char, more, chars-append, chars-one, width-front, width-after}
 
 module _ (s : List ℕ) where

@@ -15,8 +15,8 @@ use Rattle.definition.specs.Chars.{if_then_else_, _is_, byte, part, noCode, atE
 use Rattle.definition.specs.Escapes.{Naming, Read, got, refused, Meaning, stands, stays, vanishes, octalDigit, octalFrom, hexDigit, scalar, hexFrom, named, unicodeName, EscapeCase, ended, simple, octal, hex, name, newline, foreign, other, escapeCase, escape, encode, meant}
 use Rattle.definition.specs.Body.{Piece, literal, field, spec, Move, goes, stops, calls, ends, withEscape, StringCase, stringCase, stringMove, stringN, TextCase, textCase, textMove, filled, Signs, Field, state, withClose, fresh, isBlank, add, documented, spaced, formatted, FieldCase, outside, fieldCase, caseOf, conversionMove, openMove, matching, closeMove, quoteMove, fieldMove, conversionOf, fieldPieces, selfDocumenting, finished, specified, plainRun, firstEnd, textN, fieldN, specN, enough, alone, readBody}
 use Rattle.definition.proofs.moves.CharLaws.{cases, either, next-from, inside-true, inside-yes, next-ascii, first-passes}
-use Rattle.definition.proofs.moves.Adds.{part-split}
-use Rattle.definition.proofs.characters.Utf8.{Scalar, below, above}
+use Rattle.definition_laws.proofs.moves.Adds.{part-split}
+use Rattle.definition_laws.proofs.characters.Utf8.{Scalar, below, above}
 use Rattle.definition_formed.proofs.characters.WholeChars.{Chars, no-char, chars-append, chars-one, utf8-whole}
 use Rattle.definition_formed.proofs.characters.CharsAt.{At, Step, at-step, Between, to-ascii}
 

@@ -12,7 +12,7 @@ use borrow.Author.Tests.{leb-true, le-leb}
 use Rattle.definition.specs.Chars.{byte, Range, inside, table37, following, follow, width, formedFrom, wellFormed, utf8}
 use Rattle.definition_formed.specs.Formed.{isUtf8}
 use Rattle.definition.proofs.moves.CharLaws.{cases, width-end, width-in}
-use Rattle.definition.proofs.characters.Utf8.{Scalar, scalar-width}
+use Rattle.definition_laws.proofs.characters.Utf8.{Scalar, scalar-width}
 
 -- one character
 pub record Whole (c : List ℕ) : Type 0 where

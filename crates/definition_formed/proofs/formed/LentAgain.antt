@@ -13,7 +13,7 @@ use Rattle.definition.specs.Reading.{accepts, sortNumber, numbers, Call, readIn
 use Rattle.definition.specs.Words.{owing, heldFrom, fits, allFit, hasSpec, ordered, gapless, noBytes, oneOf, sorted, recordsFormed, together, whole, apart, recordsWellFormed}
 use Rattle.definition_formed.specs.Formed.{Lent, unplaced, lentAnswer, isUtf8, textsUtf8, isFormed}
 use Rattle.definition.proofs.moves.CharLaws.{cases}
-use Rattle.definition.proofs.formed.Held.{Held, into-held}
+use Rattle.definition_laws.proofs.formed.Held.{Held, into-held}
 use Rattle.definition_formed.proofs.formed.FormedLaws.{both}
 
 -- what a call leaves, lent again

@@ -21,10 +21,10 @@ use Rattle.definition.specs.Entry.{Literal, sixes, placeOf, body, Refusal, refu
 use Rattle.definition.specs.Reading.{Outcome, accepts, refuses, read, readLiteral, readFrom, Call, called, readInto, readNumbers, numbersBy}
 use Rattle.definition_formed.specs.Formed.{isUtf8, textsUtf8, isFormed}
 use Rattle.definition.proofs.moves.CharLaws.{cases, either}
-use Rattle.definition.proofs.join.EntrySplit.{Each, passes}
-use Rattle.definition.proofs.formed.Accepted.{accepted, Holds, each-holds, literal-holds, f-no-bytes, alone-piece}
-use Rattle.definition.proofs.outcomes.Room.{roomed-accepts}
-use Rattle.definition.proofs.characters.Utf8.{Scalar, below, above}
+use Rattle.definition_laws.proofs.join.EntrySplit.{Each, passes}
+use Rattle.definition_laws.proofs.formed.Accepted.{accepted, Holds, each-holds, literal-holds, f-no-bytes, alone-piece}
+use Rattle.definition_laws.proofs.outcomes.Room.{roomed-accepts}
+use Rattle.definition_laws.proofs.characters.Utf8.{Scalar, below, above}
 use Rattle.definition_names.specs.Names.{isScalar, searched}
 use Rattle.definition_names.specs.NamedReading.{namedNumbers}
 use Rattle.definition_names.proofs.NamesShown.{Coded, coded, uncoded, searched-coded}

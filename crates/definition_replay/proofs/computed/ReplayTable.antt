@@ -213,3 +213,8 @@ replays2 look =
 pub replays-computed2 : (look : Naming) → map (λ r. r .gives) (replays2 look) ≡ map (λ r. r .wants) (replays2 look)
 unfolding replays2 prefix ascii insideAny table37 following follow width decoded code next char formedFrom wellFormed utf8 whiteSpace before same more countFrom counted octalDigit octalFrom hexDigit scalar hexFrom lookup named unicodeName escapeCase escape encode meant withEscape stringCase stringMove stringN textCase textMove filled withEquals withBang withColon withClose fresh add documented spaced formatted outside fieldCase caseOf conversionMove openMove closeMove quoteMove fieldMove direct conversionOf fieldPieces selfDocumenting finished specified plainRun textN alone readBody touching covers item itemOf glue merge bothItems merged texts recordAt laid cover answerOf oneMore sixes opening placeOf body refusal moved notEmpty notMany firstBad bad allGood total notLong formed illFormed allUtf8 anyOf firstStart notMixed firstOf entry openedAt refusalIn readLiteral andThen readFrom sortOf uMark lastEnd allChars answered read outcomeOf shortOf roomFor roomed allWords wordsAfter textAfter called readInto readNumbers numbersBy first past front behind pointed pastPointed fillSize nothing all partsOf specOf decimalFrom digitsN digits baseOf outsideOf formIn formOf figure signOf prefixOf headOf grouped groupSize figures zeroPads zeroed leastOf numeralOf copies padOf leftOf innerOf written isText inQuotes moreOf quotedCase quotedFrom columnOf behindColumn columnsN columnsOf integerOf withInteger integersOf rowOf rowsN rowsOf followed recordsBelow itemsFrom nested textsOf formMade partOf fieldsPast partsFrom templateOf fieldCount rowLine inRange allInRange rowMade linesFrom concat roomedLines linesOf replayed linesAfter keptAfter replayCall replayNumbers
 replays-computed2 look = refl
+
+-- a refusal of 68 to 73 leaves no record of the template
+pub stops-left : keptAfter (stops 68 0) (9 ∷ 9 ∷ []) ≡ 0 ∷ 0 ∷ []
+unfolding keptAfter
+stops-left = refl

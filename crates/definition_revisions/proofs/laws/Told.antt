@@ -17,7 +17,7 @@ use Rattle.definition_formed.specs.Formed.{Lent, isFormed}
 use Rattle.definition_revisions.specs.Revisions.{itemsOf, front, back, Comparison, comparison, counting, middle, middles, Comparing, compares, illFormed, short, compared, compareRoomed, middlesAfter, compareCalled, compareInto, compareNumbers}
 use Rattle.definition_revisions.specs.IsCompared.{IsCompared, Says, putBack}
 use Rattle.definition.proofs.moves.CharLaws.{cases}
-use Rattle.definition.proofs.outcomes.Leaving.{left-zeros, left-front}
+use Rattle.definition_laws.proofs.outcomes.Leaving.{left-zeros, left-front}
 use Rattle.definition_revisions.proofs.laws.Runs.{Items, is-compared, begins-other, ends-other, run-other, back-other, put-back, run-self, back-self}
 
 -- the numbers of a middle

@@ -17,7 +17,7 @@ use Rattle.definition_scripts.specs.Opening.{oneLetter, twoLetters, open
 use Rattle.definition_scripts.specs.Literals.{bodyCase, closingN, closing, closedAt, literalAt}
 use Rattle.definition_scripts.specs.Cut.{begins, cutCase, firstCut, cutN, cutFrom, cut, cutPart}
 use Rattle.definition_scripts.specs.Keywords.{wordStart, keywords, isOneOf, endsInKeyword, known, mayStand}
-use Rattle.definition_scripts.specs.Listing.{tenOf, tens, readRows, unknownRow, ownRows, allRead, brokenRow, cutRows, sourceEnd, reached, firstIn, quotedInside, firstOdd, moreAfter, specBackslash, otherwise, otherwiseRow, sourceRows, below, levelsN, rowsOf, refusalsIn, fieldsOf, fieldsAfter, fieldsCall, fieldsInto, fieldsNumbers}
+use Rattle.definition_scripts.specs.Listing.{tenOf, tens, readRows, unknownRow, ownRows, allRead, brokenRow, cutRows, sourceEnd, reached, firstIn, quotedInside, firstOdd, moreAfter, specBackslash, otherwise, otherwiseRow, sourceRows, below, levelsN, rowsOf, refusalsIn, fieldsOf, fieldsAfter, fieldsCall, fieldsInto, fieldsNumbers, wrongNames}
 
 -- the answer's numbers and the row buffer, which held so many nines
 abbrev asked : (look : Naming) → String → ℕ → List ℕ × List ℕ
@@ -79,3 +79,8 @@ scripts look =
 pub scripts-listed : (look : Naming) → map (λ r. r .asks) (scripts look) ≡ map (λ r. r .is) (scripts look)
 unfolding scripts prefix ascii insideAny table37 following follow width decoded code next char formedFrom wellFormed utf8 whiteSpace before same more countFrom counted octalDigit octalFrom hexDigit scalar hexFrom lookup named unicodeName escapeCase escape encode meant withEscape stringCase stringMove stringN textCase textMove filled withEquals withBang withColon withClose fresh add documented spaced formatted outside fieldCase caseOf conversionMove openMove closeMove quoteMove fieldMove direct conversionOf fieldPieces selfDocumenting finished specified plainRun textN alone readBody touching covers item itemOf glue merge bothItems merged texts recordAt laid cover answerOf opening placeOf body refusal moved notEmpty notMany firstBad bad allGood total notLong formed illFormed allUtf8 anyOf firstStart notMixed firstOf entry openedAt refusalIn readLiteral andThen readFrom sortOf uMark lastEnd allChars answered read reason rowNumbers signAt signsAt fieldRows piecesOf literalRows oneLetter twoLetters opens quotesOf tripled quotesAt apart bodyCase closingN closing closedAt literalAt begins cutCase firstCut cutN cutFrom cut cutPart wordStart keywords isOneOf endsInKeyword known mayStand tenOf tens readRows unknownRow ownRows allRead brokenRow cutRows sourceEnd reached firstIn quotedInside firstOdd moreAfter specBackslash otherwise otherwiseRow sourceRows below levelsN rowsOf refusalsIn fieldsOf fieldsAfter fieldsCall fieldsInto fieldsNumbers
 scripts-listed look = refl
+
+-- a wrong file or index of names leaves zeros
+pub wrong-names-left : fieldsAfter (wrongNames 60) (9 ∷ 9 ∷ []) ≡ 0 ∷ 0 ∷ []
+unfolding fieldsAfter
+wrong-names-left = refl

@@ -180,3 +180,8 @@ calls =
 pub calls-shown : map (λ c. c .told ∷ c .left ∷ []) calls ≡ map (λ c. c .numbered ∷ c .holds ∷ []) calls
 unfolding calls prefix ascii insideAny table37 following follow width decoded code next char formedFrom wellFormed utf8 whiteSpace before same more countFrom counted octalDigit octalFrom hexDigit scalar hexFrom lookup named unicodeName escapeCase escape encode meant withEscape stringCase stringMove stringN textCase textMove filled withEquals withBang withColon withClose fresh add documented spaced formatted outside fieldCase caseOf conversionMove openMove closeMove quoteMove fieldMove direct conversionOf fieldPieces selfDocumenting finished specified plainRun textN alone readBody touching covers item itemOf glue merge bothItems merged texts recordAt laid cover answerOf opening placeOf body refusal moved notEmpty notMany firstBad bad allGood total notLong formed illFormed allUtf8 anyOf firstStart notMixed firstOf entry openedAt refusalIn readLiteral andThen readFrom sortOf uMark lastEnd allChars answered read roleAt recordsFrom sortFrom answerFrom heldFrom firstParts laterParts nextParts ownText holding contentFrom content filledWith alikeAfter sameContent pastField spelledByte spelledText spelledConversion spelled readAlone heldAlike readsAlike lie fits allFit ordered gapless noBytes oneOf sorted recordsFormed unplaced lentAnswer isUtf8 textsUtf8 isFormed writable written bodyAfter writtenInto writtenNumbers
 calls-shown = refl
+
+-- fields that differ in their conversion alone
+pub conversions-differ : sameContent (puts (ascii "x") 114 empty) (puts (ascii "x") 115 empty) ≡ false
+unfolding sameContent ascii same
+conversions-differ = refl

@@ -11,7 +11,7 @@ use lib.ListN.{length}
 use Rattle.definition.specs.Counts.{counted}
 use Rattle.definition.specs.Entry.{placeOf, body, formed, illFormed, allUtf8}
 use Rattle.definition.specs.Reading.{allChars, outcomeOf}
-use Rattle.definition.proofs.moves.Counted.{counted-small, counted-end}
+use Rattle.definition_laws.proofs.moves.Counted.{counted-small, counted-end}
 use Rattle.entry.specs.Answers.{described}
 use Rattle.entry.specs.Literals.{literalAt, literals}
 use Rattle.entry.proofs.Literals.{endBefore, badFrom, bad-turn, bad-found, bad-none, chars-turn, chars-none, chars-most}

@@ -9,7 +9,7 @@ use borrow.Author.Tests.{le-ltb}
 use lib.ListN.{length}
 use Rattle.definition.specs.Counts.{counted}
 use Rattle.definition.specs.Entry.{body, formed, illFormed}
-use Rattle.definition.proofs.moves.Counted.{counted-small, counted-end}
+use Rattle.definition_laws.proofs.moves.Counted.{counted-small, counted-end}
 use Rattle.entry.specs.Answers.{described}
 use Rattle.entry.proofs.Passed.{Good, not-bad, length-body}
 use Rattle.entry.proofs.pass_one.Statement.{statement}

@@ -3,7 +3,7 @@ use borrow.Author.Needs.{needs}
 use native.Mathlib.Omega.{arith}
 use mathlib.Core.Path.{refl}
 use Prim.Native.Nat.{_+_, _-_, _≤_, _<_}
-use Rattle.definition_replay.proofs.integers.WrittenLaws.{fills-in}
+use Rattle.definition_replay_laws.proofs.integers.WrittenLaws.{fills-in}
 use Rattle.integers.proofs.Joined.{head-short, least-short, copies-short, base-most, count-bound, held-long, written-five}
 use Rattle.integers.proofs.write_at.Statement.{statement}
 use Rattle.integers.proofs.write_at.Tie as tie

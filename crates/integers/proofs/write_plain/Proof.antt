@@ -5,7 +5,7 @@ use mathlib.Core.Path.{_∙_, ap}
 use Prim.Native.Nat.{_+_, _-_}
 use lib.ListN.{length}
 use Rattle.definition_replay.specs.Integers.{digits, baseOf}
-use Rattle.definition_replay.proofs.integers.WrittenLaws.{fills-in}
+use Rattle.definition_replay_laws.proofs.integers.WrittenLaws.{fills-in}
 use Rattle.integers.proofs.Bounds.{digits-few}
 use Rattle.integers.proofs.Joined.{base-most, head-short}
 use Rattle.integers.proofs.Plain.{copies-one, plain-written}

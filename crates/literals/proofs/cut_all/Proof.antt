@@ -5,7 +5,7 @@ use mathlib.Core.Path.{_≡_, refl, _∙_}
 use Prim.Native.Nat.{_-_}
 use lib.ListN.{length}
 use Rattle.definition_scripts.specs.Literals.{flat}
-use Rattle.definition_scripts.proofs.cut.CutListLaws.{cut-long}
+use Rattle.definition_scripts_laws.proofs.cut.CutListLaws.{cut-long}
 use Rattle.literals.proofs.Listings.{Cutting, cutting-starts, cutting-ended, cutting-broken, cutting-more}
 use Rattle.literals.proofs.cut_all.Statement.{statement}
 use Rattle.literals.proofs.cut_all.Tie as tie

@@ -2,7 +2,7 @@
 use borrow.Author.Needs.{needs}
 use native.Mathlib.Omega.{arith}
 use mathlib.Core.Path.{refl}
-use Rattle.definition_scripts.proofs.literals.LiteralSteps.{from-long, from-none, from-run}
+use Rattle.definition_scripts_laws.proofs.literals.LiteralSteps.{from-long, from-none, from-run}
 use Rattle.literals.proofs.Listings.{opens-there, call-refused, ends-run}
 use Rattle.literals.proofs.list_literals.Statement.{statement}
 use Rattle.literals.proofs.list_literals.Tie as tie

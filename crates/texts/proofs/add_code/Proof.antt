@@ -2,7 +2,7 @@
 use borrow.Author.Needs.{needs}
 use native.Mathlib.Omega.{arith}
 use Rattle.definition.specs.Escapes.{encode}
-use Rattle.definition.proofs.moves.Moves.{utf8-short}
+use Rattle.definition_laws.proofs.moves.Moves.{utf8-short}
 use Rattle.texts.proofs.add_code.Statement.{statement}
 use Rattle.texts.proofs.add_code.Tie as tie
 

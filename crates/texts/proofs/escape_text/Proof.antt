@@ -4,7 +4,7 @@ use native.Mathlib.Nat.{add-zero}
 use mathlib.Core.Path.{refl, sym, _∙_, ap}
 use Rattle.definition.specs.Escapes.{meant}
 use Rattle.definition.specs.Body.{withEscape}
-use Rattle.definition.proofs.moves.Moves.{escape-sound}
+use Rattle.definition_laws.proofs.moves.Moves.{escape-sound}
 use Rattle.buffers.proofs.Over.{over-nil}
 use Rattle.escapes.specs.Answers.{says}
 use Rattle.escapes.specs.Answers.{namesBy}

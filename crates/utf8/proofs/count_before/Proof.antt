@@ -5,7 +5,7 @@ use mathlib.Core.Path.{sym, _∙_}
 use Prim.Native.Nat.{_-_}
 use lib.ListN.{length}
 use Rattle.definition.proofs.moves.CharLaws.{next-past}
-use Rattle.definition.proofs.moves.Counted.{Counting, count-begins, count-stops, count-ends}
+use Rattle.definition_laws.proofs.moves.Counted.{Counting, count-begins, count-stops, count-ends}
 use Rattle.utf8.specs.Steps.{countOf}
 use Rattle.utf8.proofs.Steps.{step-char, step-end, step-counts}
 use Rattle.utf8.proofs.count_before.Statement.{statement}

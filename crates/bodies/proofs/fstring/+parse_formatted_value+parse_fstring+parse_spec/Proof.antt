@@ -5,7 +5,7 @@ use mathlib.Core.Path.{_≡_, refl, sym, _∙_}
 use Prim.Native.Nat.{_+_, _-_}
 use native.Mathlib.Numerals.{add-one}
 use borrow.Author.Tests.{eq-eqb, ne-eqb}
-use Rattle.definition.proofs.moves.Fuel.{first-in}
+use Rattle.definition_laws.proofs.moves.Fuel.{first-in}
 use lib.ListN.{length}
 use Rattle.escapes.specs.Answers.{namesBy}
 use Rattle.bodies.proofs.RecordLaws.{reserved-kept, specified-filled}

@@ -1,6 +1,6 @@
 -- `bodies::fstring::read_first` meets its contract. Assumes nothing.
 use borrow.Author.Needs.{needs}
-use Rattle.definition.proofs.moves.Fuel.{first-in}
+use Rattle.definition_laws.proofs.moves.Fuel.{first-in}
 use Rattle.bodies.proofs.fstring.read_first.Statement.{statement}
 use Rattle.bodies.proofs.fstring.read_first.Tie as tie
 

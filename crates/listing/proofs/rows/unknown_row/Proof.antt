@@ -3,7 +3,7 @@ use borrow.Author.Needs.{needs}
 use native.Mathlib.Omega.{arith}
 use mathlib.Core.Path.{sym, _∙_}
 use Rattle.definition_scripts.specs.Listing.{unknownRow}
-use Rattle.definition_scripts.proofs.listing.WordLaws.{word-ahead}
+use Rattle.definition_scripts_laws.proofs.listing.WordLaws.{word-ahead}
 use Rattle.literals.specs.Answers.{literalOf}
 use Rattle.listing.proofs.Written.{puts-none, puts-unknown}
 use Rattle.listing.proofs.rows.unknown_row.Statement.{statement}

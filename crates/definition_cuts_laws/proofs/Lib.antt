@@ -1,0 +1,4 @@
+pub mod windows
+pub mod tokens
+pub mod cuts
+pub mod plan

@@ -1,0 +1,2 @@
+pub mod IsPlan
+pub mod Standing

@@ -1,0 +1,10 @@
+pub mod Counted
+pub mod Adds
+pub mod Cases
+pub mod OpenBrackets
+pub mod Moves
+pub mod Steps
+pub mod Fuel
+pub mod Whole
+pub mod Depths
+pub mod Prefix

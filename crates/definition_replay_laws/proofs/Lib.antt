@@ -1,0 +1,4 @@
+pub mod spec
+pub mod integers
+pub mod trace
+pub mod replay

@@ -1,0 +1,4 @@
+pub mod literals
+pub mod cut
+pub mod listing
+pub mod computed

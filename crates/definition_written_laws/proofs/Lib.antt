@@ -1,0 +1,2 @@
+pub mod readback
+pub mod passes
