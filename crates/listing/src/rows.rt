@@ -146,10 +146,13 @@ fn unknown_row(s: &[u8], l: Literal, within: u32, rows: &mut [u32], count: usize
     ensures { λ r. ⌜ Puts (unknownRow (now (s .entry)) within (literalOf l)) (now (rows .entry)) (now (rows .exit)) count r ⌝ }
 {
     let start = l.start as usize;
+    let word = words::word_start(s, start);
+    if word == start {
+        return count;
+    }
     if words::may_stand(s, start) {
         return count;
     }
-    let word = words::word_start(s, start);
     let told = Told {
         start: l.start,
         place: word as u32,
