@@ -136,7 +136,7 @@ listInto l buffer = record { listing = l; list = listAfter l buffer }
 unfoldable pub literalsInto : (script : List ℕ) (offset : ℕ) (buffer : List ℕ) → ListCall
 literalsInto script offset buffer = listInto (listed (length buffer) (literalsFrom script offset)) buffer
 
--- The numbers of RULES 8.5: 0 first for a list, and with 53 at 9 how many are needed
+-- The numbers of RULES 8.5 and 9.7: 0 first for a list, and with 53 at 9 how many are needed
 unfoldable pub listNumbers : Listing → List ℕ
 listNumbers (lists ls to more) = 0 ∷ length ls ∷ to ∷ more ∷ []
 listNumbers (refused r) = r .number ∷ r .literal ∷ r .place ∷ []
