@@ -2,21 +2,23 @@
 use mathlib.Core.Path.{_≡_, refl, sym, _∙_, ap}
 use mathlib.Core.Bool.{Bool, true, false, not}
 use mathlib.Core.List.{List, [], _∷_, _++_, append-nil, append-assoc}
-use Prim.Native.Nat.{ℕ, zero, suc, _+_, _-_, _*_, _/_, _≤_, _<_}
+use Prim.Native.Nat.{ℕ, zero, suc, _+_, _-_, _*_, _/_, _≤_, _<_, min}
 use native.Mathlib.Nat.{zero-add, add-zero, suc-add, sub-zero}
 use native.Mathlib.Numerals.{add-one}
 use native.Mathlib.Omega.{arith}
-use lib.Dec.{eqb}
+use borrow.Author.Tests.{leb-true, leb-false}
+use lib.Dec.{eqb, leb}
 use lib.ListN.{length, take, drop, getD, length-append, length-take, length-drop}
-use lib.Seq.{take-length}
+use lib.Seq.{take-all, take-length, take-append-seam}
 use borrow.Rule.Slice.PartMut.{putMid, midOf}
 use Rattle.definition.specs.Numbers.{isFString, unknownPrefix}
 use Rattle.definition.specs.Chars.{if_then_else_}
 use Rattle.definition.specs.Escapes.{Naming}
 use Rattle.definition.specs.Entry.{Literal}
+use Rattle.definition.specs.Reading.{inFront}
 use Rattle.definition.specs.Rows.{reason, Row, rowNumbers}
 use Rattle.definition_scripts.specs.Keywords.{wordStart, mayStand}
-use Rattle.definition_scripts.specs.Listing.{ListRow, ofField, ofRefusal, tenOf, tens, readRows, unknownRow, ownRows, refusalsIn}
+use Rattle.definition_scripts.specs.Listing.{ListRow, ofField, ofRefusal, tenOf, tens, readRows, unknownRow, ownRows, refusalsIn, least}
 use Rattle.definition_scripts_laws.proofs.listing.ListingSteps.{ten, tens-length, tens-append}
 use Rattle.buffers.specs.Over.{over}
 use Rattle.buffers.proofs.Over.{over-nil, length-over, over-append, over-front, over-lent}
@@ -55,7 +57,15 @@ puts-append xs ys rows rows₁ rows₂ count m n a b =
       kept = b .kept ∙ k;
     }
 
--- THE ROWS OF A LITERAL: of one that is not read; of fields without room, and in a part that is lent for them
+-- the lesser of two numbers
+pub least-min : (a b : ℕ) → least a b ≡ min a b
+least-min a b = go (leb a b) refl
+  where
+    go : (t : Bool) → leb a b ≡ t → (if t then a else b) ≡ min a b
+    go true e = omega (arith, leb-true a b e)
+    go false e = omega (arith, leb-false a b e)
+
+-- THE ROWS OF A LITERAL: of one that is not read; of fields without room, in a block of eight rows, and in a part that is lent for them
 pub not-read : (look : Naming) → (s : List ℕ) (within : ℕ) (l : Literal) → isFString (l .kind) ≡ false → readRows look s within l ≡ []
 unfolding readRows
 not-read look s within l e = rw (e, readRows)
@@ -78,6 +88,17 @@ module _ (s : List ℕ) (w : ℕ) (l : Literal) (rows rows₁ : List ℕ) (count
 
 pub puts-short : (xs : List ListRow) (rows : List ℕ) (count n : ℕ) → n ≡ count + length xs → length rows / 10 < n → Puts xs rows rows count n
 puts-short xs rows count n e h = record { counted = e; wrote = λ k. absurd (omega arith); kept = refl }
+
+pub puts-block : (xs : List ListRow) (rows rows′ block block′ : List ℕ) (count n : ℕ) → length block ≡ 80 → Reads xs 0 block block′ n → n ≤ 8 → rows′ ≡ over rows (count * 10) (take (n * 10) block′) → Puts xs rows rows′ count (count + n)
+puts-block xs rows rows′ block block′ count n len p few e =
+    let t = tens-length xs in
+    let c = p .counted in
+    let all : take (length block) (tens xs) ≡ tens xs = take-all (length block) (tens xs) (omega arith) in
+    let holds : block′ ≡ tens xs ++ drop (length (tens xs)) block = p .wrote ∙ ap (λ ns. inFront ns block) all in
+    let size : n * 10 ≡ length (tens xs) = omega arith in
+    let first : take (n * 10) block′ ≡ tens xs = rw (holds, size) (take-append-seam (tens xs) (drop (length (tens xs)) block)) in
+    let put : rows′ ≡ over rows (count * 10) (tens xs) = e ∙ ap (over rows (count * 10)) first in
+    record { counted = omega arith; wrote = λ h. put; kept = ap length put ∙ length-over rows (count * 10) (tens xs) }
 
 -- A ROW READ BACK from where it stands
 getD-behind : (pre xs : List ℕ) (k d : ℕ) → getD (pre ++ xs) (length pre + k) d ≡ getD xs k d

@@ -6,6 +6,7 @@ use literals::Next;
 use literals::next_literal;
 use scans::words;
 use sources::Field;
+use sources::lesser;
 use sources::otherwise;
 use sources::source_end;
 use strings::Outcome;
@@ -108,7 +109,23 @@ fn put_refusal(rows: &mut [u32], count: usize, within: u32, t: Told)
     put_row(rows, count, row);
 }
 
-// Writes the rows of an f-string behind so many: its fields, or its one refusal. Says how many there are then.
+// Writes the numbers of rows behind so many rows, as far as there is room.
+fn put_rows(rows: &mut [u32], count: usize, numbers: &[u32])
+    ensures { λ _. ⌜ now (rows .exit) ≡ over (now (rows .entry)) (count * 10) (now (numbers .entry)) ⌝ }
+{
+    if rows.len() / 10 < count {
+        return;
+    }
+    let from = count * 10;
+    let n = lesser(rows.len() - from, numbers.len());
+    let mut i = 0;
+    while i < n {
+        rows[from + i] = numbers[i];
+        i += 1;
+    }
+}
+
+// Writes the rows of an f-string behind so many: its fields, or its one refusal. Says how many there are then. It is read once up to 8 fields, and above them once more.
 fn fstring_rows(
     s: &[u8],
     l: Literal,
@@ -121,14 +138,19 @@ fn fstring_rows(
     requires { ⌜ (isFString (l .kind) ≡ true) × (count < 4294967296) ⌝ }
     ensures { λ r. ⌜ Puts (readRows (namesBy (now (file .entry)) (now (index .entry))) (now (s .entry)) within (literalOf l)) (now (rows .entry)) (now (rows .exit)) count r ⌝ }
 {
-    let mut none = [0u32; 0];
-    match read_alone(s, l, within, 0, &mut none, file, index) {
+    let mut block = [0u32; 80];
+    match read_alone(s, l, within, 0, &mut block, file, index) {
         Alone::Refused(t) => {
             put_refusal(rows, count, within, t);
             count + 1
         }
         Alone::Fields(n) => {
             let to = count + n;
+            if n <= 8 {
+                let size = n * 10;
+                put_rows(rows, count, &block[..size]);
+                return to;
+            }
             if rows.len() / 10 < to {
                 return to;
             }

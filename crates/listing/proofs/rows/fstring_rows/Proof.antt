@@ -1,7 +1,9 @@
 -- `listing::rows::fstring_rows` meets its contract. Assumes nothing.
 use borrow.Author.Needs.{needs}
 use native.Mathlib.Omega.{arith}
-use Rattle.listing.proofs.Written.{puts-one, puts-short, puts-lent}
+use Prim.Native.Nat.{ℕ}
+use lib.ListN.{length-take, length-replicate}
+use Rattle.listing.proofs.Written.{puts-one, puts-short, puts-block, puts-lent}
 use Rattle.listing.proofs.rows.fstring_rows.Statement.{statement}
 use Rattle.listing.proofs.rows.fstring_rows.Tie as tie
 
@@ -16,15 +18,21 @@ fstring-rows-spec =
     (λ c. search needs)  -- add-result
     (λ c. search needs)  -- enum-known-n
     (λ c. let e = rw (c .before .n .given .1) at (c .before .before .before .before .read-alone .ensures) in let h = e .few in let p = (c .before .before .before .before .before .before .before .before .before .before .pre .1) in omega arith)  -- add-to
-    (λ c. let e = rw (c .before .before .n .given .1) at (c .before .before .before .before .before .read-alone .ensures) in puts-short _ _ _ _ (omega (arith, e .counted)) (c .if1 .taken))  -- returns
+    (λ c. search needs)  -- mul-size
+    (λ c. search needs)  -- array-share-prefix-block
+    (λ c. rw length-take (omega (arith, (c .before .before .before .before .before .before .block2 .given))))  -- slice-aggregate-put-rows
+    (λ c κs. search needs)  -- put-rows-requires
+    (λ c. search needs)  -- same-length
+    (λ c. puts-block _ _ _ _ _ _ _ (length-replicate {A = ℕ} 80 0) (rw (c .before .before .before .before .before .before .before .n .given .1) at (c .before .before .before .before .before .before .before .before .before .before .read-alone .ensures)) (c .before .before .before .before .before .if1 .taken) (c .before .before .put-rows .ensures))  -- returns
+    (λ c. let e = rw (c .before .before .before .n .given .1) at (c .before .before .before .before .before .before .read-alone .ensures) in puts-short _ _ _ _ (omega (arith, e .counted)) (c .if2 .taken))  -- returns-2
     (λ c. search needs)  -- mul-from
     (λ c. search needs)  -- mul-end
     (λ c. search needs)  -- mul-read-alone
     (λ c. search needs)  -- sub-read-alone
     (λ c. search needs)  -- part-read-alone-start
     (λ c. search needs)  -- part-read-alone-end
-    (λ c κs. (c .before .before .before .before .before .before .before .before .before .before .before .before .pre .0))  -- read-alone-requires-2
-    (λ c. search needs)  -- same-length
-    (λ c. rw (rw (c .before .before .before .before .before .t .given .1) at (c .before .before .before .before .before .before .before .before .read-alone .ensures)) (puts-one _ _ _ _ (c .before .before .put-refusal .ensures)))  -- returns-2
+    (λ c κs. (c .before .before .before .before .before .before .before .before .before .before .before .before .before .pre .0))  -- read-alone-requires-2
     (λ c. search needs)  -- same-length-2
-    (λ c. puts-lent _ _ _ _ _ _ _ _ _ (c .before .before .read-alone2 .last .1 .1 .1 .1 .0) (c .before .before .read-alone2 .result) (rw (c .before .before .before .before .before .before .n .given .1) at (c .before .before .before .before .before .before .before .before .before .read-alone .ensures)) (c .before .before .before .before .if1 .left) (c .before .before .read-alone2 .ensures)))  -- returns-3
+    (λ c. rw (rw (c .before .before .before .before .before .t .given .1) at (c .before .before .before .before .before .before .before .before .read-alone .ensures)) (puts-one _ _ _ _ (c .before .before .put-refusal .ensures)))  -- returns-3
+    (λ c. search needs)  -- same-length-3
+    (λ c. puts-lent _ _ _ _ _ _ _ _ _ (c .before .before .read-alone2 .last .1 .1 .1 .1 .0) (c .before .before .read-alone2 .result) (rw (c .before .before .before .before .before .before .before .n .given .1) at (c .before .before .before .before .before .before .before .before .before .before .read-alone .ensures)) (c .before .before .before .before .if2 .left) (c .before .before .read-alone2 .ensures)))  -- returns-4
