@@ -11,7 +11,9 @@ use Rattle.definition.specs.Chars.{if_then_else_, byte, _to_, inside, width, ne
 use Rattle.definition.specs.Counts.{counted}
 use Rattle.definition.proofs.moves.CharLaws.{cases, inside-true, inside-yes, inside-not, tail-none, between, width-in, width-end, next-past}
 use Rattle.definition_laws.proofs.moves.Counted.{Reached, start, step, counted-none, step-chars}
-use Rattle.utf8.specs.Runs.{Below, Ascii, headOf, headsFrom}
+use Rattle.utf8.specs.Runs.{Below, Ascii, allAscii, headOf, headsFrom}
+use Rattle.utf8.proofs.Runs.{below-all}
+use Rattle.utf8.proofs.Formed.{begun, ended}
 
 head-ascii : (b : ℕ) → b < 0x80 → headOf b ≡ 1
 unfolding headOf
@@ -132,3 +134,9 @@ module _ (s : List ℕ) where
   -- of ASCII alone
   pub ascii-chars : (at : ℕ) → Ascii s 0 at → at ≡ wellFormed s → at ≡ counted s at .chars
   ascii-chars at a e = let n = formed-chars at at a (omega arith) e in omega (arith, n, heads-none at)
+
+  pub ascii-whole : allAscii s ≡ true → (length s ≡ wellFormed s) × (length s ≡ counted s (length s) .chars)
+  ascii-whole e =
+      let a : Ascii s 0 (length s) = record { on = omega arith; within = omega arith; all = below-all s e } in
+      let w : length s ≡ wellFormed s = sym (ended s (length s) (begun s (length s) a) (λ h. absurd (omega arith))) in
+      (w, ascii-chars (length s) a w)

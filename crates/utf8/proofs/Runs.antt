@@ -1,14 +1,15 @@
 -- Runs of bytes: none, one byte, and a run behind another. Assumes nothing.
-use mathlib.Core.Path.{_≡_, subst}
-use mathlib.Core.List.{List}
-use Prim.Native.Nat.{ℕ, _+_, _≤_, _<_}
+use mathlib.Core.Path.{_≡_, refl, sym, _∙_, subst}
+use mathlib.Core.Bool.{Bool, true, false, _&&_}
+use mathlib.Core.List.{List, [], _∷_}
+use Prim.Native.Nat.{ℕ, zero, suc, _+_, _≤_, _<_}
 use native.Mathlib.Omega.{arith}
-use borrow.Author.Tests.{ltb-true, ltb-false}
-use lib.Dec.{ltb}
+use borrow.Author.Tests.{ltb-true, ltb-false, lt-ltb, le-ltb, leb-true, leb-false}
+use lib.Dec.{ltb, leb}
 use lib.ListN.{length}
 use Rattle.definition.specs.Chars.{byte}
-use Rattle.definition.proofs.moves.CharLaws.{cases}
-use Rattle.utf8.specs.Runs.{Below, Ascii}
+use Rattle.definition.proofs.moves.CharLaws.{cases, no}
+use Rattle.utf8.specs.Runs.{Below, Ascii, AsciiEnd, allAscii}
 
 module _ (s : List ℕ) where
   pub below-none : (n i j : ℕ) → j ≤ i → Below n s i j
@@ -32,3 +33,18 @@ module _ (s : List ℕ) where
 
   pub ascii-more : (i j : ℕ) → Ascii s i j → j < length s → byte s j < 0x80 → Ascii s i (j + 1)
   ascii-more i j a h b = ascii-on i j (j + 1) a (below-one 0x80 j b) (omega arith) (omega arith)
+
+-- a text that is all ASCII, and one that is not
+pub all-below : (s : List ℕ) → Below 0x80 s 0 (length s) → allAscii s ≡ true
+unfolding allAscii
+all-below [] p = refl
+all-below (b ∷ s) p = rw (lt-ltb b 0x80 (p 0 (omega arith) (omega arith)), all-below s (λ k h l. p (suc k) (omega arith) (omega arith)))
+
+pub not-all : (s : List ℕ) (j : ℕ) → j < length s → 0x80 ≤ byte s j → allAscii s ≡ false
+unfolding allAscii
+not-all [] j h b = absurd (omega arith)
+not-all (x ∷ s) zero h b = rw (le-ltb x 0x80 b)
+not-all (x ∷ s) (suc j) h b = cases (ltb x 0x80) (λ t. rw (t, not-all s j (omega arith) b)) (λ t. rw t)
+
+pub below-all : (s : List ℕ) → allAscii s ≡ true → Below 0x80 s 0 (length s)
+below-all s e k h l = cases (leb 0x80 (byte s k)) (λ t. no (sym (not-all s k l (leb-true _ _ t)) ∙ e)) (λ t. leb-false _ _ t)

@@ -1,7 +1,9 @@
 -- Runs of bytes: below a limit, well-formed; and the bytes that begin a character.
 use Prim.Native.Nat.{ℕ, zero, suc, _+_, _≤_, _<_}
 use mathlib.Core.Path.{_≡_}
-use mathlib.Core.List.{List}
+use mathlib.Core.Bool.{Bool, true, _&&_}
+use mathlib.Core.List.{List, [], _∷_}
+use lib.Dec.{ltb}
 use lib.ListN.{length}
 use Rattle.definition.specs.Chars.{if_then_else_, byte, _to_, inside, formedFrom}
 
@@ -14,6 +16,16 @@ pub record Ascii (s : List ℕ) (i j : ℕ) : Type 0 where
   pub on : i ≤ j
   pub within : j ≤ length s
   pub all : Below 0x80 s i j
+
+-- and the one at j, if there is one, is not
+pub record AsciiEnd (s : List ℕ) (i j : ℕ) : Type 0 where
+  pub upto : Ascii s i j
+  pub ends : j < length s → 0x80 ≤ byte s j
+
+-- whether a text is all ASCII
+unfoldable pub allAscii : List ℕ → Bool
+allAscii [] = true
+allAscii (b ∷ s) = ltb b 0x80 && allAscii s
 
 -- the prefix is well-formed up to i, and goes on from there
 pub record Formed (s : List ℕ) (i : ℕ) : Type 0 where

@@ -8,7 +8,7 @@ ghost use Rattle.definition.specs.Chars.{byte, follow, width, decoded, code, we
 ghost use Rattle.definition.specs.Counts.{more, counted};
 ghost use Rattle.utf8.specs.Classes.{classes, classOf, ranges};
 ghost use Rattle.utf8.specs.Steps.{stepAt, countOf};
-ghost use Rattle.utf8.specs.Runs.{Below, Ascii, Formed, headOf, headsFrom};
+ghost use Rattle.utf8.specs.Runs.{Below, Ascii, AsciiEnd, allAscii, Formed, headOf, headsFrom};
 ghost use Rattle.utf8.specs.Fits.{isDue, SecondFits, Fits, AllFit, Fitting, lastStart};
 
 // A place in the bytes of a body.
@@ -258,13 +258,13 @@ fn ascii_blocks(s: &[u8], at: usize, size: usize) -> usize
     i
 }
 
-// So far from an index on, and up to another, bytes are ASCII.
-fn ascii_bytes(s: &[u8], from: usize, to: usize) -> usize
-    requires { ⌜ (from ≤ to) × (to ≤ length (now s)) ⌝ }
-    ensures { λ r. ⌜ Ascii (now (s .entry)) from r ⌝ }
+// Where the ASCII bytes from an index on end, byte by byte.
+fn ascii_bytes(s: &[u8], from: usize) -> usize
+    requires { ⌜ from ≤ length (now s) ⌝ }
+    ensures { λ r. ⌜ AsciiEnd (now (s .entry)) from r ⌝ }
 {
     let mut i = from;
-    while i < to {
+    while i < s.len() {
         if 0x80 <= byte_at(s, i) {
             return i;
         }
@@ -273,10 +273,10 @@ fn ascii_bytes(s: &[u8], from: usize, to: usize) -> usize
     i
 }
 
-// So far from an index on bytes are ASCII, by blocks: the last eight may be looked at twice.
+// Where the ASCII bytes from an index on end, by blocks: the last eight may be looked at twice.
 fn ascii_far(s: &[u8], at: usize) -> usize
     requires { ⌜ at + 8 ≤ length (now s) ⌝ }
-    ensures { λ r. ⌜ Ascii (now (s .entry)) at r ⌝ }
+    ensures { λ r. ⌜ AsciiEnd (now (s .entry)) at r ⌝ }
 {
     let n = s.len();
     let i = ascii_blocks(s, at, 64);
@@ -286,21 +286,27 @@ fn ascii_far(s: &[u8], at: usize) -> usize
             return n;
         }
     }
-    ascii_bytes(s, j, n)
+    ascii_bytes(s, j)
 }
 
-// So far from an index on bytes are ASCII: by blocks if the first eight are.
+// Where the ASCII bytes from an index on end: by blocks if the first eight are.
 fn ascii_end(s: &[u8], at: usize) -> usize
     requires { ⌜ at ≤ length (now s) ⌝ }
-    ensures { λ r. ⌜ Ascii (now (s .entry)) at r ⌝ }
+    ensures { λ r. ⌜ AsciiEnd (now (s .entry)) at r ⌝ }
 {
-    let n = s.len();
-    if 8 <= n - at {
+    if 8 <= s.len() - at {
         if is_ascii(s, at, at + 8) {
             return ascii_far(s, at);
         }
     }
-    ascii_bytes(s, at, n)
+    ascii_bytes(s, at)
+}
+
+// Whether a text is all ASCII.
+pub fn all_ascii(s: &[u8]) -> bool
+    ensures { λ r. ⌜ r ≡ allAscii (now (s .entry)) ⌝ }
+{
+    s.len() <= ascii_end(s, 0)
 }
 
 // Whether the byte at an index is within low to high.

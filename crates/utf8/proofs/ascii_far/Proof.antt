@@ -17,6 +17,6 @@ ascii-far-spec =
     (λ c.
     let p = c .before .before .before .before .ascii-blocks .ensures in
     let q = c .before .before .before .ascii-blocks2 .ensures in
-    ascii-on _ _ _ _ (ascii-append _ _ _ _ p q) (λ k h l. c .before .is-ascii .ensures (c .if2 .taken) k (omega (arith, c .before .before .if1 .taken)) (omega arith)) (omega (arith, q .within)) (omega arith))  -- returns
+    record { upto = ascii-on _ _ _ _ (ascii-append _ _ _ _ p q) (λ k h l. c .before .is-ascii .ensures (c .if2 .taken) k (omega (arith, c .before .before .if1 .taken)) (omega arith)) (omega (arith, q .within)) (omega arith); ends = λ h. absurd (omega arith) })  -- returns
     (λ c κs. search needs)  -- ascii-bytes-requires
-    (λ c. ascii-append _ _ _ _ (ascii-append _ _ _ _ (c .before .before .before .ascii-blocks .ensures) (c .before .before .ascii-blocks2 .ensures)) (c .ascii-bytes .ensures)))  -- returns-2
+    (λ c. record { upto = ascii-append _ _ _ _ (ascii-append _ _ _ _ (c .before .before .before .ascii-blocks .ensures) (c .before .before .ascii-blocks2 .ensures)) (c .ascii-bytes .ensures .upto); ends = c .ascii-bytes .ensures .ends }))  -- returns-2

@@ -28,8 +28,8 @@ formed-until-spec =
     (λ c κs. search needs)  -- byte-at-requires
     (λ c. search needs)  -- add-ascii-end
     (λ c κs. search needs)  -- ascii-end-requires
-    (λ c. omega (arith, c .ascii-end .ensures .on))  -- loop-less
-    (λ c. past _ _ _ (c .ascii-end .ensures) (more _ _ 1 (c .before .before .before .before .loop .inv) (search needs) (width-ascii _ _ (rw (c .before .before .byte-at .ensures) at (c .before .if1 .taken))) (λ e. omega arith)))  -- loop-again
+    (λ c. omega (arith, c .ascii-end .ensures .upto .on))  -- loop-less
+    (λ c. past _ _ _ (c .ascii-end .ensures .upto) (more _ _ 1 (c .before .before .before .before .loop .inv) (search needs) (width-ascii _ _ (rw (c .before .before .byte-at .ensures) at (c .before .if1 .taken))) (λ e. omega arith)))  -- loop-again
     (λ c κs. search needs)  -- common-len-requires
     (λ c. omega (arith, rw (c .before .common-len .ensures (c .if2 .taken)) at (width-in (c .before .before .before .before .before .before .before .args .s .now) (c .before .before .before .before .before .loop .at) (c .before .before .before .before .before .loop .inv .within))))  -- add-at
     (λ c. omega (arith, rw (c .before .common-len .ensures (c .if2 .taken)) at (width-in (c .before .before .before .before .before .before .before .args .s .now) (c .before .before .before .before .before .loop .at) (c .before .before .before .before .before .loop .inv .within))))  -- loop-less-2

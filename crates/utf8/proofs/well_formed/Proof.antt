@@ -14,20 +14,20 @@ well-formed-spec =
     (tie.spec
     (λ c κs. search needs)  -- ascii-end-requires
     (λ c.
-    let h = c .before .ascii-end .ensures in
+    let h = c .before .ascii-end .ensures .upto in
     let e = sym (ended _ _ (begun _ _ h) (λ k. absurd (omega (arith, c .if1 .taken)))) in
     (e, ascii-chars _ _ h e))  -- returns
-    (λ c κs. search needs)  -- formed-end-requires
-    (λ c κs. let f = formed-within _ _ (begun _ _ (c .before .before .ascii-end .ensures)) in let e = c .formed-end .ensures in (omega arith, omega arith))  -- heads-between-requires
+    (λ c κs. c .before .ascii-end .ensures .upto)  -- formed-end-requires
+    (λ c κs. let f = formed-within _ _ (begun _ _ (c .before .before .ascii-end .ensures .upto)) in let e = c .formed-end .ensures in (omega arith, omega arith))  -- heads-between-requires
     (λ c.
     let a = c .before .before .before .before .before .args in
     let at = c .before .before .before .ascii-end .result in
     let len = c .before .formed-end .result in
-    let f = formed-within _ _ (begun _ _ (c .before .before .before .ascii-end .ensures)) in
+    let f = formed-within _ _ (begun _ _ (c .before .before .before .ascii-end .ensures .upto)) in
     omega (arith, c .before .formed-end .ensures, c .heads-between .ensures, heads-most (a .s .now) (len - at) at))  -- add-t6
     (λ c.
     let at = c .before .before .before .ascii-end .result in
-    let h = c .before .before .before .ascii-end .ensures in
+    let h = c .before .before .before .ascii-end .ensures .upto in
     let e = c .before .formed-end .ensures in
     let f = formed-within _ _ (begun _ _ h) in
     let k : at ≤ c .before .formed-end .result = omega arith in
