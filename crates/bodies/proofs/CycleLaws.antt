@@ -1,5 +1,5 @@
 -- What the callees of the cycle answer, put together: each law takes contracts as they stand, so that no answer writes out what it read. Assumes nothing.
-use mathlib.Core.Path.{_≡_, refl, subst}
+use mathlib.Core.Path.{_≡_, refl, subst, _∙_}
 use mathlib.Core.Bool.{false, true}
 use mathlib.Core.List.{List, [], _∷_}
 use Prim.Native.Nat.{ℕ, suc, _+_, _-_, _*_, _≤_, _<_}
@@ -21,7 +21,7 @@ use Rattle.records.specs.declared.Sink.{Sink}
 use Rattle.records.specs.declared.Head.{Head}
 use Rattle.bodies.specs.declared.fstring.Read.the-variants.{Done, Refused}
 use Rattle.bodies.specs.declared.fstring.End.the-variants as end
-use Rattle.records.specs.Written.{written, ended, specified, documentedText}
+use Rattle.records.specs.Written.{written, ended, specText, specified, documentedText}
 use Rattle.records.specs.Written as w
 use Rattle.records.specs.Rows.{windowed}
 use Rattle.records.specs.Rows as r
@@ -33,7 +33,7 @@ use Rattle.texts.proofs.Laws.{text-bounds, opens-shallow}
 use Rattle.bodies.specs.FieldTurns.{HeadIs, EndedIs, endOf}
 use Rattle.bodies.specs.Fstring.{Room, ReadIs, SpecIs, SignedBy, fieldEnd}
 use Rattle.bodies.specs.Rows.{Signed}
-use Rattle.bodies.proofs.RecordLaws.{Placed, ended-written, specified-filled, field-written, row-written}
+use Rattle.bodies.proofs.RecordLaws.{Placed, ended-written, spec-text-ended, specified-filled, field-written, row-written}
 use Rattle.bodies.proofs.FstringLaws.{before-spec, signsOf, one-part, gave, refuses, to-refuse, fits, small-head, run-ended, Gave, Sofar, SpecRoom, Kept, spec-room, closed-field, closed-reads, unformatted-field, spec-unended, spec-ended, specified-field, room-text, field-refused, field-further, spec-fits, spec-braced, braced-reads}
 use Rattle.bodies.proofs.RowLaws.{Rowing, closed-signed, field-signed, filled-signed, both-signed, read-signed, to-sign, few-field, text-few, goes-on, placed, head-in}
 
@@ -167,13 +167,13 @@ module _ (look : Naming) (s : List ℕ) (depth at : ℕ) (fr : Frame) (words tex
         (read-signed _ (given .pieces) (to .at) count fr rows₁ rows₂ n (given .reads) y)
 
 -- A SPEC's first piece behind the place kept for its record
-pub first-written : (s : List ℕ) (depth i : ℕ) (fr : Frame) (words words₁ : List ℕ) (k a b : Sink) (end j : ℕ) → Room s i fr k → Kept k a → j ≡ firstEnd s i → end + i ≡ k .used + j
-    → written words₁ b ≡ ended fr end (suc depth) (written words a)
+pub first-written : (s : List ℕ) (depth i : ℕ) (fr : Frame) (words words₁ : List ℕ) (k a b : Sink) (end j : ℕ) → Room s i fr k → isHeld k ≡ false → Kept k a → j ≡ firstEnd s i → end + i ≡ k .used + j
+    → written words₁ b ≡ specText fr end (written words a)
     → (t T : List ℕ) → end ≡ a .used + length t → Emits fr (suc depth) (filled (suc depth) t) words T words₁ (over T (a .used) t) a b
-first-written s depth i fr words words₁ k a b end j R K at size q =
+first-written s depth i fr words words₁ k a b end j R free K at size q =
     let lo = first-in s i (R .low) in
     ended-written fr end a words (record { small = omega (arith, K .load, R .load); ordered = K .ordered (R .ordered) })
-    (omega (arith, K .used, at, size)) (omega (arith, at, size, R .load, R .small)) (suc depth) words₁ b q
+    (omega (arith, K .used, at, size)) (omega (arith, at, size, R .load, R .small)) (suc depth) words₁ b (q ∙ spec-text-ended fr end depth a words (K .held ∙ free))
 
 -- and text behind it
 module _ (look : Naming) (s : List ℕ) (depth i : ℕ) (fr : Frame) (words text words₁ text₁ : List ℕ) (k a b : Sink) (end j : ℕ)

@@ -452,6 +452,7 @@ spec-room s depth from used fr words text words′ text₁ text′ k a h c R g m
 pub record Kept (k a : Sink) : Type 0 where
   pub used : a .used ≡ k .used
   pub count : a .count ≡ k .count + 1
+  pub held : isHeld a ≡ isHeld k
   pub load : loadOf a ≤ loadOf k + 1
   pub ordered : k .from ≤ k .used → a .from ≤ a .used
 
@@ -462,6 +463,7 @@ kept k a e z =
     record {
       used = ap (λ x. x .used) o;
       count = ap (λ x. x .count) o;
+      held = ap (λ x. x .held) o;
       load = omega (arith, ap (λ x. x .count) o, ap (λ x. x .used) o, ap (λ x. bit (x .held)) o, z);
       ordered = λ h. rw (ap (λ x. x .from) o, ap (λ x. x .used) o) h;
     }

@@ -19,7 +19,7 @@ use Rattle.records.specs.declared.Frame.{Frame}
 use Rattle.records.specs.declared.Sink.{Sink}
 use Rattle.records.specs.declared.Head.{Head}
 use Rattle.records.specs.Counts.{word, plus, minus}
-use Rattle.records.specs.Written.{Written, written, heldWords, closed, put, held, ended, reserved, specified, equalEnd, spacesEnd, documented, spaced, documentedText, fieldPut}
+use Rattle.records.specs.Written.{Written, written, heldWords, closed, put, held, ended, specText, reserved, specified, equalEnd, spacesEnd, documented, spaced, documentedText, fieldPut}
 use Rattle.records.specs.Written as w
 use Rattle.records.specs.Rows.{windowed}
 use Rattle.records.specs.Rows as r
@@ -83,6 +83,11 @@ module _ (fr : Frame) (to : ℕ) (k : Sink) (words : List ℕ) (f : Fits k) (l :
 
     pub ended-written : written words′ r ≡ ended fr to depth (written words k) → (t T : List ℕ) → to ≡ k .used + length t → Emits fr depth (filled depth t) words T words′ (over T (k .used) t) k r
     ended-written q t T s = subst (λ o. Emits fr depth (filled depth t) words T (o .words) (over T (k .used) t) k (o .sink)) (sym q) (ended-emits depth t T s)
+
+-- A SPEC'S FIRST TEXT is a literal one depth further, since nothing is held
+pub spec-text-ended : (fr : Frame) (to depth : ℕ) (k : Sink) (words : List ℕ) → isHeld k ≡ false → specText fr to (written words k) ≡ ended fr to (suc depth) (written words k)
+unfolding specText ended w.literal closed
+spec-text-ended fr to depth k words free = rw (ne-eqb (suc depth) 0 (λ q. omega arith), free)
 
 -- A PLACE KEPT FOR A SPEC, and filled in
 pub reserved-kept : (k r : Sink) → Fits k → r ≡ reserved k → ((words T : List ℕ) → outOf r words T ≡ e.reserved (outOf k words T)) × (r .parts ≡ 0)

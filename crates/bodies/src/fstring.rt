@@ -9,11 +9,14 @@ use marks::brace_from;
 use marks::unclosed_brace;
 use records::Frame;
 use records::Sink;
+use records::again::frame_again;
+use records::again::sink_again;
 use records::emit_field;
 use records::end_text;
 use records::fill_spec;
 use records::reserve;
 use records::rows::put_signs;
+use records::spec_text;
 use texts::Run;
 use texts::text_run;
 use utf8::Cursor;
@@ -110,7 +113,7 @@ fn parse_spec(
 {
     let first = read_first(s, at, text, k.used);
     let end = first.at;
-    let a = end_text(words, fr, reserve(k), first.used, nested + 1);
+    let a = spec_text(words, fr, reserve(k), first.used);
     if end.peek(s) != 0x7B {
         return Read::Done(end, fill_spec(words, fr, k, a), fields);
     }
@@ -118,11 +121,11 @@ fn parse_spec(
         s,
         end,
         nested + 1,
-        fr,
+        frame_again(fr),
         words,
         text,
         rows,
-        a,
+        sink_again(a),
         fields,
         file,
         index,

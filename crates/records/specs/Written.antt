@@ -57,6 +57,10 @@ literal fr to nested o =
 unfoldable pub ended : Frame → (to nested : ℕ) → Written → Written
 ended fr to nested o = if eqb (o .sink .used) to then o else literal fr to nested o
 
+-- a record of the text up to `to`, if there is any: a spec's first, before which nothing is held
+unfoldable pub specText : Frame → (to : ℕ) → Written → Written
+specText fr to o = if eqb (o .sink .used) to then o else put fr to 1 0 0 0 o
+
 -- a record place is kept for a spec, whose parts are counted from none
 unfoldable pub reserved : Sink → Sink
 reserved k = record { count = plus (k .count) 1; used = k .used; held = k .held; from = k .from; parts = 0 }

@@ -1,6 +1,9 @@
 // What is written of a literal's pieces: records, and the counters that stand for both buffers; and the rows of its fields.
+pub mod again;
 pub mod rows;
 
+use again::frame_again;
+use again::sink_again;
 use buffers::Record;
 use buffers::add_again;
 use buffers::add_spaces;
@@ -15,7 +18,7 @@ ghost use Prim.Native.Nat.{_+_};
 ghost use lib.Dec.{eqb};
 ghost use Rattle.definition.specs.Chars.{if_then_else_};
 ghost use Rattle.records.specs.Counts.{word as wordOf, plus as plusOf, minus as minusOf};
-ghost use Rattle.records.specs.Written.{written, closed, put as putOf, held, literal as literalOf, ended, reserved, specified, documented, documentedText, fieldPut, field};
+ghost use Rattle.records.specs.Written.{written, closed, put as putOf, held, literal as literalOf, ended, specText, reserved, specified, documented, documentedText, fieldPut, field};
 
 // What every top-level record of a call carries: its kind, the call's first start and last end, and its u mark.
 pub struct Whole {
@@ -194,7 +197,17 @@ pub fn end_text(words: &mut [u32], fr: Frame, k: Sink, to: usize, nested: usize)
     if nested == 0 {
         return hold(k, to);
     }
-    literal(words, fr, k, to, nested)
+    literal(words, frame_again(fr), sink_again(k), to, nested)
+}
+
+// A record of the text from the used length up to `to`, if there is any: a spec's first, before which nothing is held.
+pub fn spec_text(words: &mut [u32], fr: Frame, k: Sink, to: usize) -> Sink
+    ensures { λ r. ⌜ written (now (words .exit)) r ≡ specText fr to (written (now (words .entry)) k) ⌝ }
+{
+    if k.used == to {
+        return k;
+    }
+    put_inner(words, fr, k, to, 1, 0, 0, 0)
 }
 
 // A field's record, of the text from the used length up to `to`.
@@ -269,8 +282,12 @@ fn put_documented(
         put(text, to, b'=');
         add_spaces(text, equal, h.spaces);
         add_again(text, end, k.used, to);
-        let a = literal(words, fr, k, equal, nested);
-        return literal(words, fr, a, end, nested);
+        if nested == 0 {
+            return hold(hold(k, equal), end);
+        }
+        let f = frame_again(fr);
+        let a = literal(words, f, sink_again(k), equal, nested);
+        return literal(words, f, a, end, nested);
     }
     k
 }

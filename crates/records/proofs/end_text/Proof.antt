@@ -14,6 +14,8 @@ end-text-spec =
     (λ c. rw (eq-eqb _ _ (c .if1 .taken)))  -- returns
     (λ c κs. search needs)  -- hold-requires
     (λ c. rw (ne-eqb _ _ (c .before .before .if1 .left), eq-eqb _ _ (c .before .if2 .taken)) (ap (written _) (c .hold .ensures)))  -- returns-2
+    (λ c κs. search needs)  -- frame-again-requires
+    (λ c κs. search needs)  -- sink-again-requires
     (λ c κs. search needs)  -- literal-requires
     (λ c. search needs)  -- same-length
-    (λ c. rw (ne-eqb _ _ (c .before .before .before .before .before .if1 .left)) (c .before .before .literal .ensures)))  -- returns-3
+    (λ c. let e = rw (c .before .before .before .before .frame-again .ensures, c .before .before .before .sink-again .ensures) at (c .before .before .literal .ensures) in rw (ne-eqb _ _ (c .before .before .before .before .before .before .before .if1 .left)) e))  -- returns-3

@@ -30,7 +30,10 @@ use Rattle.bodies.proofs.fstring.+parse_formatted_value+parse_fstring+p
 use Rattle.records.proofs.emit_field.Reads as emit-field-reads
 use Rattle.records.proofs.end_text.Reads as end-text-reads
 use Rattle.records.proofs.fill_spec.Reads as fill-spec-reads
+use Rattle.records.proofs.again.frame_again.Reads as frame-again-reads
 use Rattle.records.proofs.reserve.Reads as reserve-reads
+use Rattle.records.proofs.again.sink_again.Reads as sink-again-reads
+use Rattle.records.proofs.spec_text.Reads as spec-text-reads
 use Rattle.bodies.proofs.field.read_head.Reads as read-head-reads
 use Rattle.bodies.proofs.fstring.end_field.Reads as end-field-reads
 use Rattle.bodies.proofs.fstring.read_first.Reads as read-first-reads
@@ -96,7 +99,7 @@ abbrev parse-fstring-calls : ℕ → parse-fstring-lts.Claims
 parse-fstring-calls t = (text-run-reads.Asked, text-run-reads.Learnt, end-text-reads.Asked, end-text-reads.Learnt, parse-formatted-value-below t, parse-formatted-value.Post)
 
 abbrev parse-spec-calls : ℕ → parse-spec-lts.Claims
-parse-spec-calls t = (read-first-reads.Asked, read-first-reads.Learnt, reserve-reads.Asked, reserve-reads.Learnt, end-text-reads.Asked, end-text-reads.Learnt, peek-reads.Asked, peek-reads.Learnt, fill-spec-reads.Asked, fill-spec-reads.Learnt, parse-fstring-below t, parse-fstring.Post)
+parse-spec-calls t = (read-first-reads.Asked, read-first-reads.Learnt, reserve-reads.Asked, reserve-reads.Learnt, spec-text-reads.Asked, spec-text-reads.Learnt, peek-reads.Asked, peek-reads.Learnt, fill-spec-reads.Asked, fill-spec-reads.Learnt, frame-again-reads.Asked, frame-again-reads.Learnt, sink-again-reads.Asked, sink-again-reads.Learnt, parse-fstring-below t, parse-fstring.Post)
 
 abbrev parse-fstring-Inv-loop : parse-fstring-lts.InvT-loop
 parse-fstring-Inv-loop s nested fr words₀ text₀ rows₀ fields file index once cursor₀ sink₀ count₀ words text rows cursor sink count =
@@ -131,19 +134,19 @@ parse-formatted-value-returns-5 t c =
 
 parse-spec-returns : (t : ℕ) → parse-spec-lts.Need-returns (parse-spec-calls t) (parse-spec-at t) parse-spec.Post
 parse-spec-returns t c =
-    let a = (c .before .before .before .before .before .before .before .before .before .before .before .before .before .before .before .before .before .before .before .before .before .before .args) in let R = (c .before .before .before .before .before .before .before .before .before .before .before .before .before .before .before .before .before .before .before .before .before .before .pre .1 .0) in let Z = (c .before .before .before .before .before .before .before .before .before .before .before .before .before .before .before .before .before .before .before .before .before .before .pre .1 .1 .0) in let N = reserved-kept (a .k) (c .before .before .before .before .before .before .before .before .before .reserve .result) (fits _ _ _ _ R) (c .before .before .before .before .before .before .before .before .before .reserve .ensures) in let K = kept (a .k) (c .before .before .before .before .before .before .before .before .before .reserve .result) (N .0) (N .1) in let F = (c .before .before .before .before .before .before .before .before .before .before .before .before .before .before .read-first .ensures) in let g = first-written (a .s .now) (a .nested) (a .at .at) (a .fr) _ _ (a .k) _ _ _ _ R K (F .0) (F .1) (rw (add-one (a .nested)) at (c .before .before .before .before .before .before .before .before .end-text .ensures)) in let n = ne-eqb _ _ (λ e. (c .before .before .before .before .if1 .taken) ((c .before .before .before .before .before .peek .ensures) ∙ e)) in let P = specified-filled (a .fr) (a .k) _ _ _ _ (fits _ _ _ _ R) (fits _ _ _ _ (first-room (a .s .now) (a .nested) (a .at .at) (a .fr) _ _ _ _ (a .k) _ _ _ _ R (Z .2) K (F .0) (F .1) (F .2) g)) (c .before .before .fill-spec .ensures) in (spec-plain (a .s .now) (a .nested) (a .at .at) (a .fr) _ _ _ _ (a .k) _ _ _ _ R (Z .2) K (F .0) (F .1) (F .2) g _ (Z .1) (N .0) (N .1) _ _ _ _ refl n (P .0) (P .1), to-sign _ _ _ _ (a .fr) _ _ (a .fields) (plain-reads (a .s .now) (a .nested) (a .at .at) (a .fr) _ _ _ _ (a .k) _ _ _ _ R (Z .2) K (F .0) (F .1) (F .2) g _ (Z .1) (N .0) (N .1) _ refl n) (filled-signed (a .fr) (suc (a .nested)) _ _ (a .fields)))
+    let a = (c .before .before .before .before .before .before .before .before .before .before .before .before .before .before .before .before .before .before .before .before .before .before .args) in let R = (c .before .before .before .before .before .before .before .before .before .before .before .before .before .before .before .before .before .before .before .before .before .before .pre .1 .0) in let Z = (c .before .before .before .before .before .before .before .before .before .before .before .before .before .before .before .before .before .before .before .before .before .before .pre .1 .1 .0) in let N = reserved-kept (a .k) (c .before .before .before .before .before .before .before .before .before .reserve .result) (fits _ _ _ _ R) (c .before .before .before .before .before .before .before .before .before .reserve .ensures) in let K = kept (a .k) (c .before .before .before .before .before .before .before .before .before .reserve .result) (N .0) (N .1) in let F = (c .before .before .before .before .before .before .before .before .before .before .before .before .before .before .read-first .ensures) in let g = first-written (a .s .now) (a .nested) (a .at .at) (a .fr) _ _ (a .k) _ _ _ _ R (Z .1) K (F .0) (F .1) (c .before .before .before .before .before .before .before .before .spec-text .ensures) in let n = ne-eqb _ _ (λ e. (c .before .before .before .before .if1 .taken) ((c .before .before .before .before .before .peek .ensures) ∙ e)) in let P = specified-filled (a .fr) (a .k) _ _ _ _ (fits _ _ _ _ R) (fits _ _ _ _ (first-room (a .s .now) (a .nested) (a .at .at) (a .fr) _ _ _ _ (a .k) _ _ _ _ R (Z .2) K (F .0) (F .1) (F .2) g)) (c .before .before .fill-spec .ensures) in (spec-plain (a .s .now) (a .nested) (a .at .at) (a .fr) _ _ _ _ (a .k) _ _ _ _ R (Z .2) K (F .0) (F .1) (F .2) g _ (Z .1) (N .0) (N .1) _ _ _ _ refl n (P .0) (P .1), to-sign _ _ _ _ (a .fr) _ _ (a .fields) (plain-reads (a .s .now) (a .nested) (a .at .at) (a .fr) _ _ _ _ (a .k) _ _ _ _ R (Z .2) K (F .0) (F .1) (F .2) g _ (Z .1) (N .0) (N .1) _ refl n) (filled-signed (a .fr) (suc (a .nested)) _ _ (a .fields)))
 
 parse-spec-parse-fstring-requires : (t : ℕ) → parse-spec-lts.Need-parse-fstring-requires (parse-spec-calls t) (parse-spec-at t) parse-spec.Post
 parse-spec-parse-fstring-requires t c κs =
-    let a = (c .before .before .before .before .before .before .before .before .before .before .before .before .before .before .before .before .before .before .before .before .before .args) in let R = (c .before .before .before .before .before .before .before .before .before .before .before .before .before .before .before .before .before .before .before .before .before .pre .1 .0) in let Z = (c .before .before .before .before .before .before .before .before .before .before .before .before .before .before .before .before .before .before .before .before .before .pre .1 .1 .0) in let N = reserved-kept (a .k) (c .before .before .before .before .before .before .before .before .reserve .result) (fits _ _ _ _ R) (c .before .before .before .before .before .before .before .before .reserve .ensures) in let K = kept (a .k) (c .before .before .before .before .before .before .before .before .reserve .result) (N .0) (N .1) in let F = (c .before .before .before .before .before .before .before .before .before .before .before .before .before .read-first .ensures) in let g = first-written (a .s .now) (a .nested) (a .at .at) (a .fr) _ _ (a .k) _ _ _ _ R K (F .0) (F .1) (rw (add-one (a .nested)) at (c .before .before .before .before .before .before .before .end-text .ensures)) in let lo = first-in (a .s .now) (a .at .at) (R .low) in let q = first-room (a .s .now) (a .nested) (a .at .at) (a .fr) _ _ _ _ (a .k) _ _ _ _ R (Z .2) K (F .0) (F .1) (F .2) g in (omega (arith, (c .before .before .before .before .before .before .before .before .before .before .before .before .before .before .before .before .before .before .before .before .before .pre .0), Z .0, F .0, q .low), (q, (omega (arith, Z .0), few-on (a .fr) (suc (a .nested)) _ _ _ _ _ _ _ _ _ _ _ (first-emits (a .s .now) (a .nested) (a .at .at) (a .fr) _ _ _ _ (a .k) _ _ _ _ R (Z .2) K (F .0) (F .1) (F .2) g) (filled-signed (a .fr) (suc (a .nested)) _ (a .rows .now) _) (omega (arith, K .count, (c .before .before .before .before .before .before .before .before .before .before .before .before .before .before .before .before .before .before .before .before .before .pre .1 .1 .1))))))
+    let a = (c .before .before .before .before .before .before .before .before .before .before .before .before .before .before .before .before .before .before .before .before .before .before .before .args) in let R = (c .before .before .before .before .before .before .before .before .before .before .before .before .before .before .before .before .before .before .before .before .before .before .before .pre .1 .0) in let Z = (c .before .before .before .before .before .before .before .before .before .before .before .before .before .before .before .before .before .before .before .before .before .before .before .pre .1 .1 .0) in let N = reserved-kept (a .k) (c .before .before .before .before .before .before .before .before .before .before .reserve .result) (fits _ _ _ _ R) (c .before .before .before .before .before .before .before .before .before .before .reserve .ensures) in let K = kept (a .k) (c .before .before .before .before .before .before .before .before .before .before .reserve .result) (N .0) (N .1) in let F = (c .before .before .before .before .before .before .before .before .before .before .before .before .before .before .before .read-first .ensures) in let g = first-written (a .s .now) (a .nested) (a .at .at) (a .fr) _ _ (a .k) _ _ _ _ R (Z .1) K (F .0) (F .1) (c .before .before .before .before .before .before .before .before .before .spec-text .ensures) in let lo = first-in (a .s .now) (a .at .at) (R .low) in let q = first-room (a .s .now) (a .nested) (a .at .at) (a .fr) _ _ _ _ (a .k) _ _ _ _ R (Z .2) K (F .0) (F .1) (F .2) g in rw (c .before .before .before .before .frame-again .ensures, c .sink-again .ensures) (omega (arith, (c .before .before .before .before .before .before .before .before .before .before .before .before .before .before .before .before .before .before .before .before .before .before .before .pre .0), Z .0, F .0, q .low), (q, (omega (arith, Z .0), few-on (a .fr) (suc (a .nested)) _ _ _ _ _ _ _ _ _ _ _ (first-emits (a .s .now) (a .nested) (a .at .at) (a .fr) _ _ _ _ (a .k) _ _ _ _ R (Z .2) K (F .0) (F .1) (F .2) g) (filled-signed (a .fr) (suc (a .nested)) _ (a .rows .now) _) (omega (arith, K .count, (c .before .before .before .before .before .before .before .before .before .before .before .before .before .before .before .before .before .before .before .before .before .before .before .pre .1 .1 .1))))))
 
 parse-spec-returns-2 : (t : ℕ) → parse-spec-lts.Need-returns-2 (parse-spec-calls t) (parse-spec-at t) parse-spec.Post
 parse-spec-returns-2 t c =
-    let a = (c .before .before .before .before .before .before .before .before .before .before .before .before .before .before .before .before .before .before .before .before .before .before .before .before .before .before .before .before .before .before .before .args) in let R = (c .before .before .before .before .before .before .before .before .before .before .before .before .before .before .before .before .before .before .before .before .before .before .before .before .before .before .before .before .before .before .before .pre .1 .0) in let Z = (c .before .before .before .before .before .before .before .before .before .before .before .before .before .before .before .before .before .before .before .before .before .before .before .before .before .before .before .before .before .before .before .pre .1 .1 .0) in let N = reserved-kept (a .k) (c .before .before .before .before .before .before .before .before .before .before .before .before .before .before .before .before .before .before .reserve .result) (fits _ _ _ _ R) (c .before .before .before .before .before .before .before .before .before .before .before .before .before .before .before .before .before .before .reserve .ensures) in let K = kept (a .k) (c .before .before .before .before .before .before .before .before .before .before .before .before .before .before .before .before .before .before .reserve .result) (N .0) (N .1) in let F = (c .before .before .before .before .before .before .before .before .before .before .before .before .before .before .before .before .before .before .before .before .before .before .before .read-first .ensures) in let g = first-written (a .s .now) (a .nested) (a .at .at) (a .fr) _ _ (a .k) _ _ _ _ R K (F .0) (F .1) (rw (add-one (a .nested)) at (c .before .before .before .before .before .before .before .before .before .before .before .before .before .before .before .before .before .end-text .ensures)) in let Q = rw (add-one (a .nested), (c .before .r .given .1)) at (c .before .before .before .before .before .before .before .before .before .parse-fstring .ensures .0 refl) in (spec-refused (a .s .now) (a .nested) (a .at .at) (a .fr) _ _ _ _ (a .k) _ _ _ _ R (Z .2) K (F .0) (F .1) (F .2) g _ (Z .1) (N .0) (N .1) (eq-eqb _ _ (sym (c .before .before .before .before .before .before .before .before .before .before .before .before .before .before .peek .ensures) ∙ (c .before .before .before .before .before .before .before .before .before .before .before .before .before .if1 .left))) _ _ _ (refuses _ _ _ _ _ _ _ _ _ _ (Q .0)), tt)
+    let a = (c .before .before .before .before .before .before .before .before .before .before .before .before .before .before .before .before .before .before .before .before .before .before .before .before .before .before .before .before .before .before .before .before .before .args) in let R = (c .before .before .before .before .before .before .before .before .before .before .before .before .before .before .before .before .before .before .before .before .before .before .before .before .before .before .before .before .before .before .before .before .before .pre .1 .0) in let Z = (c .before .before .before .before .before .before .before .before .before .before .before .before .before .before .before .before .before .before .before .before .before .before .before .before .before .before .before .before .before .before .before .before .before .pre .1 .1 .0) in let N = reserved-kept (a .k) (c .before .before .before .before .before .before .before .before .before .before .before .before .before .before .before .before .before .before .before .before .reserve .result) (fits _ _ _ _ R) (c .before .before .before .before .before .before .before .before .before .before .before .before .before .before .before .before .before .before .before .before .reserve .ensures) in let K = kept (a .k) (c .before .before .before .before .before .before .before .before .before .before .before .before .before .before .before .before .before .before .before .before .reserve .result) (N .0) (N .1) in let F = (c .before .before .before .before .before .before .before .before .before .before .before .before .before .before .before .before .before .before .before .before .before .before .before .before .before .read-first .ensures) in let g = first-written (a .s .now) (a .nested) (a .at .at) (a .fr) _ _ (a .k) _ _ _ _ R (Z .1) K (F .0) (F .1) (c .before .before .before .before .before .before .before .before .before .before .before .before .before .before .before .before .before .before .before .spec-text .ensures) in let Q = rw (add-one (a .nested), c .before .before .before .before .before .before .before .before .before .before .before .before .before .before .frame-again .ensures, c .before .before .before .before .before .before .before .before .before .before .sink-again .ensures, (c .before .r .given .1)) at (c .before .before .before .before .before .before .before .before .before .parse-fstring .ensures .0 refl) in (spec-refused (a .s .now) (a .nested) (a .at .at) (a .fr) _ _ _ _ (a .k) _ _ _ _ R (Z .2) K (F .0) (F .1) (F .2) g _ (Z .1) (N .0) (N .1) (eq-eqb _ _ (sym (c .before .before .before .before .before .before .before .before .before .before .before .before .before .before .before .before .peek .ensures) ∙ (c .before .before .before .before .before .before .before .before .before .before .before .before .before .before .before .if1 .left))) _ _ _ (refuses _ _ _ _ _ _ _ _ _ _ (Q .0)), tt)
 
 parse-spec-returns-3 : (t : ℕ) → parse-spec-lts.Need-returns-3 (parse-spec-calls t) (parse-spec-at t) parse-spec.Post
 parse-spec-returns-3 t c =
-    let a = (c .before .before .before .before .before .before .before .before .before .before .before .before .before .before .before .before .before .before .before .before .before .before .before .before .before .before .before .before .before .before .before .before .before .before .before .args) in let R = (c .before .before .before .before .before .before .before .before .before .before .before .before .before .before .before .before .before .before .before .before .before .before .before .before .before .before .before .before .before .before .before .before .before .before .before .pre .1 .0) in let Z = (c .before .before .before .before .before .before .before .before .before .before .before .before .before .before .before .before .before .before .before .before .before .before .before .before .before .before .before .before .before .before .before .before .before .before .before .pre .1 .1 .0) in let N = reserved-kept (a .k) (c .before .before .before .before .before .before .before .before .before .before .before .before .before .before .before .before .before .before .before .before .before .before .reserve .result) (fits _ _ _ _ R) (c .before .before .before .before .before .before .before .before .before .before .before .before .before .before .before .before .before .before .before .before .before .before .reserve .ensures) in let K = kept (a .k) (c .before .before .before .before .before .before .before .before .before .before .before .before .before .before .before .before .before .before .before .before .before .before .reserve .result) (N .0) (N .1) in let F = (c .before .before .before .before .before .before .before .before .before .before .before .before .before .before .before .before .before .before .before .before .before .before .before .before .before .before .before .read-first .ensures) in let g = first-written (a .s .now) (a .nested) (a .at .at) (a .fr) _ _ (a .k) _ _ _ _ R K (F .0) (F .1) (rw (add-one (a .nested)) at (c .before .before .before .before .before .before .before .before .before .before .before .before .before .before .before .before .before .before .before .before .before .end-text .ensures)) in let Q = rw (add-one (a .nested), (c .before .before .before .before .before .next .given .1)) at (c .before .before .before .before .before .before .before .before .before .before .before .before .before .parse-fstring .ensures .0 refl) in braced-returns _ (a .s .now) (a .nested) (a .at .at) (a .fr) _ _ _ _ (a .k) _ _ _ _ R (Z .2) K (F .0) (F .1) (F .2) g (Z .1) (N .0) (N .1) _ _ _ _ _ (Q .0) (eq-eqb _ _ (sym (c .before .before .before .before .before .before .before .before .before .before .before .before .before .before .before .before .before .before .peek .ensures) ∙ (c .before .before .before .before .before .before .before .before .before .before .before .before .before .before .before .before .before .if1 .left))) _ _ (c .before .before .fill-spec2 .ensures) _ _ (a .fields) (Q .1)
+    let a = (c .before .before .before .before .before .before .before .before .before .before .before .before .before .before .before .before .before .before .before .before .before .before .before .before .before .before .before .before .before .before .before .before .before .before .before .before .before .args) in let R = (c .before .before .before .before .before .before .before .before .before .before .before .before .before .before .before .before .before .before .before .before .before .before .before .before .before .before .before .before .before .before .before .before .before .before .before .before .before .pre .1 .0) in let Z = (c .before .before .before .before .before .before .before .before .before .before .before .before .before .before .before .before .before .before .before .before .before .before .before .before .before .before .before .before .before .before .before .before .before .before .before .before .before .pre .1 .1 .0) in let N = reserved-kept (a .k) (c .before .before .before .before .before .before .before .before .before .before .before .before .before .before .before .before .before .before .before .before .before .before .before .before .reserve .result) (fits _ _ _ _ R) (c .before .before .before .before .before .before .before .before .before .before .before .before .before .before .before .before .before .before .before .before .before .before .before .before .reserve .ensures) in let K = kept (a .k) (c .before .before .before .before .before .before .before .before .before .before .before .before .before .before .before .before .before .before .before .before .before .before .before .before .reserve .result) (N .0) (N .1) in let F = (c .before .before .before .before .before .before .before .before .before .before .before .before .before .before .before .before .before .before .before .before .before .before .before .before .before .before .before .before .before .read-first .ensures) in let g = first-written (a .s .now) (a .nested) (a .at .at) (a .fr) _ _ (a .k) _ _ _ _ R (Z .1) K (F .0) (F .1) (c .before .before .before .before .before .before .before .before .before .before .before .before .before .before .before .before .before .before .before .before .before .before .before .spec-text .ensures) in let Q = rw (add-one (a .nested), c .before .before .before .before .before .before .before .before .before .before .before .before .before .before .before .before .before .before .frame-again .ensures, c .before .before .before .before .before .before .before .before .before .before .before .before .before .before .sink-again .ensures, (c .before .before .before .before .before .next .given .1)) at (c .before .before .before .before .before .before .before .before .before .before .before .before .before .parse-fstring .ensures .0 refl) in braced-returns _ (a .s .now) (a .nested) (a .at .at) (a .fr) _ _ _ _ (a .k) _ _ _ _ R (Z .2) K (F .0) (F .1) (F .2) g (Z .1) (N .0) (N .1) _ _ _ _ _ (Q .0) (eq-eqb _ _ (sym (c .before .before .before .before .before .before .before .before .before .before .before .before .before .before .before .before .before .before .before .before .peek .ensures) ∙ (c .before .before .before .before .before .before .before .before .before .before .before .before .before .before .before .before .before .before .before .if1 .left))) _ _ (c .before .before .fill-spec2 .ensures) _ _ (a .fields) (Q .1)
 
 pub +parse-formatted-value+parse-fstring+parse-spec-spec : {M : Type 1} → statement M
 +parse-formatted-value+parse-fstring+parse-spec-spec =
@@ -219,23 +222,24 @@ pub +parse-formatted-value+parse-fstring+parse-spec-spec : {M : Type 1} → stat
     (λ t. parse-spec-lts.spec (parse-spec-calls t) (parse-spec-at t) parse-spec.Post
     (λ c κs. search needs)  -- read-first-requires
     (λ c κs. search needs)  -- reserve-requires
-    (λ c. let Z = (c .before .before .before .before .before .before .before .before .before .before .before .before .before .pre .1 .1 .0) in let z = Z .0 in search needs)  -- add-end-text
-    (λ c κs. search needs)  -- end-text-requires
+    (λ c κs. search needs)  -- spec-text-requires
     (λ c κs. search needs)  -- peek-requires
     (λ c κs. search needs)  -- fill-spec-requires
     (λ c. let l0 = (c .before .words2 .given) in let l1 = (c .before .before .before .before .before .before .before .words .given) in let l2 = (c .before .before .before .before .before .before .before .before .before .before .before .before .before .text .given) in search needs)  -- same-length
     (λ c. let l0 = (c .before .words2 .given) in let l1 = (c .before .before .before .before .before .before .before .words .given) in let l2 = (c .before .before .before .before .before .before .before .before .before .before .before .before .before .text .given) in search needs)  -- same-length-2
     (parse-spec-returns t)  -- returns
     (λ c. let Z = (c .before .before .before .before .before .before .before .before .before .before .before .before .before .before .before .before .before .before .pre .1 .1 .0) in let z = Z .0 in search needs)  -- add-parse-fstring
+    (λ c κs. search needs)  -- frame-again-requires
+    (λ c κs. search needs)  -- sink-again-requires
     (parse-spec-parse-fstring-requires t)  -- parse-fstring-requires
     (λ c. search needs)  -- enum-known-r
     (λ c. search needs)  -- enum-known-next
     (λ c κs. search needs)  -- fill-spec-requires-2
-    (λ c. let l0 = (c .before .before .before .before .rows .given) in let l1 = (c .before .before .before .before .before .before .text2 .given) in let l2 = (c .before .before .before .before .before .before .before .before .words3 .given) in let l3 = (c .before .before .before .before .before .before .before .before .before .before .before .before .before .before .before .before .words .given) in let l4 = (c .before .before .before .before .before .before .before .before .before .before .before .before .before .before .before .before .before .before .before .before .before .before .text .given) in search needs)  -- same-length-3
-    (λ c. let l0 = (c .before .before .before .before .rows .given) in let l1 = (c .before .before .before .before .before .before .text2 .given) in let l2 = (c .before .before .before .before .before .before .before .before .words3 .given) in let l3 = (c .before .before .before .before .before .before .before .before .before .before .before .before .before .before .before .before .words .given) in let l4 = (c .before .before .before .before .before .before .before .before .before .before .before .before .before .before .before .before .before .before .before .before .before .before .text .given) in search needs)  -- same-length-4
-    (λ c. let l0 = (c .before .before .before .before .rows .given) in let l1 = (c .before .before .before .before .before .before .text2 .given) in let l2 = (c .before .before .before .before .before .before .before .before .words3 .given) in let l3 = (c .before .before .before .before .before .before .before .before .before .before .before .before .before .before .before .before .words .given) in let l4 = (c .before .before .before .before .before .before .before .before .before .before .before .before .before .before .before .before .before .before .before .before .before .before .text .given) in search needs)  -- same-length-5
+    (λ c. let l0 = (c .before .before .before .before .rows .given) in let l1 = (c .before .before .before .before .before .before .text2 .given) in let l2 = (c .before .before .before .before .before .before .before .before .words3 .given) in let l3 = (c .before .before .before .before .before .before .before .before .before .before .before .before .before .before .before .before .before .before .words .given) in let l4 = (c .before .before .before .before .before .before .before .before .before .before .before .before .before .before .before .before .before .before .before .before .before .before .before .before .text .given) in search needs)  -- same-length-3
+    (λ c. let l0 = (c .before .before .before .before .rows .given) in let l1 = (c .before .before .before .before .before .before .text2 .given) in let l2 = (c .before .before .before .before .before .before .before .before .words3 .given) in let l3 = (c .before .before .before .before .before .before .before .before .before .before .before .before .before .before .before .before .before .before .words .given) in let l4 = (c .before .before .before .before .before .before .before .before .before .before .before .before .before .before .before .before .before .before .before .before .before .before .before .before .text .given) in search needs)  -- same-length-4
+    (λ c. let l0 = (c .before .before .before .before .rows .given) in let l1 = (c .before .before .before .before .before .before .text2 .given) in let l2 = (c .before .before .before .before .before .before .before .before .words3 .given) in let l3 = (c .before .before .before .before .before .before .before .before .before .before .before .before .before .before .before .before .before .before .words .given) in let l4 = (c .before .before .before .before .before .before .before .before .before .before .before .before .before .before .before .before .before .before .before .before .before .before .before .before .text .given) in search needs)  -- same-length-5
     (parse-spec-returns-2 t)  -- returns-2
-    (λ c. let l0 = (c .before .words4 .given) in let l1 = (c .before .before .before .before .before .before .before .before .rows .given) in let l2 = (c .before .before .before .before .before .before .before .before .before .before .text2 .given) in let l3 = (c .before .before .before .before .before .before .before .before .before .before .before .before .words3 .given) in let l4 = (c .before .before .before .before .before .before .before .before .before .before .before .before .before .before .before .before .before .before .before .before .words .given) in let l5 = (c .before .before .before .before .before .before .before .before .before .before .before .before .before .before .before .before .before .before .before .before .before .before .before .before .before .before .text .given) in search needs)  -- same-length-6
-    (λ c. let l0 = (c .before .words4 .given) in let l1 = (c .before .before .before .before .before .before .before .before .rows .given) in let l2 = (c .before .before .before .before .before .before .before .before .before .before .text2 .given) in let l3 = (c .before .before .before .before .before .before .before .before .before .before .before .before .words3 .given) in let l4 = (c .before .before .before .before .before .before .before .before .before .before .before .before .before .before .before .before .before .before .before .before .words .given) in let l5 = (c .before .before .before .before .before .before .before .before .before .before .before .before .before .before .before .before .before .before .before .before .before .before .before .before .before .before .text .given) in search needs)  -- same-length-7
-    (λ c. let l0 = (c .before .words4 .given) in let l1 = (c .before .before .before .before .before .before .before .before .rows .given) in let l2 = (c .before .before .before .before .before .before .before .before .before .before .text2 .given) in let l3 = (c .before .before .before .before .before .before .before .before .before .before .before .before .words3 .given) in let l4 = (c .before .before .before .before .before .before .before .before .before .before .before .before .before .before .before .before .before .before .before .before .words .given) in let l5 = (c .before .before .before .before .before .before .before .before .before .before .before .before .before .before .before .before .before .before .before .before .before .before .before .before .before .before .text .given) in search needs)  -- same-length-8
+    (λ c. let l0 = (c .before .words4 .given) in let l1 = (c .before .before .before .before .before .before .before .before .rows .given) in let l2 = (c .before .before .before .before .before .before .before .before .before .before .text2 .given) in let l3 = (c .before .before .before .before .before .before .before .before .before .before .before .before .words3 .given) in let l4 = (c .before .before .before .before .before .before .before .before .before .before .before .before .before .before .before .before .before .before .before .before .before .before .words .given) in let l5 = (c .before .before .before .before .before .before .before .before .before .before .before .before .before .before .before .before .before .before .before .before .before .before .before .before .before .before .before .before .text .given) in search needs)  -- same-length-6
+    (λ c. let l0 = (c .before .words4 .given) in let l1 = (c .before .before .before .before .before .before .before .before .rows .given) in let l2 = (c .before .before .before .before .before .before .before .before .before .before .text2 .given) in let l3 = (c .before .before .before .before .before .before .before .before .before .before .before .before .words3 .given) in let l4 = (c .before .before .before .before .before .before .before .before .before .before .before .before .before .before .before .before .before .before .before .before .before .before .words .given) in let l5 = (c .before .before .before .before .before .before .before .before .before .before .before .before .before .before .before .before .before .before .before .before .before .before .before .before .before .before .before .before .text .given) in search needs)  -- same-length-7
+    (λ c. let l0 = (c .before .words4 .given) in let l1 = (c .before .before .before .before .before .before .before .before .rows .given) in let l2 = (c .before .before .before .before .before .before .before .before .before .before .text2 .given) in let l3 = (c .before .before .before .before .before .before .before .before .before .before .before .before .words3 .given) in let l4 = (c .before .before .before .before .before .before .before .before .before .before .before .before .before .before .before .before .before .before .before .before .before .before .words .given) in let l5 = (c .before .before .before .before .before .before .before .before .before .before .before .before .before .before .before .before .before .before .before .before .before .before .before .before .before .before .before .before .text .given) in search needs)  -- same-length-8
     (parse-spec-returns-3 t))  -- returns-3
