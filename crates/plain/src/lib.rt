@@ -2,6 +2,7 @@
 use marks::is_foreign;
 use marks::is_special;
 use marks::wide;
+use searches::is_byte;
 use utf8::greater;
 ghost use mathlib.Core.Path.{_≡_};
 ghost use mathlib.Core.Bool.{_&&_, not, true};
@@ -25,13 +26,6 @@ fn plain_to(s: &[u8], from: usize, to: usize, kind: u32) -> usize
         i += 1;
     }
     i
-}
-
-// 1 if a byte is another one, else 0.
-fn is_byte(b: u8, other: u8) -> u8
-    ensures { λ r. ⌜ (b ≡ other → r ≡ 1) ⌝ }
-{
-    if b == other { 1 } else { 0 }
 }
 
 // Whether the bytes from an index up to another are plain.

@@ -26,9 +26,9 @@ module _ (s : List ℕ) (quote flag : ℕ) where
   unfolding bodyCase quotesAt
   plain-case i h e =
       let b = byte s i in
-      let p = neither (eqb b quote || eqb b 92) (eqb b (thirdOf quote flag)) e in
-      let q = neither (eqb b quote) (eqb b 92) (p .0) in
-      rw (lt-leb (length s) i h, q .1, q .0) (last (eqb flag 1) (p .1))
+      let p = neither (eqb b quote) (eqb b 92 || eqb b (thirdOf quote flag)) e in
+      let q = neither (eqb b 92) (eqb b (thirdOf quote flag)) (p .1) in
+      rw (lt-leb (length s) i h, q .0, p .0) (last (eqb flag 1) (q .1))
     where
       last : (t : Bool) → eqb (byte s i) (if t then quote else 10) ≡ false → (if byte s i is "\n" && not t then breaks else plain) ≡ plain
       last true e = cases (byte s i is "\n") (λ f. rw f) (λ f. rw f)

@@ -5,6 +5,7 @@ use lib.Dec.{eqb}
 use Rattle.definition.specs.Chars.{if_then_else_, _is_}
 use Rattle.definition_scripts.specs.Opening.{noKind}
 use Rattle.definition_scripts.specs.Literals as s
+use Rattle.searches.specs.Firsts.{oneOf}
 use Rattle.scans.specs.declared.BodyCase.{BodyCase}
 use Rattle.scans.specs.declared.BodyCase.the-variants.{Over, Takes, Closes, Breaks, Plain}
 use Rattle.scans.specs.declared.Closing.{Closing}
@@ -16,7 +17,7 @@ rawKind a = if a is "fF" then 4 else if a is "bB" then 5 else noKind
 
 -- what a scan over a body stops at, and its third byte by the literal's quote and flag
 abbrev pub mark : ℕ → ℕ → ℕ → Bool
-mark quote third b = eqb b quote || eqb b 92 || eqb b third
+mark quote third = oneOf quote 92 third
 
 abbrev pub thirdOf : ℕ → ℕ → ℕ
 thirdOf quote flag = if eqb flag 1 then quote else 10
@@ -34,4 +35,4 @@ closingOf (Fails number) = s.fails number
 
 -- what a scan over a gap stops at
 abbrev pub cutMark : ℕ → Bool
-cutMark b = eqb b 39 || eqb b 34 || eqb b 35
+cutMark b = b is "'\"#"

@@ -1,14 +1,15 @@
 // What is looked for in a script: what opens a literal and where it closes, the ends of lines and comments, and what stands before a prefix.
 pub mod words;
 
+use searches::first_of;
 ghost use mathlib.Core.Path.{_≡_};
-ghost use Prim.Native.Nat.{_+_, _<_};
-ghost use lib.ListN.{length, drop};
-ghost use Rattle.definition.specs.Chars.{_is_, byte, before, inside, _to_};
+ghost use Prim.Native.Nat.{_<_};
+ghost use lib.ListN.{length};
+ghost use Rattle.definition.specs.Chars.{_is_, byte, inside, _to_};
 ghost use Rattle.definition_scripts.specs.Opening.{isQuote, oneLetter, twoLetters, opens, tripled, quotesAt, lineEnd, isWord, apart, firstAt};
 ghost use Rattle.definition_scripts.specs.Literals.{bodyCase, closing};
 ghost use Rattle.definition_scripts.specs.Cut.{commentEnd};
-ghost use Rattle.scans.specs.Scans.{rawKind, mark, thirdOf, caseOf, closingOf, cutMark};
+ghost use Rattle.scans.specs.Scans.{rawKind, thirdOf, caseOf, closingOf, cutMark};
 
 // What stands at an index of a body: nothing more, a backslash with what it takes, the closing quotes, a newline that may not stand there, or any other byte.
 pub(crate) enum BodyCase {
@@ -189,27 +190,6 @@ fn third(quote: u8, triple: u32) -> u8
     b'\n'
 }
 
-// The index of the first quote, backslash or third byte from an index on, or the end.
-fn plain_end(s: &[u8], quote: u8, third: u8, from: usize) -> usize
-    ensures { λ r. ⌜ r ≡ from + before (mark quote third) (drop from (now (s .entry))) ⌝ }
-{
-    let mut i = from;
-    while i < s.len() {
-        let b = s[i];
-        if b == quote {
-            return i;
-        }
-        if b == b'\\' {
-            return i;
-        }
-        if b == third {
-            return i;
-        }
-        i += 1;
-    }
-    i
-}
-
 // Where the closing quotes of the body that begins at an index stand.
 pub fn closing_from(s: &[u8], quote: u8, triple: u32, from: usize) -> Closing
     ensures { λ r. ⌜ closingOf r ≡ closing (now (s .entry)) quote triple from ⌝ }
@@ -220,7 +200,7 @@ pub fn closing_from(s: &[u8], quote: u8, triple: u32, from: usize) -> Closing
     let third = third(quote, triple);
     let mut at = from;
     loop {
-        let to = plain_end(s, quote, third, at);
+        let to = first_of(s, at, quote, b'\\', third);
         match body_case(s, quote, triple, to) {
             BodyCase::Over => {
                 return Closing::Fails(NEVER_CLOSED);
@@ -245,53 +225,21 @@ pub fn closing_from(s: &[u8], quote: u8, triple: u32, from: usize) -> Closing
 pub fn line_end(s: &[u8], from: usize) -> usize
     ensures { λ r. ⌜ r ≡ lineEnd (now (s .entry)) from ⌝ }
 {
-    let mut i = from;
-    while i < s.len() {
-        if s[i] == b'\n' {
-            return i;
-        }
-        i += 1;
-    }
-    i
+    first_of(s, from, b'\n', b'\n', b'\n')
 }
 
 // The index of the first byte 10 or 13 from an index on, or the end.
 pub fn comment_end(s: &[u8], from: usize) -> usize
     ensures { λ r. ⌜ r ≡ commentEnd (now (s .entry)) from ⌝ }
 {
-    let mut i = from;
-    while i < s.len() {
-        let b = s[i];
-        if b == b'\n' {
-            return i;
-        }
-        if b == b'\r' {
-            return i;
-        }
-        i += 1;
-    }
-    i
+    first_of(s, from, b'\n', b'\r', b'\r')
 }
 
 // The index of the first quote or `#` from an index on, or the end.
 pub fn mark_from(s: &[u8], from: usize) -> usize
     ensures { λ r. ⌜ r ≡ firstAt cutMark (now (s .entry)) from ⌝ }
 {
-    let mut i = from;
-    while i < s.len() {
-        let b = s[i];
-        if b == b'\'' {
-            return i;
-        }
-        if b == b'"' {
-            return i;
-        }
-        if b == b'#' {
-            return i;
-        }
-        i += 1;
-    }
-    i
+    first_of(s, from, b'\'', b'"', b'#')
 }
 
 // Whether a code lies in a range.

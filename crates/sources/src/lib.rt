@@ -3,13 +3,13 @@ use literals::Literal;
 use literals::Next;
 use literals::next_literal;
 use scans::opens;
+use searches::first_of;
 ghost use mathlib.Core.Path.{_≡_};
 ghost use mathlib.Core.Bool.{not};
 ghost use Prim.Native.Nat.{_≤_};
 ghost use lib.Dec.{eqb, ltb};
 ghost use lib.ListN.{length};
 ghost use Rattle.definition.specs.Chars.{_is_, if_then_else_};
-ghost use Rattle.definition_scripts.specs.Opening.{firstAt};
 ghost use Rattle.definition_scripts.specs.Cut.{cutPart};
 ghost use Rattle.definition_scripts.specs.Listing.{sourceEnd, quotedInside, moreAfter, specBackslash, least, otherwise};
 ghost use Rattle.literals.specs.Answers.{literalOf};
@@ -146,27 +146,6 @@ fn more_after(s: &[u8], f: Field, end: usize) -> usize
     s.len()
 }
 
-// The first brace or backslash from an index on, or the end.
-fn brace_from(s: &[u8], from: usize) -> usize
-    ensures { λ r. ⌜ r ≡ firstAt (λ b. b is "{}\\") (now (s .entry)) from ⌝ }
-{
-    let mut i = from;
-    while i < s.len() {
-        let b = s[i];
-        if b == b'{' {
-            return i;
-        }
-        if b == b'}' {
-            return i;
-        }
-        if b == b'\\' {
-            return i;
-        }
-        i += 1;
-    }
-    i
-}
-
 // A backslash in a field's spec before any brace, in a literal of kind 1; else the script's length.
 fn spec_backslash(s: &[u8], f: Field) -> usize
     ensures { λ r. ⌜ r ≡ specBackslash (now (s .entry)) (f .start) (signsOf f) ⌝ }
@@ -177,7 +156,7 @@ fn spec_backslash(s: &[u8], f: Field) -> usize
     if opens(s, f.start as usize) != 1 {
         return s.len();
     }
-    let i = brace_from(s, f.colon as usize);
+    let i = first_of(s, f.colon as usize, b'{', b'}', b'\\');
     if s.len() <= i {
         return s.len();
     }

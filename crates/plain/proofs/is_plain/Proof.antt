@@ -1,18 +1,22 @@
 -- `plain::is_plain` meets its contract. Assumes nothing.
 use borrow.Author.Needs.{needs}
-use borrow.Author.Tests.{not-true, ltb-true, ltb-false, ne-eqb, lt-leb, leb-false}
+use borrow.Author.Tests.{not-true, ltb-true, ltb-false, eq-eqb, ne-eqb, lt-leb, leb-false}
 use native.Mathlib.Omega.{arith}
 use mathlib.Core.Path.{_≡_, refl, sym, _∙_, subst}
 use mathlib.Core.Bool.{Bool, true, false, _&&_, not, false≢true}
 use Prim.Native.Nat.{ℕ, _+_, _-_, _≤_, _<_}
 use mathlib.Core.List.{List}
-use lib.Dec.{ltb, leb}
+use lib.Dec.{ltb, leb, eqb}
 use Rattle.definition.specs.Numbers.{isBytes}
-use Rattle.definition.specs.Chars.{byte}
+use Rattle.definition.specs.Chars.{if_then_else_, byte}
 use Rattle.definition.proofs.moves.CharLaws.{cases, byte-is}
 use Rattle.marks.specs.Marks.{special}
 use Rattle.plain.proofs.is_plain.Statement.{statement}
 use Rattle.plain.proofs.is_plain.Tie as tie
+
+-- a byte that is another sets its mark
+sets : (x y mark : ℕ) → mark ≡ (if eqb x y then 1 else 0) → x ≡ y → mark ≡ 1
+sets x y mark e h = e ∙ rw (eq-eqb x y h)
 
 -- what the marks tell of a byte that was seen
 record Marked (b most left right backslash : ℕ) : Type 0 where
@@ -73,9 +77,9 @@ is-plain-spec =
     one-more (a .s .now) (a .from) (l .i) _ _ _ _ _ _ _ _ (omega (arith, m)) (omega (arith, x)) (omega (arith, y)) (omega (arith, z))
     (record {
       below = omega (arith, m, b);
-      lefts = λ e. omega (arith, x, c .before .before .before .before .before .is-byte .ensures (b ∙ e));
-      rights = λ e. omega (arith, y, c .before .before .before .is-byte2 .ensures (b ∙ e));
-      backslashes = λ e. omega (arith, z, c .before .is-byte3 .ensures (b ∙ e));
+      lefts = λ e. omega (arith, x, sets _ _ _ (c .before .before .before .before .before .is-byte .ensures) (b ∙ e));
+      rights = λ e. omega (arith, y, sets _ _ _ (c .before .before .before .is-byte2 .ensures) (b ∙ e));
+      backslashes = λ e. omega (arith, z, sets _ _ _ (c .before .is-byte3 .ensures) (b ∙ e));
     })
     (l .inv))  -- loop-again
     (λ c κs. search needs)  -- greater-requires-5

@@ -24,19 +24,19 @@ closing-from-spec =
     (λ c. past-fails _ _ _ _ (c .if1 .taken))  -- returns
     (λ c κs. search needs)  -- third-requires
     (λ c. (c .third .ensures, going-starts _ _ _ _ (c .before .if1 .left)))  -- loop-holds
-    (λ c κs. search needs)  -- plain-end-requires
+    (λ c κs. search needs)  -- first-of-requires
     (λ c κs. search needs)  -- body-case-requires
     (λ c. search needs)  -- enum-told
-    (λ c. ends-over _ _ _ _ _ _ _ (c .before .before .before .before .loop .inv .1) (c .before .before .before .before .loop .inv .0) (c .before .before .before .plain-end .ensures) (rw (c .enum-told .given .1) at (c .before .before .body-case .ensures)))  -- returns-2
+    (λ c. ends-over _ _ _ _ _ _ _ (c .before .before .before .before .loop .inv .1) (c .before .before .before .before .loop .inv .0) (c .before .before .before .first-of .ensures) (rw (c .enum-told .given .1) at (c .before .before .body-case .ensures)))  -- returns-2
     (λ c. search needs)  -- enum-told-2
-    (λ c. let l = goes-takes _ _ _ _ _ _ _ (c .before .before .before .before .loop .inv .1) (c .before .before .before .before .loop .inv .0) (c .before .before .before .plain-end .ensures) (rw (c .enum-told2 .given .1) at (c .before .before .body-case .ensures)) in omega (arith, l .0))  -- add-at
-    (λ c. let l = goes-takes _ _ _ _ _ _ _ (c .before .before .before .before .loop .inv .1) (c .before .before .before .before .loop .inv .0) (c .before .before .before .plain-end .ensures) (rw (c .enum-told2 .given .1) at (c .before .before .body-case .ensures)) in omega (arith, l .0, c .before .before .before .plain-end .ensures))  -- loop-less
-    (λ c. (c .before .before .before .before .loop .inv .0, (goes-takes _ _ _ _ _ _ _ (c .before .before .before .before .loop .inv .1) (c .before .before .before .before .loop .inv .0) (c .before .before .before .plain-end .ensures) (rw (c .enum-told2 .given .1) at (c .before .before .body-case .ensures))) .1))  -- loop-again
+    (λ c. let l = goes-takes _ _ _ _ _ _ _ (c .before .before .before .before .loop .inv .1) (c .before .before .before .before .loop .inv .0) (c .before .before .before .first-of .ensures) (rw (c .enum-told2 .given .1) at (c .before .before .body-case .ensures)) in omega (arith, l .0))  -- add-at
+    (λ c. let l = goes-takes _ _ _ _ _ _ _ (c .before .before .before .before .loop .inv .1) (c .before .before .before .before .loop .inv .0) (c .before .before .before .first-of .ensures) (rw (c .enum-told2 .given .1) at (c .before .before .body-case .ensures)) in omega (arith, l .0, c .before .before .before .first-of .ensures))  -- loop-less
+    (λ c. (c .before .before .before .before .loop .inv .0, (goes-takes _ _ _ _ _ _ _ (c .before .before .before .before .loop .inv .1) (c .before .before .before .before .loop .inv .0) (c .before .before .before .first-of .ensures) (rw (c .enum-told2 .given .1) at (c .before .before .body-case .ensures))) .1))  -- loop-again
     (λ c. search needs)  -- enum-told-3
-    (λ c. ends-closes _ _ _ _ _ _ _ (c .before .before .before .before .loop .inv .1) (c .before .before .before .before .loop .inv .0) (c .before .before .before .plain-end .ensures) (rw (c .enum-told3 .given .1) at (c .before .before .body-case .ensures)))  -- returns-3
+    (λ c. ends-closes _ _ _ _ _ _ _ (c .before .before .before .before .loop .inv .1) (c .before .before .before .before .loop .inv .0) (c .before .before .before .first-of .ensures) (rw (c .enum-told3 .given .1) at (c .before .before .body-case .ensures)))  -- returns-3
     (λ c. search needs)  -- enum-told-4
-    (λ c. ends-breaks _ _ _ _ _ _ _ (c .before .before .before .before .loop .inv .1) (c .before .before .before .before .loop .inv .0) (c .before .before .before .plain-end .ensures) (rw (c .enum-told4 .given .1) at (c .before .before .body-case .ensures)))  -- returns-4
+    (λ c. ends-breaks _ _ _ _ _ _ _ (c .before .before .before .before .loop .inv .1) (c .before .before .before .before .loop .inv .0) (c .before .before .before .first-of .ensures) (rw (c .enum-told4 .given .1) at (c .before .before .body-case .ensures)))  -- returns-4
     (λ c. search needs)  -- enum-told-5
-    (λ c. let l = goes-plain _ _ _ _ _ _ _ (c .before .before .before .before .loop .inv .1) (c .before .before .before .before .loop .inv .0) (c .before .before .before .plain-end .ensures) (rw (c .enum-told5 .given .1) at (c .before .before .body-case .ensures)) in omega (arith, l .0))  -- add-at-2
-    (λ c. let l = goes-plain _ _ _ _ _ _ _ (c .before .before .before .before .loop .inv .1) (c .before .before .before .before .loop .inv .0) (c .before .before .before .plain-end .ensures) (rw (c .enum-told5 .given .1) at (c .before .before .body-case .ensures)) in omega (arith, l .0, c .before .before .before .plain-end .ensures))  -- loop-less-2
-    (λ c. (c .before .before .before .before .loop .inv .0, (goes-plain _ _ _ _ _ _ _ (c .before .before .before .before .loop .inv .1) (c .before .before .before .before .loop .inv .0) (c .before .before .before .plain-end .ensures) (rw (c .enum-told5 .given .1) at (c .before .before .body-case .ensures))) .1)))  -- loop-again-2
+    (λ c. let l = goes-plain _ _ _ _ _ _ _ (c .before .before .before .before .loop .inv .1) (c .before .before .before .before .loop .inv .0) (c .before .before .before .first-of .ensures) (rw (c .enum-told5 .given .1) at (c .before .before .body-case .ensures)) in omega (arith, l .0))  -- add-at-2
+    (λ c. let l = goes-plain _ _ _ _ _ _ _ (c .before .before .before .before .loop .inv .1) (c .before .before .before .before .loop .inv .0) (c .before .before .before .first-of .ensures) (rw (c .enum-told5 .given .1) at (c .before .before .body-case .ensures)) in omega (arith, l .0, c .before .before .before .first-of .ensures))  -- loop-less-2
+    (λ c. (c .before .before .before .before .loop .inv .0, (goes-plain _ _ _ _ _ _ _ (c .before .before .before .before .loop .inv .1) (c .before .before .before .before .loop .inv .0) (c .before .before .before .first-of .ensures) (rw (c .enum-told5 .given .1) at (c .before .before .body-case .ensures))) .1)))  -- loop-again-2

@@ -1,33 +1,11 @@
 -- `scans::mark_from` meets its contract. Assumes nothing.
 use borrow.Author.Needs.{needs}
-use mathlib.Core.Path.{_≡_, refl, sym, _∙_}
-use Prim.Native.Nat.{_-_}
-use borrow.Author.Tests.{eq-eqb, ne-eqb}
-use lib.ListN.{length}
-use Rattle.definition_scripts.specs.Opening.{firstAt}
-use Rattle.definition.proofs.moves.CharLaws.{before-end, before-here, before-next}
-use Rattle.scans.specs.Scans.{cutMark}
 use Rattle.scans.proofs.mark_from.Statement.{statement}
 use Rattle.scans.proofs.mark_from.Tie as tie
-
-abbrev Inv-loop : tie.InvT-loop
-Inv-loop s from i₀ i = firstAt cutMark s from ≡ firstAt cutMark s i
-
-abbrev μ-loop : tie.MeasureT-loop
-μ-loop s from i₀ i = length s - i
 
 pub mark-from-spec : {M : Type 1} → statement M
 mark-from-spec =
     tie.close
     (tie.spec
-    Inv-loop
-    μ-loop
-    (λ c. refl)  -- loop-holds
-    (λ c. search needs)  -- shared-slice-read-b
-    (λ c. sym (c .before .before .before .loop .inv ∙ before-here _ _ _ 0 (c .before .before .loop-test .taken) (rw (eq-eqb _ _ (c .if1 .taken)))))  -- returns
-    (λ c. sym (c .before .before .before .before .loop .inv ∙ before-here _ _ _ 0 (c .before .before .before .loop-test .taken) (rw (ne-eqb _ _ (c .before .if1 .left), eq-eqb _ _ (c .if2 .taken)))))  -- returns-2
-    (λ c. sym (c .before .before .before .before .before .loop .inv ∙ before-here _ _ _ 0 (c .before .before .before .before .loop-test .taken) (rw (ne-eqb _ _ (c .before .before .if1 .left), ne-eqb _ _ (c .before .if2 .left), eq-eqb _ _ (c .if3 .taken)))))  -- returns-3
-    (λ c. search needs)  -- add-i
-    (λ c. search needs)  -- loop-less
-    (λ c. c .before .before .before .before .before .loop .inv ∙ before-next _ _ _ 0 (c .before .before .before .before .loop-test .taken) (rw (ne-eqb _ _ (c .before .before .if1 .left), ne-eqb _ _ (c .before .if2 .left), ne-eqb _ _ (c .if3 .left))))  -- loop-again
-    (λ c. sym (c .before .loop .inv ∙ before-end _ _ _ 0 (c .loop-test .left))))  -- returns-4
+    (λ c κs. search needs)  -- first-of-requires
+    (λ c. c .first-of .ensures))  -- returns
