@@ -1,27 +1,26 @@
 -- The cut of a script, move by move, as the code goes over it. Assumes nothing.
-use mathlib.Core.Path.{_≡_, refl, sym, subst, _∙_}
-use mathlib.Core.Bool.{Bool, true, false, not, _||_}
+use mathlib.Core.Path.{_≡_, refl, sym, _∙_}
+use mathlib.Core.Bool.{true, false}
 use mathlib.Core.List.{List, []}
 use Prim.Native.Nat.{ℕ, zero, suc, _+_, _-_, _≤_, _<_}
 use native.Mathlib.Omega.{arith}
 use borrow.Author.Tests.{lt-leb, le-leb, ltb-true, ltb-false, ne-eqb}
 use lib.Dec.{ltb, eqb}
-use lib.ListN.{length, getD, List·getD-eq-default}
-use Rattle.definition.specs.Chars.{if_then_else_, _is_, byte, atEnd}
-use Rattle.definition_scripts.specs.Opening.{isQuote, noKind, opens, isSign, firstAt, apart}
+use lib.ListN.{length, getD}
+use Rattle.definition.specs.Chars.{byte}
+use Rattle.definition_scripts.specs.Opening.{isQuote, opens, isSign, firstAt}
 use Rattle.definition.specs.Entry.{refusal}
 use Rattle.definition.specs.Reading.{accepts, refuses}
 use Rattle.definition_scripts.specs.IsCut.{reachesEnd, breaksOff}
 use Rattle.definition_scripts.specs.Literals.{literalAt}
 use Rattle.definition_scripts.specs.Cut.{begins, over, comment, literal, other, cutCase, commentEnd, firstCut, cutFrom}
-use Rattle.definition.proofs.moves.CharLaws.{cases, no, byte-is, before-in, before-end, first-fails}
-use Rattle.definition_scripts_laws.proofs.literals.RunLaws.{sign-in}
-use Rattle.definition_scripts_laws.proofs.cut.CutLaws.{comment-past, apart-begins, cut-facts}
+use Rattle.definition.proofs.moves.CharLaws.{cases, no, byte-is, before-in, before-end, first-fails, first-passes}
+use Rattle.definition_scripts_laws.proofs.cut.CutLaws.{comment-past, begins-known, cut-facts}
 use Rattle.definition_scripts_laws.proofs.cut.CutSteps.{cut-over, cut-other, cut-comment, cut-breaks, cut-goes}
 use Rattle.scans.specs.Scans.{cutMark}
 use Rattle.literals.specs.declared.Literal.{Literal}
 use Rattle.literals.specs.declared.Refusal.{Refusal}
-use Rattle.literals.specs.Answers.{literalOf, refusalOf, Skips}
+use Rattle.literals.specs.Answers.{literalOf, refusalOf, Skips, Reaches}
 
 -- a byte that is no mark is neither a quote nor a `#`
 no-quote : (c : ℕ) → cutMark c ≡ false → isQuote c ≡ false
@@ -32,76 +31,104 @@ no-sign c e =
     cases (eqb c 39) (λ t. no (sym (rw t at e)))
     (λ t. cases (eqb c 34) (λ u. no (sym (rw (t, u) at e))) (λ u. cases (eqb c 35) (λ v. no (sym (rw (t, u, v) at e))) (λ v. v)))
 
-module _ (s : List ℕ) where
-  -- past the end there is none
-  past-end : (i : ℕ) → length s ≤ i → cutMark (byte s i) ≡ false
-  past-end i h = let e : byte s i ≡ 256 = List·getD-eq-default s 256 h in rw e
+-- a mark that is no `#` is a quote
+is-quote : (c : ℕ) → cutMark c ≡ true → isSign c ≡ false → isQuote c ≡ true
+is-quote c e f = cases (eqb c 39) (λ t. rw t) (λ t. cases (eqb c 34) (λ u. rw (t, u)) (λ u. no (rw (t, u, f) at e)))
 
-  -- where three bytes are no marks, any other byte is passed
-  other-here : (i : ℕ) → i < length s → ((m : ℕ) → i ≤ m → m < i + 3 → cutMark (byte s m) ≡ false) → cutCase s i ≡ other
-  unfolding cutCase begins opens
-  other-here i l n =
-      rw (lt-leb (length s) i l, no-sign (byte s i) (n i (omega arith) (omega arith)), no-quote (byte s i) (n i (omega arith) (omega arith)), no-quote (byte s (i + 1)) (n (i + 1) (omega arith) (omega arith)), no-quote (byte s (i + 2)) (n (i + 2) (omega arith) (omega arith)))
+module _ (s : List ℕ) where
+  -- what stands at a place
+  module _ (i : ℕ) where
+    case-over : length s ≤ i → cutCase s i ≡ over
+    unfolding cutCase
+    case-over h = rw (le-leb (length s) i h)
+
+    case-comment : i < length s → getD s i 0 ≡ 35 → cutCase s i ≡ comment
+    unfolding cutCase
+    case-comment l e = rw (lt-leb (length s) i l, ← byte-is s i l, e)
+
+    case-literal : i < length s → isSign (byte s i) ≡ false → begins s i ≡ true → cutCase s i ≡ literal
+    unfolding cutCase
+    case-literal l f e = rw (lt-leb (length s) i l, f, e)
+
+    case-other : i < length s → isSign (byte s i) ≡ false → begins s i ≡ false → cutCase s i ≡ other
+    unfolding cutCase
+    case-other l f e = rw (lt-leb (length s) i l, f, e)
+
+  -- where three bytes are no marks, none begins
+  none-here : (i : ℕ) → ((m : ℕ) → i ≤ m → m < i + 3 → cutMark (byte s m) ≡ false) → begins s i ≡ false
+  unfolding begins opens
+  none-here i n =
+      rw (no-quote (byte s i) (n i (omega arith) (omega arith)), no-quote (byte s (i + 1)) (n (i + 1) (omega arith) (omega arith)), no-quote (byte s (i + 2)) (n (i + 2) (omega arith) (omega arith)))
 
   -- up to two bytes before the first mark
   passes : (n i j : ℕ) → i + n ≡ j → j < length s → ((m : ℕ) → i ≤ m → m < j + 2 → cutMark (byte s m) ≡ false) → cutFrom s i ≡ cutFrom s j
   passes zero i j e l c = let z : i ≡ j = omega arith in rw z
   passes (suc n) i j e l c =
-      cut-other s i (other-here i (omega arith) (λ m a b. c m a (omega arith))) ∙ passes n (i + 1) j (omega arith) l (λ m a b. c m (omega arith) b)
+      cut-other s i (case-other i (omega arith) (no-sign (byte s i) (c i (omega arith) (omega arith))) (none-here i (λ m a b. c m a (omega arith))))
+      ∙ passes n (i + 1) j (omega arith) l (λ m a b. c m (omega arith) b)
 
-  pub near-skips : (i end : ℕ) → end ≡ firstAt cutMark s i → 2 < end - i → Skips s i (end - 2)
-  near-skips i end e h =
-      cases (ltb (length s) i) (λ t. let l = ltb-true (length s) i t in absurd (omega (arith, before-end cutMark s i 0 (omega arith))))
-      (λ t.
-      let l = before-in cutMark s i (ltb-false (length s) i t) in
-      record { ahead = omega arith; same = passes (end - 2 - i) i (end - 2) (omega arith) (omega arith) (λ m a b. first-fails cutMark s i m a (omega arith)) })
+  -- a mark that begins no comment begins a literal
+  quoted : (j : ℕ) → cutMark (byte s j) ≡ true → isSign (byte s j) ≡ false → begins s j ≡ true
+  unfolding begins opens
+  quoted j m f = rw (is-quote (byte s j) m f)
 
-  pub near-stays : (i : ℕ) → Skips s i i
-  near-stays i = record { ahead = omega arith; same = refl }
+  pub stays : (i : ℕ) → Skips s i i
+  stays i = record { ahead = omega arith; same = refl }
 
--- WHAT STANDS AT A PLACE that is neither the end nor a comment, by the kind that opens there
-module _ (s : List ℕ) (i kind : ℕ) (l : i < length s) (n : getD s i 0 ≡ 35 → ⊥) (k : kind ≡ opens s i) where
-  unsigned : isSign (byte s i) ≡ false
-  unsigned = rw (← byte-is s i l) (ne-eqb (getD s i 0) 35 n)
+  -- A cut at i, whose first mark from there on stands at `end`
+  module _ (i end : ℕ) (e : end ≡ firstAt cutMark s i) where
+    -- it is at most the script's end, unless i is past that
+    within : i < end → end ≤ length s
+    within h =
+        cases (ltb (length s) i) (λ t. let l = ltb-true (length s) i t in absurd (omega (arith, before-end cutMark s i 0 (omega arith))))
+        (λ t. omega (arith, before-in cutMark s i (ltb-false (length s) i t)))
 
-  pub case-none : noKind ≤ kind → cutCase s i ≡ other
-  unfolding cutCase begins
-  case-none h = rw (lt-leb (length s) i l, unsigned, ← k, le-leb noKind kind h)
+    pub near-starts : (j : ℕ) → i ≤ j → (i < j → j + 2 ≤ end) → Skips s i j
+    near-starts j h k =
+        cases (ltb i j)
+        (λ t.
+        let l = k (ltb-true i j t) in
+        let w = within (omega arith) in
+        record { ahead = h; same = passes (j - i) i j (omega arith) (omega arith) (λ m a b. first-fails cutMark s i m a (omega arith)) })
+        (λ t. let l = ltb-false i j t in let z : i ≡ j = omega arith in rw (← z) (stays i))
 
-  pub case-bare : kind ≡ 0 → cutCase s i ≡ literal
-  unfolding cutCase begins
-  case-bare h = rw (lt-leb (length s) i l, unsigned, ← k, h)
+    pub near-goes : (j : ℕ) → j < end → begins s j ≡ false → Skips s i j → Skips s i (j + 1)
+    near-goes j h f p =
+        let a = p .ahead in
+        let w = within (omega arith) in
+        record { ahead = omega arith; same = p .same ∙ cut-other s j (case-other j (omega arith) (no-sign (byte s j) (first-fails cutMark s i j a (omega arith))) f) }
 
-  pub case-apart : kind ≤ 6 → apart s i ≡ true → cutCase s i ≡ literal
-  unfolding cutCase
-  case-apart h e = rw (lt-leb (length s) i l, unsigned, apart-begins s i (rw (← k) h) e)
+    pub near-ends : (j : ℕ) → j ≤ end → end ≤ j → Skips s i j → Reaches s i j
+    near-ends j h k p = let z : end ≡ j = omega arith in record { skips = p; stands = λ l f. quoted j (rw (← e, z) at (first-passes cutMark s i (rw (← e, z) l))) f }
 
-  pub case-joined : kind ≤ 6 → (kind ≡ 0 → ⊥) → apart s i ≡ false → cutCase s i ≡ other
-  unfolding cutCase begins
-  case-joined h z e = rw (lt-leb (length s) i l, unsigned, ← k, lt-leb noKind kind (omega arith), ne-eqb kind 0 z, e)
+-- A cut that has come from `from` to `at`, and goes on at `here`
+module _ (s : List ℕ) (from at here : ℕ) (p : Skips s from at) (q : Reaches s at here) where
+  on : cutFrom s from ≡ cutFrom s here
+  on = p .same ∙ q .skips .same
 
--- A cut that has come from `from` to `at`, and may go on from `here`
-module _ (s : List ℕ) (from at here : ℕ) (p : Skips s from at) (q : Skips s at here) where
-  on : (j : ℕ) → here ≤ j → cutFrom s here ≡ cutFrom s j → Skips s from j
-  on j h e = record { ahead = omega (arith, p .ahead, q .ahead); same = p .same ∙ q .same ∙ e }
+  pub cutting-over : length s ≤ here → cutFrom s from ≡ record { literals = []; ending = reachesEnd }
+  cutting-over h = on ∙ cut-over s here (case-over s here h)
 
-  pub cutting-over : cutCase s here ≡ over → cutFrom s from ≡ record { literals = []; ending = reachesEnd }
-  cutting-over e = p .same ∙ q .same ∙ cut-over s here e
-
-  pub cutting-comment : (end : ℕ) → end ≡ commentEnd s here → cutCase s here ≡ comment → (length s - end < length s - at) × Skips s from end
-  cutting-comment end f e =
-      let k = rw e at (cut-facts s here) in
-      let l = sign-in s here k in
-      let a = comment-past s here k in
-      (omega (arith, q .ahead), on end (omega arith) (cut-comment s here e ∙ rw f))
-
-  pub cutting-other : cutCase s here ≡ other → (here < length s) × (length s - (here + 1) < length s - at) × Skips s from (here + 1)
-  cutting-other e = let l = (rw e at (cut-facts s here)) .0 in (l, omega (arith, q .ahead), on (here + 1) (omega arith) (cut-other s here e))
+  pub cutting-comment : (end : ℕ) → end ≡ commentEnd s here → here < length s → getD s here 0 ≡ 35 → (length s - end < length s - at) × Skips s from end
+  cutting-comment end f l e =
+      let c = case-comment s here l e in
+      let a = comment-past s here (rw c at (cut-facts s here)) in
+      (omega (arith, q .skips .ahead), record { ahead = omega (arith, p .ahead, q .skips .ahead); same = on ∙ cut-comment s here c ∙ rw f })
 
   -- a literal
-  pub cutting-breaks : (r : Refusal) → cutCase s here ≡ literal → refuses (refusalOf r) ≡ literalAt s here → cutFrom s from ≡ record { literals = []; ending = breaksOff (r .number) (r .place) }
-  unfolding refusal
-  cutting-breaks r e f = p .same ∙ q .same ∙ cut-breaks s here (refusalOf r) e (sym f)
+  module _ (l : here < length s) (n : getD s here 0 ≡ 35 → ⊥) where
+    unsigned : isSign (byte s here) ≡ false
+    unsigned = rw (← byte-is s here l) (ne-eqb (getD s here 0) 35 n)
 
-  pub cutting-goes : (l : Literal) → cutCase s here ≡ literal → accepts (literalOf l) ≡ literalAt s here → cutFrom s from ≡ firstCut (literalOf l) (cutFrom s (l .end))
-  cutting-goes l e f = p .same ∙ q .same ∙ cut-goes s here (literalOf l) e (sym f)
+    begun : begins s here ≡ true
+    begun = q .stands l unsigned
+
+    pub cutting-known : opens s here ≤ 6
+    cutting-known = begins-known s here begun
+
+    pub cutting-breaks : (r : Refusal) → refuses (refusalOf r) ≡ literalAt s here → cutFrom s from ≡ record { literals = []; ending = breaksOff (r .number) (r .place) }
+    unfolding refusal
+    cutting-breaks r f = on ∙ cut-breaks s here (refusalOf r) (case-literal s here l unsigned begun) (sym f)
+
+    pub cutting-goes : (x : Literal) → accepts (literalOf x) ≡ literalAt s here → cutFrom s from ≡ firstCut (literalOf x) (cutFrom s (x .end))
+    cutting-goes x f = on ∙ cut-goes s here (literalOf x) (case-literal s here l unsigned begun) (sym f)

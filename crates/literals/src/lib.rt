@@ -11,16 +11,17 @@ use scans::opens;
 use scans::tripled;
 ghost use mathlib.Core.Path.{_≡_};
 ghost use mathlib.Core.List.{List};
-ghost use Prim.Native.Nat.{ℕ, _*_, _≤_};
+ghost use Prim.Native.Nat.{ℕ, _+_, _*_, _≤_, _<_};
 ghost use lib.ListN.{length};
 ghost use Rattle.definition.specs.Numbers.{prefix};
 ghost use Rattle.definition_scripts.specs.Opening.{quotes};
 ghost use Rattle.definition.specs.Reading.{zeros};
 ghost use Rattle.definition_scripts.specs.Literals as s;
 ghost use Rattle.definition_scripts.specs.Literals.{literalAt, blankCase, passed, run, listed, listInto, literalsInto};
+ghost use Rattle.definition_scripts.specs.Cut.{begins};
 ghost use Rattle.definition_scripts.specs.CutList.{cutListed, cutInto};
 ghost use Rattle.buffers.specs.Over.{over};
-ghost use Rattle.literals.specs.Answers.{Within, foundOf, blankOf, numbersOf, Wrote, RanIs, Few, CallIs, CaseIs, Skips, NextIs};
+ghost use Rattle.literals.specs.Answers.{Within, foundOf, blankOf, numbersOf, Wrote, RanIs, Few, CallIs, Reaches, NextIs};
 
 // A literal: six numbers.
 pub struct Literal {
@@ -62,14 +63,6 @@ pub(crate) enum Found {
 pub(crate) enum BlankCase {
     Space,
     Comment,
-    Other,
-}
-
-// What stands at an index of a script that is cut: nothing more, a comment, a literal of a kind, or any other byte.
-pub(crate) enum CutCase {
-    Over,
-    Comment,
-    Literal(u32),
     Other,
 }
 
@@ -278,39 +271,44 @@ pub fn list_literals(script: &[u8], offset: u32, numbers: &mut [u32]) -> Listing
     finish(numbers, r)
 }
 
-// What stands at an index of a script that is cut.
-fn cut_case(s: &[u8], at: usize) -> CutCase
-    requires { ⌜ length (now s) ≤ 1048576 ⌝ }
-    ensures { λ r. ⌜ CaseIs (now (s .entry)) at r ⌝ }
+// Whether a literal begins at an index of a script that is cut.
+fn begins(s: &[u8], at: usize) -> bool
+    ensures { λ r. ⌜ r ≡ begins (now (s .entry)) at ⌝ }
 {
-    if s.len() <= at {
-        return CutCase::Over;
-    }
-    if s[at] == b'#' {
-        return CutCase::Comment;
-    }
     let kind = opens(s, at);
     if NO_KIND <= kind {
-        return CutCase::Other;
+        return false;
     }
     if kind == 0 {
-        return CutCase::Literal(kind);
+        return true;
     }
-    if apart(s, at) {
-        return CutCase::Literal(kind);
-    }
-    CutCase::Other
+    apart(s, at)
 }
 
-// Where a cut that has come to an index may go on: two bytes before the next quote or `#`, for a prefix.
-fn near(s: &[u8], at: usize) -> usize
-    ensures { λ r. ⌜ Skips (now (s .entry)) at r ⌝ }
+// Two bytes before an index, for a prefix, but not before another.
+fn two_before(to: usize, at: usize) -> usize
+    requires { ⌜ at ≤ to ⌝ }
+    ensures { λ r. ⌜ (at ≤ r) × (r ≤ to) × (at < r → r + 2 ≤ to) ⌝ }
 {
-    let to = mark_from(s, at);
     if to - at <= 2 {
         return at;
     }
     to - 2
+}
+
+// Where a cut that has come to an index goes on: at the next literal or `#`, or the end.
+fn near(s: &[u8], at: usize) -> usize
+    ensures { λ r. ⌜ Reaches (now (s .entry)) at r ⌝ }
+{
+    let to = mark_from(s, at);
+    let mut i = two_before(to, at);
+    while i < to {
+        if begins(s, i) {
+            return i;
+        }
+        i += 1;
+    }
+    i
 }
 
 // The next literal of a script's cut from an index on.
@@ -324,25 +322,20 @@ pub fn next_literal(script: &[u8], from: usize) -> Next
     let mut at = from;
     loop {
         let here = near(script, at);
-        match cut_case(script, here) {
-            CutCase::Over => {
-                return Next::End;
-            }
-            CutCase::Comment => {
-                at = comment_end(script, here);
-            }
-            CutCase::Literal(kind) => {
-                match literal_at(script, here, kind) {
-                    Found::Refused(r) => {
-                        return Next::Broken(r);
-                    }
-                    Found::Literal(l) => {
-                        return Next::Literal(l);
-                    }
+        if len <= here {
+            return Next::End;
+        }
+        if script[here] == b'#' {
+            at = comment_end(script, here);
+        } else {
+            let kind = opens(script, here);
+            match literal_at(script, here, kind) {
+                Found::Refused(r) => {
+                    return Next::Broken(r);
                 }
-            }
-            CutCase::Other => {
-                at = here + 1;
+                Found::Literal(l) => {
+                    return Next::Literal(l);
+                }
             }
         }
     }

@@ -1,16 +1,31 @@
 -- `literals::near` meets its contract. Assumes nothing.
 use borrow.Author.Needs.{needs}
 use native.Mathlib.Omega.{arith}
-use Rattle.literals.proofs.Cuts.{near-skips, near-stays}
+use mathlib.Core.Path.{sym, _∙_}
+use Prim.Native.Nat.{_-_, _≤_}
+use Rattle.literals.specs.Answers.{Skips}
+use Rattle.literals.proofs.Cuts.{near-starts, near-goes, near-ends}
 use Rattle.literals.proofs.near.Statement.{statement}
 use Rattle.literals.proofs.near.Tie as tie
+
+abbrev Inv-loop : tie.InvT-loop
+Inv-loop s at to i₀ i = (i ≤ to) × Skips s at i
+
+abbrev μ-loop : tie.MeasureT-loop
+μ-loop s at to i₀ i = to - i
 
 pub near-spec : {M : Type 1} → statement M
 near-spec =
     tie.close
     (tie.spec
+    Inv-loop
+    μ-loop
     (λ c κs. search needs)  -- mark-from-requires
-    (λ c. omega (arith, c .mark-from .ensures))  -- sub-if1
-    (λ c. near-stays _ _)  -- returns
-    (λ c. search needs)  -- sub-result
-    (λ c. near-skips _ _ _ (c .before .mark-from .ensures) (c .if1 .left)))  -- returns-2
+    (λ c κs. omega (arith, c .mark-from .ensures))  -- two-before-requires
+    (λ c. let b = c .two-before .ensures in (b .1, near-starts _ _ _ (c .before .mark-from .ensures) _ (b .0) (b .2)))  -- loop-holds
+    (λ c κs. search needs)  -- begins-requires
+    (λ c. record { skips = c .before .before .before .loop .inv .1; stands = λ l f. sym (c .before .begins .ensures) ∙ c .if1 .taken })  -- returns
+    (λ c. search needs)  -- add-i
+    (λ c. search needs)  -- loop-less
+    (λ c. (search needs, near-goes _ _ _ (c .before .before .before .before .before .mark-from .ensures) _ (c .before .before .loop-test .taken) (sym (c .before .begins .ensures) ∙ c .if1 .left) (c .before .before .before .loop .inv .1)))  -- loop-again
+    (λ c. let v = c .before .loop .inv in near-ends _ _ _ (c .before .before .before .mark-from .ensures) _ (v .0) (c .loop-test .left) (v .1)))  -- returns-2
