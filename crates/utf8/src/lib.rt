@@ -151,7 +151,7 @@ impl Cursor {
         if b < 0x80 {
             return Step::Char(b, Cursor { at: at + 1 });
         }
-        next_wide(s, at)
+        next_wide(&s[..], at)
     }
 
     // The code of the character at the cursor; 0x110000 at the end.
@@ -166,7 +166,7 @@ impl Cursor {
         if b < 0x80 {
             return b;
         }
-        let Step::Char(c, _) = next_wide(s, at) else {
+        let Step::Char(c, _) = next_wide(&s[..], at) else {
             return 0x110000;
         };
         c

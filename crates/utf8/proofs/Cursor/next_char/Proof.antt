@@ -19,7 +19,7 @@ next-char-spec =
     (tie.spec
     (λ c. rw (le-leb _ _ (c .if1 .taken)))  -- returns
     (λ c κs. search needs)  -- byte-at-requires
-    (λ c. search needs)  -- add-t10
+    (λ c. search needs)  -- add-t7
     plain  -- returns-2
     (λ c κs. search needs)  -- next-wide-requires
     (λ c. c .next-wide .ensures))  -- returns-3
