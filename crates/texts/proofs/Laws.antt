@@ -10,7 +10,7 @@ use lib.Dec.{leb}
 use lib.ListN.{length, length-append}
 use Rattle.definition.specs.Numbers.{expressionNestedTooDeeply}
 use Rattle.definition.specs.Chars.{noCode, code, next}
-use Rattle.definition.specs.Escapes.{Naming, Fault, fault, Read, got, refused, Meaning, escape}
+use Rattle.definition.specs.Escapes.{Naming, Fault, fault, Read, got, refused, Meaning, escape, encode}
 use Rattle.definition.specs.Body.{Piece as Record, Move, goes, stops, calls, ends, withEscape, StringCase, stringCase, stringMove, stringN, TextCase, deep, opens, last, doubled, lone, textCase, textMove, textN, enough}
 use Rattle.definition.proofs.moves.CharLaws.{cases, no, next-from, next-in}
 use Rattle.definition_laws.proofs.moves.Moves.{string-ahead, text-ahead}
@@ -26,6 +26,7 @@ use Rattle.texts.specs.declared.Piece.{Piece}
 use Rattle.texts.specs.declared.Piece.the-variants.{On, Field, Over, Refused}
 use Rattle.texts.specs.declared.Text.the-variants.{Done, Refused as Not}
 use Rattle.texts.specs.declared.Run.the-variants.{Field as AtField, Refused as None}
+use Rattle.texts.specs.Codes.{CodedIs}
 use Rattle.texts.specs.Text.{tooLarge, Taken, Does, Leads, here, more, Upto, Stops, Halts, Whether, StringBy, StopsBy, RunBy}
 
 -- where nothing is left there is no code
@@ -227,6 +228,20 @@ module _ (look : Naming) (kind : ℕ) (s : List ℕ) (used : ℕ) (text₀ text 
           let w = string-told Over q in
           rw (string-same look kind s i (u .content) (u .leads) ∙ string-end look kind s i (u .content) (string-is ends (w .0))) (rw (u .ended), w .1 ∙ u .wrote)
       go (Refused x) q h = ⊎-elim (λ z. absurd (omega arith)) (λ z. absurd (omega arith)) h
+
+module _ (look : Naming) (kind : ℕ) (s : List ℕ) (used : ℕ) (text₀ text : List ℕ) (i end : ℕ) (u : Upto (stringMove look kind s) 0 used text₀ text i end) where
+  -- over an escape that stands for a code
+  pub string-coded : (c j e : ℕ) (text′ : List ℕ) → CodedIs kind s i c j → e ≡ end + length (encode kind c) → text′ ≡ over text end (encode kind c)
+      → (i < j) × (j ≤ length s) × Upto (stringMove look kind s) 0 used text₀ text′ j e
+  string-coded c j e text′ m q w =
+      let k : Cursor = record { at = j } in
+      string-more look kind s used text₀ text i end u text′ (On k e) (rw (m look) (rw q refl, w)) k e refl
+
+  -- at the end of the body
+  pub string-done : length s ≤ i → StringBy look kind s (stringN look (enough s) kind s 0 []) used text₀ text (Done end)
+  unfolding stringMove stringCase
+  string-done h =
+      rw (string-same look kind s i (u .content) (u .leads) ∙ string-end look kind s i (u .content) (rw (le-leb _ _ h, stringMove, stringCase))) (rw (u .ended), u .wrote)
 
 -- AN F-STRING'S MOVES
 module _ (look : Naming) (kind : ℕ) (s : List ℕ) (depth from used : ℕ) (text₀ text : List ℕ) (i end : ℕ) (u : Upto (textMove look kind s depth) from used text₀ text i end) (text′ : List ℕ) (r : Piece) (d : Does (textMove look kind s depth i []) s i end text text′ r) where

@@ -87,9 +87,9 @@ module _ (kind : ℕ) (s : List ℕ) where
 
 -- AFTER A RUN
 module _ (look : Naming) (kind : ℕ) (s : List ℕ) (used : ℕ) (text₀ text : List ℕ) (i end : ℕ) where
-  pub string-run : Upto (stringMove look kind s) 0 used text₀ text i end → i < length s → (text′ : List ℕ) (r : Reached) → PlainIs kind s i end text text′ r
+  pub string-run : Upto (stringMove look kind s) 0 used text₀ text i end → i ≤ length s → (text′ : List ℕ) (r : Reached) → PlainIs kind s i end text text′ r
       → Upto (stringMove look kind s) 0 used text₀ text′ (r .cursor .at) (r .used)
-  string-run u h = after-run kind s (stringMove look kind s) 0 (string-plain kind s look) used text₀ text i end u (omega arith)
+  string-run u h = after-run kind s (stringMove look kind s) 0 (string-plain kind s look) used text₀ text i end u h
 
   pub text-run : (depth from : ℕ) → depth < 2 → Upto (textMove look kind s depth) from used text₀ text i end → i < length s → (text′ : List ℕ) (r : Reached) → PlainIs kind s i end text text′ r
       → Upto (textMove look kind s depth) from used text₀ text′ (r .cursor .at) (r .used)

@@ -6,6 +6,7 @@ use marks::Unclosed;
 use marks::is_escape;
 use marks::is_foreign;
 use marks::unclosed_brace;
+use marks::wide;
 use plain::is_plain_at;
 use plain::plain_end;
 use utf8::Cursor;
@@ -17,11 +18,12 @@ ghost use Prim.Native.Nat.{ℕ, _+_, _≤_, _<_, _^_};
 ghost use lib.ListN.{length};
 ghost use Rattle.definition.specs.Numbers.{isRaw};
 ghost use Rattle.definition.specs.Chars.{_is_, part, code};
-ghost use Rattle.definition.specs.Escapes.{Naming, fault, encode, escape};
+ghost use Rattle.definition.specs.Escapes.{Naming, fault, got, stands, simple, hex, scalar, encode, escape};
 ghost use Rattle.definition.specs.Body.{goes, withEscape, stringMove, stringN, textMove, enough};
 ghost use Rattle.escapes.specs.Answers.{namesBy};
 ghost use Rattle.marks.specs.Marks.{refusal};
 ghost use Rattle.buffers.specs.Over.{over};
+ghost use Rattle.texts.specs.Codes.{Asks, HexIs, CodedIs};
 ghost use Rattle.texts.specs.EscapeEnds.{EscapeIs};
 ghost use Rattle.texts.specs.Text.{Room, Taken, PlainIs, Does, StringBy, StringIs, RunBy, RunIs};
 
@@ -36,6 +38,9 @@ const NON_ASCII_IN_BYTES: u32 = 12;
 const EXPRESSION_NESTED_TOO_DEEPLY: u32 = 24;
 
 const SINGLE_RBRACE: u32 = 25;
+
+// What stands where there is no code.
+const NO_CODE: u32 = 0x110000;
 
 // A string's or bytes' used length, or why it is refused.
 pub enum Text {
@@ -64,6 +69,12 @@ enum Piece {
     Field(Cursor),
     Over,
     Refused(Refusal),
+}
+
+// What an escape of a string stands for, and the index after it.
+struct Coded {
+    code: u32,
+    to: usize,
 }
 
 // A place in a body, and the used length of the text up to it.
@@ -278,7 +289,114 @@ fn plain_text(s: &[u8], from: Cursor, kind: u32, text: &mut [u8], used: usize) -
     }
 }
 
-// The text of a string or bytes, at the used length.
+// The code of a letter's escape; 0 if it has none.
+fn letter_code(b: u8) -> u32
+    ensures { λ r. ⌜ ((r ≡ 0 → ⊥) → (kind : ℕ) → Asks kind b (simple r)) ⌝ }
+{
+    match b {
+        92 => 92,
+        39 => 39,
+        34 => 34,
+        97 => 7,
+        98 => 8,
+        102 => 12,
+        110 => 10,
+        114 => 13,
+        116 => 9,
+        118 => 11,
+        _ => 0,
+    }
+}
+
+// How many hex digits follow the letter of an escape, `x` or `u`; 0 after another.
+fn digits_of(b: u8, kind: u32) -> usize
+    ensures { λ r. ⌜ (r ≤ 4) × ((r ≡ 0 → ⊥) → Asks kind b (hex r)) ⌝ }
+{
+    if b == 0x78 {
+        return 2;
+    }
+    if b != 0x75 {
+        return 0;
+    }
+    if is_any_bytes(kind) {
+        return 0;
+    }
+    4
+}
+
+// The code that at most four hex digits give: a surrogate is U+FFFD.
+fn scalar_of(v: u32) -> u32
+    requires { ⌜ v < 65536 ⌝ }
+    ensures { λ r. ⌜ ((i letter : ℕ) → scalar v i letter ≡ got (stands r) i) ⌝ }
+{
+    if v < 0xD800 {
+        return v;
+    }
+    if v < 0xE000 {
+        return 0xFFFD;
+    }
+    v
+}
+
+// The code of so many hex digits from an index on; no code if they do not stand there.
+fn hex_code(s: &[u8], from: usize, digits: usize) -> u32
+    requires { ⌜ (from ≤ length (now s)) × (digits ≤ 4) ⌝ }
+    ensures { λ r. ⌜ (r < 0x110000 → HexIs digits (now (s .entry)) from r) ⌝ }
+{
+    if s.len() - from < digits {
+        return NO_CODE;
+    }
+    let to = from + digits;
+    let mut p: u32 = 0;
+    let mut i = from;
+    while i < to {
+        let d = names::hex_digit(wide(s[i]));
+        if 16 <= d {
+            return NO_CODE;
+        }
+        p = p * 16 + d;
+        i += 1;
+    }
+    scalar_of(p)
+}
+
+// The escape of a letter or of hex digits at an index of a string; it ends at the index itself if there is none.
+fn coded_at(s: &[u8], at: usize, kind: u32) -> Coded
+    requires { ⌜ (at ≤ length (now s)) × (length (now s) ≤ 1048576) ⌝ }
+    ensures { λ r. ⌜ (at < r .to → CodedIs kind (now (s .entry)) at (r .code) (r .to)) ⌝ }
+{
+    let none = Coded { code: 0, to: at };
+    let past = at + 1;
+    if s.len() <= past {
+        return none;
+    }
+    if !is_escape(wide(s[at]), kind) {
+        return none;
+    }
+    let b = s[past];
+    if 0x80 <= b {
+        return none;
+    }
+    let to = past + 1;
+    let code = letter_code(b);
+    if code != 0 {
+        return Coded { code, to };
+    }
+    let digits = digits_of(b, kind);
+    if digits == 0 {
+        return none;
+    }
+    let value = hex_code(s, to, digits);
+    if NO_CODE <= value {
+        return none;
+    }
+    Coded {
+        code: value,
+        to: to + digits,
+    }
+}
+
+// The text of a string or bytes, at the used length: its plain bytes first.
 fn string_text(
     s: &[u8],
     kind: u32,
@@ -290,13 +408,23 @@ fn string_text(
     requires { ⌜ (length (now s) ≤ 1048576) × (used ≤ 2 ^ 32) ⌝ }
     ensures { λ r. ⌜ StringBy (namesBy (now (file .entry)) (now (index .entry))) kind (now (s .entry)) (stringN (namesBy (now (file .entry)) (now (index .entry))) (enough (now (s .entry))) kind (now (s .entry)) 0 []) used (now (text .entry)) (now (text .exit)) r ⌝ }
 {
-    let mut cursor = Cursor { at: 0 };
-    let mut end = used;
+    let first = plain_text(s, Cursor { at: 0 }, kind, text, used);
+    if s.len() <= first.cursor.at {
+        return Text::Done(first.used);
+    }
+    let mut cursor = first.cursor;
+    let mut end = first.used;
     loop {
         if is_plain_at(s, cursor.at, kind) {
             let run = plain_text(s, cursor, kind, text, end);
             cursor = run.cursor;
             end = run.used;
+            continue;
+        }
+        let escaped = coded_at(s, cursor.at, kind);
+        if cursor.at < escaped.to {
+            end = add_code(text, end, escaped.code, kind);
+            cursor = Cursor { at: escaped.to };
             continue;
         }
         let piece = string_piece(s, cursor, kind, text, end, file, index);
