@@ -18,12 +18,12 @@ ghost use Prim.Native.Nat.{ℕ, _+_, _≤_, _<_, _^_};
 ghost use lib.ListN.{length};
 ghost use Rattle.definition.specs.Numbers.{isRaw};
 ghost use Rattle.definition.specs.Chars.{_is_, part, code};
-ghost use Rattle.definition.specs.Escapes.{Naming, fault, got, stands, simple, hex, scalar, encode, escape};
+ghost use Rattle.definition.specs.Escapes.{Naming, fault, got, stands, octalDigit, simple, hex, scalar, encode, escape};
 ghost use Rattle.definition.specs.Body.{goes, withEscape, stringMove, stringN, textMove, enough};
 ghost use Rattle.escapes.specs.Answers.{namesBy};
 ghost use Rattle.marks.specs.Marks.{refusal};
 ghost use Rattle.buffers.specs.Over.{over};
-ghost use Rattle.texts.specs.Codes.{Asks, HexIs, CodedIs};
+ghost use Rattle.texts.specs.Codes.{Asks, HexIs, OctalIs, CodedIs};
 ghost use Rattle.texts.specs.EscapeEnds.{EscapeIs};
 ghost use Rattle.texts.specs.Text.{Room, Taken, PlainIs, Does, StringBy, StringIs, RunBy, RunIs};
 
@@ -360,7 +360,56 @@ fn hex_code(s: &[u8], from: usize, digits: usize) -> u32
     scalar_of(p)
 }
 
-// The escape of a letter or of hex digits at an index of a string; it ends at the index itself if there is none.
+// The value of the octal digit at an index; 8 if there is none.
+fn octal_at(s: &[u8], at: usize) -> u32
+    ensures { λ r. ⌜ r ≡ octalDigit (code (now (s .entry)) at) ⌝ }
+{
+    if s.len() <= at {
+        return 8;
+    }
+    let b = wide(s[at]);
+    if b < 48 {
+        return 8;
+    }
+    if 55 < b {
+        return 8;
+    }
+    b - 48
+}
+
+// The escape of one to three octal digits after the backslash at an index; it ends at the index itself if there is none.
+fn octal_code(s: &[u8], at: usize) -> Coded
+    requires { ⌜ (at ≤ length (now s)) × (length (now s) ≤ 1048576) ⌝ }
+    ensures { λ r. ⌜ (at < r .to → OctalIs (now (s .entry)) at (r .code) (r .to)) ⌝ }
+{
+    let first = at + 1;
+    let a = octal_at(s, first);
+    if 8 <= a {
+        return Coded { code: 0, to: at };
+    }
+    let second = first + 1;
+    let b = octal_at(s, second);
+    if 8 <= b {
+        return Coded {
+            code: a,
+            to: second,
+        };
+    }
+    let third = second + 1;
+    let c = octal_at(s, third);
+    if 8 <= c {
+        return Coded {
+            code: a * 8 + b,
+            to: third,
+        };
+    }
+    Coded {
+        code: (a * 8 + b) * 8 + c,
+        to: third + 1,
+    }
+}
+
+// The escape of a letter or of digits at an index of a string; it ends at the index itself if there is none.
 fn coded_at(s: &[u8], at: usize, kind: u32) -> Coded
     requires { ⌜ (at ≤ length (now s)) × (length (now s) ≤ 1048576) ⌝ }
     ensures { λ r. ⌜ (at < r .to → CodedIs kind (now (s .entry)) at (r .code) (r .to)) ⌝ }
@@ -384,7 +433,7 @@ fn coded_at(s: &[u8], at: usize, kind: u32) -> Coded
     }
     let digits = digits_of(b, kind);
     if digits == 0 {
-        return none;
+        return octal_code(s, at);
     }
     let value = hex_code(s, to, digits);
     if NO_CODE <= value {

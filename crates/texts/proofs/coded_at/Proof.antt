@@ -11,7 +11,7 @@ use Rattle.definition.specs.Chars.{_is_, byte}
 use Rattle.definition.specs.Escapes.{simple, hex}
 use Rattle.definition.proofs.moves.CharLaws.{byte-is}
 use Rattle.texts.specs.Codes.{Asks}
-use Rattle.texts.proofs.Codes.{coded-letter, coded-hex}
+use Rattle.texts.proofs.Codes.{coded-by, coded-letter, coded-hex}
 use Rattle.texts.proofs.coded_at.Statement.{statement}
 use Rattle.texts.proofs.coded_at.Tie as tie
 
@@ -47,7 +47,10 @@ coded-at-spec =
     let b : Asks (a .kind) (byte (a .s .now) (a .at + 1)) (simple (c .before .letter-code .result)) = rw (← byte-is (a .s .now) (a .at + 1) (inside (c .before))) (c .before .letter-code .ensures (c .if4 .taken) (a .kind)) in
     coded-letter (a .kind) (a .s .now) (a .at) (inside (c .before)) (escapes (c .before)) (low (c .before)) _ b)  -- returns-4
     (λ c κs. search needs)  -- digits-of-requires
-    (λ c h. absurd (omega (arith, h)))  -- returns-5
+    (λ c κs. search needs)  -- octal-code-requires
+    (λ c h.
+    let a = c .before .before .before .before .before .before .before .before .before .before .before .before .before .args in
+    coded-by (a .kind) (a .s .now) (a .at) (inside (c .before .before .before .before)) (escapes (c .before .before .before .before)) (low (c .before .before .before .before)) _ _ (λ look. c .octal-code .ensures h look (a .kind)))  -- returns-5
     (λ c κs. let i = inside (c .before .before .before) in (omega (arith, i), c .before .digits-of .ensures .0))  -- hex-code-requires
     (λ c h. absurd (omega (arith, h)))  -- returns-6
     (λ c. omega (arith, inside (c .before .before .before .before .before), c .before .before .before .digits-of .ensures .0, c .before .before .before .before .before .before .before .before .before .before .before .before .before .before .pre .1))  -- add-t11
