@@ -11,17 +11,18 @@ use scans::opens;
 use scans::tripled;
 ghost use mathlib.Core.Path.{_≡_};
 ghost use mathlib.Core.List.{List};
-ghost use Prim.Native.Nat.{ℕ, _+_, _*_, _≤_, _<_};
+ghost use Prim.Native.Nat.{ℕ, _*_, _≤_};
 ghost use lib.ListN.{length};
 ghost use Rattle.definition.specs.Numbers.{prefix};
-ghost use Rattle.definition_scripts.specs.Opening.{quotes};
+ghost use Rattle.definition_scripts.specs.Opening.{quotes, firstAt};
 ghost use Rattle.definition.specs.Reading.{zeros};
 ghost use Rattle.definition_scripts.specs.Literals as s;
 ghost use Rattle.definition_scripts.specs.Literals.{literalAt, blankCase, passed, run, listed, listInto, literalsInto};
 ghost use Rattle.definition_scripts.specs.Cut.{begins};
 ghost use Rattle.definition_scripts.specs.CutList.{cutListed, cutInto};
 ghost use Rattle.buffers.specs.Over.{over};
-ghost use Rattle.literals.specs.Answers.{Within, foundOf, blankOf, numbersOf, Wrote, RanIs, Few, CallIs, Reaches, NextIs};
+ghost use Rattle.scans.specs.Scans.{cutMark};
+ghost use Rattle.literals.specs.Answers.{Within, foundOf, blankOf, numbersOf, Wrote, RanIs, Few, CallIs, Skips, Reaches, NextIs};
 
 // A literal: six numbers.
 pub struct Literal {
@@ -285,11 +286,17 @@ fn begins(s: &[u8], at: usize) -> bool
     apart(s, at)
 }
 
-// Two bytes before an index, for a prefix, but not before another.
-fn two_before(to: usize, at: usize) -> usize
-    requires { ⌜ at ≤ to ⌝ }
-    ensures { λ r. ⌜ (at ≤ r) × (r ≤ to) × (at < r → r + 2 ≤ to) ⌝ }
+// Where a cut that has come to an index may go on: at the first quote or `#` or the end, or two bytes before a mark that a word ends at, for a prefix.
+fn prefix_from(s: &[u8], at: usize, to: usize) -> usize
+    requires { ⌜ to ≡ firstAt cutMark (now s) at ⌝ }
+    ensures { λ r. ⌜ (r ≤ to) × Skips (now (s .entry)) at r ⌝ }
 {
+    if s.len() <= to {
+        return to;
+    }
+    if apart(s, to) {
+        return to;
+    }
     if to - at <= 2 {
         return at;
     }
@@ -301,7 +308,7 @@ fn near(s: &[u8], at: usize) -> usize
     ensures { λ r. ⌜ Reaches (now (s .entry)) at r ⌝ }
 {
     let to = mark_from(s, at);
-    let mut i = two_before(to, at);
+    let mut i = prefix_from(s, at, to);
     while i < to {
         if begins(s, i) {
             return i;

@@ -4,7 +4,7 @@ use native.Mathlib.Omega.{arith}
 use mathlib.Core.Path.{sym, _∙_}
 use Prim.Native.Nat.{_-_, _≤_}
 use Rattle.literals.specs.Answers.{Skips}
-use Rattle.literals.proofs.Cuts.{near-starts, near-goes, near-ends}
+use Rattle.literals.proofs.Cuts.{near-goes, near-ends}
 use Rattle.literals.proofs.near.Statement.{statement}
 use Rattle.literals.proofs.near.Tie as tie
 
@@ -21,8 +21,8 @@ near-spec =
     Inv-loop
     μ-loop
     (λ c κs. search needs)  -- mark-from-requires
-    (λ c κs. omega (arith, c .mark-from .ensures))  -- two-before-requires
-    (λ c. let b = c .two-before .ensures in (b .1, near-starts _ _ _ (c .before .mark-from .ensures) _ (b .0) (b .2)))  -- loop-holds
+    (λ c κs. c .mark-from .ensures)  -- prefix-from-requires
+    (λ c. c .prefix-from .ensures)  -- loop-holds
     (λ c κs. search needs)  -- begins-requires
     (λ c. record { skips = c .before .before .before .loop .inv .1; stands = λ l f. sym (c .before .begins .ensures) ∙ c .if1 .taken })  -- returns
     (λ c. search needs)  -- add-i
