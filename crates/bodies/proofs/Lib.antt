@@ -1,3 +1,4 @@
+pub mod PieceLaws
 pub mod Emitted
 pub mod SinkLaws
 pub mod RecordLaws

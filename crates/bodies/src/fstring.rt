@@ -2,10 +2,10 @@
 use crate::EMPTY_EXPRESSION;
 use crate::field::Opened;
 use crate::field::read_head;
-use buffers::add_run;
+use buffers::put;
 use marks::Refusal;
 use marks::Unclosed;
-use marks::brace_from;
+use marks::is_brace;
 use marks::unclosed_brace;
 use records::Frame;
 use records::Sink;
@@ -58,12 +58,23 @@ fn read_first(s: &[u8], from: Cursor, text: &mut [u8], used: usize) -> Raw
     requires { ⌜ (from .at ≤ length (now s)) × (length (now s) ≤ 1048576) × (used < 4294967296) ⌝ }
     ensures { λ r. ⌜ (r .at .at ≡ firstEnd (now (s .entry)) (from .at)) × (r .used + from .at ≡ used + r .at .at) × (now (text .exit) ≡ over (now (text .entry)) used (part (now (s .entry)) (from .at) (r .at .at))) ⌝ }
 {
-    let start = from.at;
-    let end = brace_from(s, start);
-    add_run(text, used, &s[start..end]);
+    let mut i = from.at;
+    let mut to = used;
+    while i < s.len() {
+        let b = s[i];
+        if is_brace(b) {
+            return Raw {
+                at: Cursor { at: i },
+                used: to,
+            };
+        }
+        put(text, to, b);
+        i += 1;
+        to += 1;
+    }
     Raw {
-        at: Cursor { at: end },
-        used: used + (end - start),
+        at: Cursor { at: i },
+        used: to,
     }
 }
 

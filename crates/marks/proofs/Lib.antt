@@ -1,1 +1,1 @@
-mod Braces
+pub mod Braces

@@ -91,7 +91,7 @@ pub fn is_special(b: u8, kind: u32) -> bool
 }
 
 // Whether a byte is a brace.
-fn is_brace(b: u8) -> bool
+pub fn is_brace(b: u8) -> bool
     ensures { λ r. ⌜ r ≡ b is "{}" ⌝ }
 {
     match b {
