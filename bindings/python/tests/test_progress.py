@@ -7,6 +7,7 @@ import subprocess
 import tempfile
 import time
 import unittest
+import unittest.mock
 
 from support import CLONE, TESTS
 
@@ -120,6 +121,17 @@ class Test(unittest.TestCase):
         self.assertEqual(set(met[:2]), {f"begins {name}" for name in first})
         alone = [*TESTED[1:], "bench/run"]
         self.assertEqual([line for line in met if "oracle" not in line], [f"{does} {name}" for name in alone for does in ("begins", "ends")])
+
+    def test_jobs(self):
+        """rt has two checks for each of up to four processors, or as many as RT_JOBS says."""
+        told_jobs = "echo jobs $RT_JOBS; echo '7 passed, 0 failed'"
+        with unittest.mock.patch.dict(os.environ):
+            os.environ.pop("RT_JOBS", None)
+            for processors, jobs in (1, 2), (2, 4), (3, 6), (4, 8), (64, 8):
+                self.write("bin/nproc", f"#!/bin/sh\necho {processors}\n")
+                self.assertEqual(self.lines_with(told_jobs)[1][1], f"jobs {jobs}")
+            os.environ["RT_JOBS"] = "3"
+            self.assertEqual(self.lines_with(told_jobs)[1][1], "jobs 3")
 
     def test_failed(self):
         status, told = self.lines_with("echo one; echo '6 passed, 1 failed'; exit 1")
