@@ -16,7 +16,7 @@ use Rattle.definition_replay.specs.Replay.{made, stopped, column}
 use Rattle.buffers.specs.Over.{over}
 use Rattle.buffers.proofs.Over.{over-nil}
 use Rattle.definition.proofs.moves.CharLaws.{cases}
-use Rattle.integers.specs.declared.Shape.{Shape}
+use Rattle.forms.specs.declared.Shape.{Shape}
 use Rattle.integers.specs.Written.{formed, integer, fitting, writtenIn}
 use Rattle.integers.proofs.Joined.{written-short}
 use Rattle.integers.proofs.Fitting.{fit, in-set}

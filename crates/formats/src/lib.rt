@@ -1,5 +1,5 @@
 // Format specifications, by the mini-language of Python 3.11's library reference.
-use integers::Shape;
+use forms::Shape;
 use utf8::Cursor;
 use utf8::Step;
 ghost use mathlib.Core.Path.{_≡_};
@@ -200,21 +200,21 @@ fn read_fill(s: &[u8]) -> Fill
 }
 
 // The digits of a precision behind a point at an index, one or more.
-fn read_pointed(s: &[u8], at: usize) -> integers::Number
+fn read_pointed(s: &[u8], at: usize) -> digits::Number
     requires { ⌜ at ≤ length (now s) ⌝ }
     ensures { λ r. ⌜ (r .told ≡ pointTold (drop at (now (s .entry)))) × (drop (r .next) (now (s .entry)) ≡ pastPointed (drop at (now (s .entry)))) × (r .next ≤ length (now (s .entry))) ⌝ }
 {
     if s.len() <= at {
-        return integers::Number { told: 0, next: at };
+        return digits::Number { told: 0, next: at };
     }
     let b = s[at];
     if b != b'.' {
-        return integers::Number { told: 0, next: at };
+        return digits::Number { told: 0, next: at };
     }
     let from = at + 1;
-    let number = integers::read_digits(s, from);
+    let number = digits::read_digits(s, from);
     if number.told == 0 {
-        return integers::Number { told: 0, next: at };
+        return digits::Number { told: 0, next: at };
     }
     number
 }
@@ -229,7 +229,7 @@ fn read(s: &[u8]) -> Parts
     let z = take_one(s, sign.next, 4);
     let alternate = take_one(s, z.next, 5);
     let nought = take_one(s, alternate.next, 6);
-    let width = integers::read_digits(s, nought.next);
+    let width = digits::read_digits(s, nought.next);
     let grouping = take_one(s, width.next, 2);
     let precision = read_pointed(s, grouping.next);
     let kind = take_one(s, precision.next, 3);
@@ -323,7 +323,7 @@ pub fn read_form(s: &[u8]) -> Form
     if p.precision != 0 {
         return refuse(OUTSIDE_SET);
     }
-    let base = integers::base_of(p.kind);
+    let base = forms::base_of(p.kind);
     if base == 0 {
         return refuse(OUTSIDE_SET);
     }
@@ -457,6 +457,6 @@ pub fn write_by(out: &mut [u8], s: &[u8], form: Form, negative: bool, size: u32)
         return integers::write_one(out, form.pad, form.shape, negative, size);
     }
     let fill = least(form.fill, s.len());
-    let shape = integers::anew(form.shape);
+    let shape = forms::anew(form.shape);
     integers::write(out, &s[0..fill], shape, negative, size)
 }

@@ -12,7 +12,7 @@ use Rattle.definition_replay_laws.proofs.spec.SpecLaws.{both-true}
 use Rattle.definition_replay_laws.proofs.integers.WrittenLaws.{base-big}
 use Rattle.buffers.specs.Over.{over}
 use Rattle.buffers.proofs.Over.{over-nil}
-use Rattle.integers.specs.declared.Shape.{Shape}
+use Rattle.forms.specs.declared.Shape.{Shape}
 use Rattle.integers.specs.Written.{formed, fitting, writtenIn}
 
 module _ (fill : ℕ) (f : Shape) {base : ℕ} (b : base ≡ baseOf (f .kind)) where

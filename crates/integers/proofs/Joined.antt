@@ -14,7 +14,7 @@ use Rattle.definition_replay_laws.proofs.integers.IntegerSteps.{zeroed-done, ze
 use Rattle.definition_replay_laws.proofs.integers.WrittenLaws.{fills-in}
 use Rattle.buffers.specs.Over.{over}
 use Rattle.buffers.proofs.Over.{over-nil, over-append, over-front, length-over}
-use Rattle.integers.specs.declared.Shape.{Shape}
+use Rattle.forms.specs.declared.Shape.{Shape}
 use Rattle.integers.specs.Written.{bare, numeralUnits, prefixFrom, headFrom, padsFrom, leastFrom, formed, integer}
 use Rattle.integers.proofs.Bounds.{numeral-short}
 

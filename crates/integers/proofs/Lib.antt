@@ -1,6 +1,5 @@
 pub mod Placed
 pub mod Bounds
 pub mod Joined
-pub mod Digits
 pub mod Fitting
 pub mod Plain

@@ -14,31 +14,13 @@ use Rattle.definition_replay_laws.proofs.integers.WrittenLaws.{base-big, Zeroed
 use Rattle.definition.proofs.moves.CharLaws.{cases, no}
 use Rattle.buffers.specs.Over.{over}
 use Rattle.buffers.proofs.Over.{over-append, over-comm}
-use Rattle.integers.specs.declared.Shape.{Shape}
+use Rattle.forms.specs.declared.Shape.{Shape}
 use Rattle.integers.specs.Written.{bare, numeralUnits, figuresOf, headFrom, padsFrom, leastFrom, formed, integer, writtenIn}
 use Rattle.integers.proofs.Joined.{five-pieces, pads-align, pads-byte, least-none, least-some, left-inner, inner-all, pieces-are}
 use Rattle.integers.proofs.Fitting.{in-set}
 
--- HOW MANY in base ten, between two powers
-ten-some : (k : ℕ) → 1 ≤ 10 ^ k
-ten-some zero = omega arith
-ten-some (suc k) = let h = ten-some k in omega arith
-
-pub ten-figures : (k n : ℕ) → 10 ^ k ≤ n → n < 10 ^ suc k → suc k ≡ length (digits 10 n)
-ten-figures zero n l h = let e = ap length (digits-last 10 (omega arith) n (omega arith)) in omega arith
-ten-figures (suc k) n l h =
-    let p = ten-some k in
-    let e = ap length (digits-more 10 (omega arith) n (omega arith)) in
-    let d = mod-add-div n 10 in
-    let m : n % 10 < 10 = mod-lt n (omega arith) in
-    let ih = ten-figures k (n / 10) (omega arith) (omega arith) in
-    omega arith
-
-pub ten-one : (n : ℕ) → n < 10 → 1 ≡ length (digits 10 n)
-ten-one n h = sym (ap length (digits-last 10 (omega arith) n h))
-
 module _ (base n : ℕ) (big : 1 < base) where
-  -- and in any: one more, and the last
+  -- HOW MANY: one more, and the last
   pub count-more : (count : ℕ) {rest : ℕ} → base ≤ n → rest ≡ n / base → count + 1 + length (digits base rest) ≡ count + length (digits base n)
   count-more count h r = rw r (let e = ap length (digits-more base big n h) in omega arith)
 

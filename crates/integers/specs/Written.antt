@@ -6,7 +6,7 @@ use lib.Dec.{leb, eqb}
 use lib.ListN.{length}
 use Rattle.definition.specs.Chars.{if_then_else_, same}
 use Rattle.definition_replay.specs.Integers.{Integer, digits, Form, baseOf, figure, signOf, grouped, figures, zeroed, written}
-use Rattle.integers.specs.declared.Shape.{Shape}
+use Rattle.forms.specs.declared.Shape.{Shape}
 
 -- a figure, behind a separator if none is to come before the next one
 unfoldable pub oneMore : (grouping come fig : ℕ) → List ℕ

@@ -1,15 +1,16 @@
 // Integers by a format specification: figures are written the units first.
+use digits::count_ten;
+use forms::Shape;
+use forms::anew;
+use forms::base_of;
 ghost use mathlib.Core.Path.{_≡_};
 ghost use Prim.Native.Nat.{_+_, _-_, _/_, _%_, _<_, _≤_};
 ghost use mathlib.Core.Bool.{true};
 ghost use mathlib.Core.List.{[], _∷_, reverse};
-ghost use lib.ListN.{length, take, drop};
-ghost use Rattle.definition_replay.specs.Spec.{isDigit, front, behind};
+ghost use lib.ListN.{length, take};
 ghost use Rattle.definition_replay.specs.Integers.{digits, baseOf, figure, copies, signOf, leftOf, innerOf, written};
 ghost use Rattle.buffers.specs.Over.{over};
 ghost use Rattle.integers.specs.Written.{oneMore, comeAfter, comesAfter, restOf, zerosN, groupOf, numeralUnits, figuresOf, prefixFrom, headFrom, padsFrom, leastFrom, formed, integer, fitting, writtenIn};
-ghost use Rattle.definition_replay.specs.SpecNumbers.{toldOf};
-ghost use Rattle.integers.specs.Told.{moreValue, toldAt};
 
 // Figures that were written: their bytes, and how many are to come before the next separator.
 pub(crate) struct Run {
@@ -149,31 +150,6 @@ fn zeros(out: &mut [u8], at: usize, come: usize, grouping: u8, size: usize, leas
     to
 }
 
-// The base of a type; 0 if it is none of an integer.
-pub fn base_of(kind: u8) -> u32
-    ensures { λ r. ⌜ r ≡ baseOf kind ⌝ }
-{
-    if kind == 0 {
-        return 10;
-    }
-    if kind == b'd' {
-        return 10;
-    }
-    if kind == b'b' {
-        return 2;
-    }
-    if kind == b'o' {
-        return 8;
-    }
-    if kind == b'x' {
-        return 16;
-    }
-    if kind == b'X' {
-        return 16;
-    }
-    0
-}
-
 // How many figures a group has.
 fn group_size(base: u32) -> usize
     ensures { λ r. ⌜ (r ≡ groupOf base) × (1 ≤ r) ⌝ }
@@ -257,16 +233,6 @@ fn add_reversed(out: &mut [u8], used: usize, units: &[u8], count: usize) -> usiz
         at = at + 1;
     }
     at
-}
-
-// A form but for its fill.
-pub struct Shape {
-    pub align: u8,
-    pub sign: u8,
-    pub alternate: bool,
-    pub width: usize,
-    pub grouping: u8,
-    pub kind: u8,
 }
 
 // Writes the sign of an integer; says where it ends.
@@ -434,40 +400,6 @@ pub fn write(out: &mut [u8], fill: &[u8], shape: Shape, negative: bool, size: u3
     write_at(out, 0, fill, shape, negative, size)
 }
 
-// How many figures a number has in base ten.
-fn count_ten(n: u32) -> usize
-    ensures { λ r. ⌜ r ≡ length (digits 10 n) ⌝ }
-{
-    if n < 10 {
-        return 1;
-    }
-    if n < 100 {
-        return 2;
-    }
-    if n < 1000 {
-        return 3;
-    }
-    if n < 10000 {
-        return 4;
-    }
-    if n < 100000 {
-        return 5;
-    }
-    if n < 1000000 {
-        return 6;
-    }
-    if n < 10000000 {
-        return 7;
-    }
-    if n < 100000000 {
-        return 8;
-    }
-    if n < 1000000000 {
-        return 9;
-    }
-    10
-}
-
 // How many figures a number has in a base.
 fn count_figures(number: u32, base: u32) -> usize
     requires { ⌜ (1 < base) × (base ≤ 16) ⌝ }
@@ -550,20 +482,6 @@ fn write_plain(out: &mut [u8], byte: u8, shape: Shape, negative: bool, size: u32
     add_bytes(out, four, pad - (left + inner), byte)
 }
 
-// A form once more. One that is handed on is made only there.
-pub fn anew(shape: Shape) -> Shape
-    ensures { λ r. ⌜ r ≡ shape ⌝ }
-{
-    Shape {
-        align: shape.align,
-        sign: shape.sign,
-        alternate: shape.alternate,
-        width: shape.width,
-        grouping: shape.grouping,
-        kind: shape.kind,
-    }
-}
-
 // Writes an integer by a form with a fill of one byte from the front on, nothing by one outside the set; says how many bytes it has.
 pub fn write_one(out: &mut [u8], byte: u8, shape: Shape, negative: bool, size: u32) -> usize
     ensures { λ r. ⌜ (r ≡ length (writtenIn (byte ∷ []) shape (integer negative size))) × (now (out .exit) ≡ over (now (out .entry)) 0 (writtenIn (byte ∷ []) shape (integer negative size))) ⌝ }
@@ -575,59 +493,4 @@ pub fn write_one(out: &mut [u8], byte: u8, shape: Shape, negative: bool, size: u
     let fill = [byte];
     let form = anew(shape);
     write(out, &fill, form, negative, size)
-}
-
-// Digits that were read: 0 for none, else 1 more than their value, at most 4,294,967,295; and where they end.
-pub struct Number {
-    pub told: u32,
-    pub next: usize,
-}
-
-// A value after a digit more, at most 4,294,967,294.
-fn more_value(value: u64, b: u8) -> u64
-    requires { ⌜ (value ≤ 0xFFFFFFFE) × (48 ≤ b) × (b ≤ 57) ⌝ }
-    ensures { λ r. ⌜ r ≡ moreValue value b ⌝ }
-{
-    let t = value * 10 + (b - 48) as u64;
-    if 0xFFFFFFFE < t {
-        return 0xFFFFFFFE;
-    }
-    t
-}
-
-// What is told of digits of a value from one index up to another.
-fn tell(value: u64, at: usize, next: usize) -> Number
-    requires { ⌜ value ≤ 0xFFFFFFFE ⌝ }
-    ensures { λ r. ⌜ (r .told ≡ toldAt value at next) × (r .next ≡ next) ⌝ }
-{
-    if next == at {
-        return Number {
-            told: 0,
-            next: next,
-        };
-    }
-    Number {
-        told: (value + 1) as u32,
-        next: next,
-    }
-}
-
-// Reads the digits at an index.
-pub fn read_digits(s: &[u8], at: usize) -> Number
-    ensures { λ r. ⌜ (r .told ≡ toldOf (front isDigit (drop at (now (s .entry))))) × (drop (r .next) (now (s .entry)) ≡ behind isDigit (drop at (now (s .entry)))) × (at ≤ r .next) × (at ≤ length (now (s .entry)) → r .next ≤ length (now (s .entry))) ⌝ }
-{
-    let mut value: u64 = 0;
-    let mut i = at;
-    while i < s.len() {
-        let b = s[i];
-        if b < 48 {
-            return tell(value, at, i);
-        }
-        if 57 < b {
-            return tell(value, at, i);
-        }
-        value = more_value(value, b);
-        i = i + 1;
-    }
-    tell(value, at, i)
 }

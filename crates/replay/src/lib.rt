@@ -304,7 +304,7 @@ fn held_step(numbers: &[u32]) -> Step
         to: numbers[6] as usize,
         next: numbers[7] as usize,
     };
-    let shape = integers::Shape {
+    let shape = forms::Shape {
         align: (numbers[10] % 256) as u8,
         sign: (numbers[11] % 256) as u8,
         alternate: numbers[12] != 0,

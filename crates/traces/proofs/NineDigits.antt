@@ -13,8 +13,8 @@ use Rattle.definition_replay.specs.SpecNumbers.{toldOf}
 use Rattle.definition_replay.specs.Replay.{inRange}
 use Rattle.definition_replay.specs.Trace.{comma, ends, other, behindColumn}
 use Rattle.definition.proofs.moves.CharLaws.{cases, no}
-use Rattle.integers.specs.Told.{moreValue}
-use Rattle.integers.proofs.Digits.{Valued, told-some, valued-low, valued-high, valued-end}
+use Rattle.digits.specs.Told.{moreValue}
+use Rattle.digits.proofs.Digits.{Valued, told-some, valued-low, valued-high, valued-end}
 use Rattle.traces.specs.Cells.{Cell, wrong, more, last, endedWith, cellOf, fitCell, integer, endedBy, saysCell}
 use Rattle.traces.proofs.Reading.{skip-not, column-bare, behind-other}
 use Rattle.traces.proofs.Scanning.{fit-clip, fit-ended}

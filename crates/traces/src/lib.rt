@@ -7,7 +7,7 @@ ghost use lib.ListN.{length, drop};
 ghost use Rattle.definition_replay.specs.Spec.{first, past};
 ghost use Rattle.definition_replay.specs.Trace.{behindColumn, rowOf};
 ghost use Rattle.definition_replay.specs.Replay.{inRange};
-ghost use Rattle.integers.proofs.Digits.{Valued};
+ghost use Rattle.digits.proofs.Digits.{Valued};
 ghost use Rattle.traces.specs.Cells.{saysBehind, cellOf, clipCell, fitCell, integer, saysCell, endedBy, verdictOf, checkOf};
 
 // What stands behind a column: 0 for what may not, 1 for a comma, 2 for the row's end; and where it ends.
@@ -124,7 +124,7 @@ fn column_at(s: &[u8], at: usize) -> Column
 {
     let from = skip_quote(s, at);
     let start = skip_minus(s, from);
-    let number = integers::read_digits(s, start);
+    let number = digits::read_digits(s, start);
     if number.told == 0 {
         return Column {
             ends: 0,

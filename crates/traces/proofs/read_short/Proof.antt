@@ -3,7 +3,7 @@ use borrow.Author.Needs.{needs}
 use native.Mathlib.Omega.{arith}
 use Prim.Native.Nat.{_-_, _^_, _≤_, _<_}
 use lib.ListN.{getD}
-use Rattle.integers.proofs.Digits.{Valued, valued-starts, valued-more}
+use Rattle.digits.proofs.Digits.{Valued, valued-starts, valued-more}
 use Rattle.traces.proofs.NineDigits.{short-starts, short-room, short-most, short-more, value-more}
 use Rattle.traces.proofs.read_short.Statement.{statement}
 use Rattle.traces.proofs.read_short.Tie as tie

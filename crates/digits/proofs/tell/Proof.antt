@@ -1,9 +1,9 @@
--- `integers::tell` meets its contract. Assumes nothing.
+-- `digits::tell` meets its contract. Assumes nothing.
 use borrow.Author.Needs.{needs}
 use mathlib.Core.Path.{refl}
-use Rattle.integers.proofs.Digits.{told-none, told-some}
-use Rattle.integers.proofs.tell.Statement.{statement}
-use Rattle.integers.proofs.tell.Tie as tie
+use Rattle.digits.proofs.Digits.{told-none, told-some}
+use Rattle.digits.proofs.tell.Statement.{statement}
+use Rattle.digits.proofs.tell.Tie as tie
 
 pub tell-spec : {M : Type 1} → statement M
 tell-spec =

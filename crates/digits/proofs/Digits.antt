@@ -13,7 +13,7 @@ use Rattle.definition_replay.specs.Integers.{decimalFrom}
 use Rattle.definition.proofs.moves.CharLaws.{byte-is, cases}
 use Rattle.definition_replay_laws.proofs.spec.SpecSteps.{front-there, front-not, front-end}
 use Rattle.definition_replay.specs.SpecNumbers.{toldOf}
-use Rattle.integers.specs.Told.{moreTold, toldFrom, moreValue, toldAt}
+use Rattle.digits.specs.Told.{moreTold, toldFrom, moreValue, toldAt}
 
 module _ (value b : ℕ) where
   pub value-over : 0xFFFFFFFE < value * 10 + (b - 48) → 0xFFFFFFFE ≡ moreValue value b

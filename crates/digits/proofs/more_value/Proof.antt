@@ -1,8 +1,8 @@
--- `integers::more_value` meets its contract. Assumes nothing.
+-- `digits::more_value` meets its contract. Assumes nothing.
 use borrow.Author.Needs.{needs}
-use Rattle.integers.proofs.Digits.{value-over, value-next}
-use Rattle.integers.proofs.more_value.Statement.{statement}
-use Rattle.integers.proofs.more_value.Tie as tie
+use Rattle.digits.proofs.Digits.{value-over, value-next}
+use Rattle.digits.proofs.more_value.Statement.{statement}
+use Rattle.digits.proofs.more_value.Tie as tie
 
 pub more-value-spec : {M : Type 1} → statement M
 more-value-spec =

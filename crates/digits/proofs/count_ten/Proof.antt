@@ -1,8 +1,8 @@
--- `integers::count_ten` meets its contract. Assumes nothing.
+-- `digits::count_ten` meets its contract. Assumes nothing.
 use native.Mathlib.Omega.{arith}
-use Rattle.integers.proofs.Plain.{ten-one, ten-figures}
-use Rattle.integers.proofs.count_ten.Statement.{statement}
-use Rattle.integers.proofs.count_ten.Tie as tie
+use Rattle.digits.proofs.Counted.{ten-one, ten-figures}
+use Rattle.digits.proofs.count_ten.Statement.{statement}
+use Rattle.digits.proofs.count_ten.Tie as tie
 
 pub count-ten-spec : {M : Type 1} → statement M
 count-ten-spec =
