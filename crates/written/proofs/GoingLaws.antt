@@ -19,8 +19,9 @@ use Rattle.formed.specs.declared.Head.{Head}
 use Rattle.formed.specs.Heads.{headAt}
 use Rattle.formed.specs.Good.{recordsAt}
 use Rattle.formed.proofs.Goods.{rec, records-turn, records-none}
-use Rattle.written.specs.declared.opens.Opens.{Opens}
-use Rattle.written.specs.Opens.{listOf, osOf, pieceOf, Holds, Turns}
+use Rattle.opens.specs.declared.Opens.{Opens}
+use Rattle.opens.specs.Opens.{listOf, osOf}
+use Rattle.written.specs.Turns.{pieceOf, Holds, Turns}
 use Rattle.written.specs.Puts.{Puts}
 use Rattle.written.specs.Going.{Rules, Spells}
 use Rattle.written.proofs.PutLaws.{puts-none, puts-then, puts-same}

@@ -13,7 +13,8 @@ use Rattle.definition_written.specs.Written.{Where, top, early, late, spelledBy
 use Rattle.definition.proofs.moves.CharLaws.{cases}
 use Rattle.definition_laws.proofs.moves.Moves.{part-short}
 use Rattle.formed.specs.declared.Head.{Head}
-use Rattle.written.specs.Opens.{whereOf, pieceOf, Holds}
+use Rattle.opens.specs.Opens.{whereOf}
+use Rattle.written.specs.Turns.{pieceOf, Holds}
 
 byte-short : (w : Where) (b : ℕ) → length (spelledByte w b) ≤ 4
 unfolding spelledByte

@@ -10,7 +10,7 @@ use borrow.Author.Tests.{eq-eqb, ne-eqb}
 use Rattle.buffers.proofs.Over.{over-nil, over-append, length-over}
 use Rattle.definition.specs.Chars.{_is_}
 use Rattle.definition_written.specs.Written.{Where, top, late, spelledByte, spelledText, spelledConversion}
-use Rattle.written.specs.Opens.{whereOf}
+use Rattle.opens.specs.Opens.{whereOf}
 use Rattle.written.specs.Puts.{Puts}
 
 pub puts-none : (b : List ℕ) (u : ℕ) → Puts b u [] b u

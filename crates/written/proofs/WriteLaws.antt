@@ -11,9 +11,11 @@ use Rattle.definition.specs.Chars.{if_then_else_, part}
 use Rattle.definition.specs.Records.{Record}
 use Rattle.definition_written.specs.Written.{early, ownText, spelledText, spelledConversion}
 use Rattle.definition_written.specs.Passes.{Open, opened, standing, drained, closers, tookText, tookField, passed}
-use Rattle.written.specs.declared.opens.Opens.{Opens}
-use Rattle.written.specs.Opens.{whereOf, osOf, pieceOf}
-use Rattle.written.proofs.PassLaws.{standing-of, length-of, Wrote}
+use Rattle.opens.specs.declared.Opens.{Opens}
+use Rattle.opens.specs.Opens.{whereOf, osOf}
+use Rattle.opens.proofs.OpenLaws.{standing-of, length-of}
+use Rattle.written.specs.Turns.{pieceOf}
+use Rattle.written.proofs.PassLaws.{Wrote}
 
 abbrev run : ℕ → List ℕ
 run n = replicate n 125

@@ -1,4 +1,4 @@
 pub mod Puts
-pub mod Opens
+pub mod Turns
 pub mod Going
 pub mod Answers

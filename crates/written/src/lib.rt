@@ -1,15 +1,15 @@
 // A body written back from the records of a joined answer, in one pass: whether its spelling reads back is told by the records alone.
-mod opens;
 mod spell;
+mod turns;
 
 use buffers::fill;
 use formed::is_formed;
 use formed::number_at;
 use formed::record_at;
 use opens::NONE_OPEN;
-use opens::put_record;
-use opens::turn;
 use spell::put_closers;
+use turns::put_record;
+use turns::turn;
 ghost use mathlib.Core.Path.{_≡_};
 ghost use mathlib.Core.Bool.{false};
 ghost use Prim.Native.Nat.{_≤_, _*_};

@@ -1,14 +1,15 @@
 // The spelling, written clipped from a used length on.
 use buffers::add_run;
 use buffers::put;
+use opens::is_doubled;
 ghost use mathlib.Core.Path.{_≡_};
 ghost use mathlib.Core.List.{[], _∷_, _++_};
 ghost use Prim.Native.Nat.{_≤_, _+_, _^_};
 ghost use lib.Dec.{eqb};
 ghost use lib.ListN.{length, replicate};
-ghost use Rattle.definition.specs.Chars.{_is_, if_then_else_};
+ghost use Rattle.definition.specs.Chars.{if_then_else_};
 ghost use Rattle.definition_written.specs.Written.{top, late, spelledByte, spelledText, spelledConversion};
-ghost use Rattle.written.specs.Opens.{whereOf};
+ghost use Rattle.opens.specs.Opens.{whereOf};
 ghost use Rattle.written.specs.Puts.{Puts};
 
 // One byte.
@@ -38,18 +39,6 @@ fn put_hex(body: &mut [u8], used: usize, digit: u8) -> usize
     let second = put_one(body, first, b'x');
     let third = put_one(body, second, b'7');
     put_one(body, third, digit)
-}
-
-// Whether a byte is doubled at the top.
-fn is_doubled(b: u8) -> bool
-    ensures { λ r. ⌜ r ≡ b is "{}\\" ⌝ }
-{
-    match b {
-        b'{' => true,
-        b'}' => true,
-        b'\\' => true,
-        _ => false,
-    }
 }
 
 // A byte of a text at the top.

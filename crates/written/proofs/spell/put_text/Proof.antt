@@ -3,7 +3,7 @@ use borrow.Author.Needs.{needs}
 use native.Mathlib.Omega.{arith}
 use Prim.Native.Nat.{_-_}
 use lib.ListN.{length}
-use Rattle.written.specs.Opens.{whereOf}
+use Rattle.opens.specs.Opens.{whereOf}
 use Rattle.written.proofs.PutLaws.{Putting, putting-starts, putting-small, putting-on, putting-ends, putting-kept}
 use Rattle.written.proofs.spell.put_text.Statement.{statement}
 use Rattle.written.proofs.spell.put_text.Tie as tie
