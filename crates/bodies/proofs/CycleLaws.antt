@@ -30,7 +30,7 @@ use Rattle.bodies.specs.Sinks.{outOf, isHeld, loadOf, Fits, Emits, specW
 use Rattle.marks.specs.Marks.{faultOf}
 use Rattle.texts.specs.Text.{StopsBy, OpensBefore}
 use Rattle.texts.proofs.Laws.{text-bounds, opens-shallow}
-use Rattle.bodies.specs.FieldTurns.{HeadIs, EndedIs, endOf}
+use Rattle.heads.specs.FieldTurns.{HeadIs, EndedIs, endOf}
 use Rattle.bodies.specs.Fstring.{Room, ReadIs, SpecIs, SignedBy, fieldEnd}
 use Rattle.bodies.specs.Rows.{Signed}
 use Rattle.bodies.proofs.RecordLaws.{Placed, ended-written, spec-text-ended, specified-filled, field-written, row-written}

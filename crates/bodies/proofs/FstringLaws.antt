@@ -38,7 +38,8 @@ use Rattle.definition_laws.proofs.moves.Whole.{text-end, text-field, text-field
 use Rattle.definition_laws.proofs.moves.Fuel.{Reading, text-reading, field-reading, spec-reading, first-in}
 use Rattle.definition_laws.proofs.moves.Depths.{spec-apart}
 use Rattle.definition_laws.proofs.moves.Prefix.{following, text-prefix}
-use Rattle.bodies.specs.FieldTurns.{isMarked, headState, HeadIs, EndedIs}
+use Rattle.heads.specs.FieldTurns.{isMarked, headState, HeadIs, EndedIs}
+use Rattle.heads.proofs.FieldLoop.{read-on}
 
 part-length : (s : List ℕ) (i j : ℕ) → j ≤ length s → length (part s i j) ≡ j - i
 part-length s i j h = omega (arith, length-take (j - i) (drop i s), length-drop i s)
@@ -193,7 +194,7 @@ module _ (look : Naming) (s : List ℕ) (depth from used : ℕ) (fr : Frame) (te
 
   pub closed-reads : fieldN look (enough s) (fr .kind) s depth from from fresh ≡ got closed-pieces (h .at .at)
   closed-reads =
-      c .head .same look (fr .kind) depth
+      read-on (c .head .leads) look (fr .kind) depth
       ∙ field-end look (fr .kind) s depth from (c .head .place) (headState (c .head .expression) h) (c .head .moves)
       ∙ finished-plain s depth from (c .head .expression) h (next s (c .head .place)) (c .full refl)
       ∙ ap (λ n. got (before-spec depth (c .head .expression) h 0 from (signsOf h 0 n)) n) (sym (c .head .after))
@@ -214,7 +215,7 @@ module _ (look : Naming) (s : List ℕ) (depth from used : ℕ) (fr : Frame) (te
 
     to-end : reading ≡ specified s depth from j (formatted (h .at .at) (headState (c .expression) h)) ps
     to-end =
-        c .same look (fr .kind) depth
+        read-on (c .leads) look (fr .kind) depth
         ∙ field-spec look (fr .kind) s depth from (c .place) (headState (c .expression) h) (c .there) (c .moves) ps j (ap (specN look (enough s) (fr .kind) s depth) (sym (c .after)) ∙ e)
         ∙ ap (λ n. specified s depth from j (formatted n (headState (c .expression) h)) ps) (sym (c .after))
 
@@ -245,7 +246,7 @@ module _ (look : Naming) (s : List ℕ) (depth from used : ℕ) (fr : Frame) (te
 module _ (look : Naming) (s : List ℕ) (depth from used : ℕ) (kind : ℕ) (text text₁ : List ℕ) (h : Head) (c : HeadIs calls s from used h text text₁) where
   pub unformatted-field : (y : Fault) → specN look (enough s) kind s depth (h .at .at) ≡ refused y → fieldN look (enough s) kind s depth from from fresh ≡ refused y
   unformatted-field y e =
-      c .same look kind depth
+      read-on (c .leads) look kind depth
       ∙ field-spec-stop look kind s depth from (c .place) (headState (c .expression) h) (c .there) (c .moves) y (ap (specN look (enough s) kind s depth) (sym (c .after)) ∙ e)
 
 -- TEXT: the loop's state. The definition has come to i with pieces, which are emitted

@@ -2,8 +2,6 @@ pub mod PieceLaws
 pub mod Emitted
 pub mod SinkLaws
 pub mod RecordLaws
-pub mod FieldLaws
-pub mod FieldLoop
 pub mod FstringLaws
 pub mod RowLaws
 pub mod FieldEndLaws

@@ -26,7 +26,7 @@ use Rattle.records.specs.Rows as r
 use Rattle.records.proofs.Counting.{word-small, plus-small, minus-small}
 use Rattle.bodies.specs.Emit as e
 use Rattle.bodies.specs.Sinks.{outOf, isHeld, loadOf, Fits, Emits, specWords}
-use Rattle.bodies.specs.FieldTurns.{isMarked}
+use Rattle.heads.specs.FieldTurns.{isMarked}
 use Rattle.bodies.specs.Rows.{rowOf, Through}
 use Rattle.bodies.proofs.SinkLaws.{Closes, Writes, Documents, UpTo, closed-fits, put-writes, held-literal, inner-literal, no-text, some-text, put-field, documents, documents-none, literal-upto, upto-both, documented-field}
 

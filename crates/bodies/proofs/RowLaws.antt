@@ -21,7 +21,7 @@ use Rattle.records.specs.declared.Sink.{Sink}
 use Rattle.records.specs.declared.Head.{Head}
 use Rattle.bodies.specs.Emit.{Whole, Out, hold, put, closed, emit, emits}
 use Rattle.bodies.specs.Sinks.{wholeOf, outOf, Emits}
-use Rattle.bodies.specs.FieldTurns.{isMarked, HeadIs}
+use Rattle.heads.specs.FieldTurns.{isMarked, HeadIs}
 use Rattle.texts.specs.Text.{StopsBy}
 use Rattle.bodies.specs.Fstring.{Room, SignedBy}
 use Rattle.bodies.specs.Rows.{rowOf, Through, rowsOf, Signed}

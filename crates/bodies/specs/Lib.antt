@@ -1,6 +1,5 @@
 pub mod Emit
 pub mod Sinks
-pub mod FieldTurns
 pub mod Rows
 pub mod Fstring
 pub mod Lists

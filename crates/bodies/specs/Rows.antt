@@ -10,7 +10,7 @@ use Rattle.marks.specs.Marks.{converted}
 use Rattle.records.specs.declared.Window.{Window}
 use Rattle.records.specs.declared.Frame.{Frame}
 use Rattle.records.specs.declared.Head.{Head}
-use Rattle.bodies.specs.FieldTurns.{isMarked}
+use Rattle.heads.specs.FieldTurns.{isMarked}
 
 -- the row of a field, from its head and where its spec and it end
 abbrev pub rowOf : Frame → Head → (size parts at colon close : ℕ) → Row

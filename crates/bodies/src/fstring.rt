@@ -1,8 +1,8 @@
 // F-strings: text, fields and specs, which call for one another.
-use crate::EMPTY_EXPRESSION;
-use crate::field::Opened;
-use crate::field::read_head;
 use buffers::put;
+use heads::EMPTY_EXPRESSION;
+use heads::Opened;
+use heads::read_head;
 use marks::Refusal;
 use marks::Unclosed;
 use marks::is_brace;
@@ -166,7 +166,7 @@ fn parse_formatted_value(
     requires { ⌜ fields ≤ k .count ⌝ }
     ensures { λ r. ⌜ ReadIs (fieldN (namesBy (now (file .entry)) (now (index .entry))) (enough (now (s .entry))) (fr .kind) (now (s .entry)) nested (at .at) (at .at) fresh) fr nested (now (words .entry)) (now (text .entry)) (now (words .exit)) (now (text .exit)) k r × SignedIs r (fieldN (namesBy (now (file .entry)) (now (index .entry))) (enough (now (s .entry))) (fr .kind) (now (s .entry)) nested (at .at) (at .at) fresh) fr (now (rows .entry)) (now (rows .exit)) fields ⌝ }
 {
-    match read_head(s, at, text, k.used) {
+    match read_head(s, at, text, k.used as u32) {
         Opened::Refused(r) => Read::Refused(r),
         Opened::Ended(h, parts) => {
             let after = h.at;

@@ -1,5 +1,4 @@
 // Bodies of literals read to records, one text and rows: the first refusal, or all in order.
-mod field;
 mod fstring;
 
 use entry::Checked;
@@ -7,6 +6,7 @@ use entry::Class;
 use entry::Descriptor;
 use fstring::Read;
 use fstring::parse_fstring;
+use heads::MISMATCHED_DELIMITER;
 use marks::Refusal;
 use records::Frame;
 use records::Sink;
@@ -73,10 +73,6 @@ pub(crate) enum Listed {
 }
 
 const LARGEST_BODY: usize = 1048576;
-
-pub(crate) const EMPTY_EXPRESSION: u32 = 22;
-
-pub(crate) const MISMATCHED_DELIMITER: u32 = 23;
 
 // A literal's body, read and written.
 fn read_body(

@@ -34,7 +34,7 @@ use Rattle.records.proofs.again.frame_again.Reads as frame-again-reads
 use Rattle.records.proofs.reserve.Reads as reserve-reads
 use Rattle.records.proofs.again.sink_again.Reads as sink-again-reads
 use Rattle.records.proofs.spec_text.Reads as spec-text-reads
-use Rattle.bodies.proofs.field.read_head.Reads as read-head-reads
+use Rattle.heads.proofs.read_head.Reads as read-head-reads
 use Rattle.bodies.proofs.fstring.end_field.Reads as end-field-reads
 use Rattle.bodies.proofs.fstring.read_first.Reads as read-first-reads
 use Rattle.records.proofs.rows.put_signs.Reads as put-signs-reads
@@ -114,23 +114,23 @@ parse-fstring-μ-loop s nested fr words₀ text₀ rows₀ fields file index onc
 
 parse-formatted-value-returns : (t : ℕ) → parse-formatted-value-lts.Need-returns (parse-formatted-value-calls t) (parse-formatted-value-at t) parse-formatted-value.Post
 parse-formatted-value-returns t c =
-    let a = c .before .before .before .before .before .before .before .before .before .before .before .before .before .before .before .before .before .before .before .before .before .before .before .before .before .before .before .before .args in let E = rw (c .before .before .before .before .before .before .before .before .before .before .before .before .before .before .before .before .h .given .1) at (c .before .before .before .before .before .before .before .before .before .before .before .before .before .before .before .before .before .before .before .before .read-head .ensures) in closed-returns (a .s .now) (a .nested) (a .at .at) (a .fr) (a .k) (c .before .before .before .before .before .before .before .before .before .before .before .before .before .before .before .before .h .given .0 .0) _ _ _ _ _ _ _ E (c .before .before .before .before .before .before .before .before .before .before .before .before .before .before .before .before .before .before .before .before .before .before .before .before .before .before .before .before .pre .1 .0) (c .before .before .before .before .before .before .before .before .before .emit-field .ensures) (c .before .before .before .before .if1 .taken) _ _ _ (a .fields) (c .before .before .put-signs .ensures)
+    let a = c .before .before .before .before .before .before .before .before .before .before .before .before .before .before .before .before .before .before .before .before .before .before .before .before .before .before .before .before .before .args in let O = rw (c .before .before .before .before .before .before .before .before .before .before .before .before .before .before .before .before .h .given .1) at (c .before .before .before .before .before .before .before .before .before .before .before .before .before .before .before .before .before .before .before .before .read-head .ensures) in let E = O .0 (c .before .before .before .before .before .before .before .before .before .before .before .before .before .before .before .before .before .before .before .before .before .before .before .before .before .before .before .before .before .pre .1 .0 .small) in closed-returns (a .s .now) (a .nested) (a .at .at) (a .fr) (a .k) (c .before .before .before .before .before .before .before .before .before .before .before .before .before .before .before .before .h .given .0 .0) _ _ _ _ _ _ _ E (c .before .before .before .before .before .before .before .before .before .before .before .before .before .before .before .before .before .before .before .before .before .before .before .before .before .before .before .before .before .pre .1 .0) (c .before .before .before .before .before .before .before .before .before .emit-field .ensures) (c .before .before .before .before .if1 .taken) _ _ _ (a .fields) (c .before .before .put-signs .ensures)
 
 parse-formatted-value-parse-spec-requires : (t : ℕ) → parse-formatted-value-lts.Need-parse-spec-requires (parse-formatted-value-calls t) (parse-formatted-value-at t) parse-formatted-value.Post
 parse-formatted-value-parse-spec-requires t c κs =
-    let a = c .before .before .before .before .before .before .before .before .before .before .before .before .before .before .before .before .before .before .before .before .before .before .before .before .before .before .before .args in let p = c .before .before .before .before .before .before .before .before .before .before .before .before .before .before .before .before .before .before .before .before .before .before .before .before .before .before .before .pre in let E = rw (c .before .before .before .before .before .before .before .before .before .before .before .before .before .before .before .h .given .1) at (c .before .before .before .before .before .before .before .before .before .before .before .before .before .before .before .before .before .before .before .read-head .ensures) in let q = spec-asks (a .s .now) (a .nested) (a .at .at) (a .fr) (a .k) (c .before .before .before .before .before .before .before .before .before .before .before .before .before .before .before .h .given .0 .0) _ _ _ _ _ _ _ E (p .1 .0) (c .before .before .before .before .before .before .before .before .emit-field .ensures) (c .before .before .before .if1 .left) (a .fields) (p .1 .1 .1) in (omega (arith, p .0, q .0 .further, q .0 .room .low), (q .0 .room, ((p .1 .1 .0, q .0 .free, q .0 .strict), q .1)))
+    let a = c .before .before .before .before .before .before .before .before .before .before .before .before .before .before .before .before .before .before .before .before .before .before .before .before .before .before .before .before .args in let p = c .before .before .before .before .before .before .before .before .before .before .before .before .before .before .before .before .before .before .before .before .before .before .before .before .before .before .before .before .pre in let O = rw (c .before .before .before .before .before .before .before .before .before .before .before .before .before .before .before .h .given .1) at (c .before .before .before .before .before .before .before .before .before .before .before .before .before .before .before .before .before .before .before .read-head .ensures) in let E = O .0 (c .before .before .before .before .before .before .before .before .before .before .before .before .before .before .before .before .before .before .before .before .before .before .before .before .before .before .before .before .pre .1 .0 .small) in let q = spec-asks (a .s .now) (a .nested) (a .at .at) (a .fr) (a .k) (c .before .before .before .before .before .before .before .before .before .before .before .before .before .before .before .h .given .0 .0) _ _ _ _ _ _ _ E (p .1 .0) (c .before .before .before .before .before .before .before .before .emit-field .ensures) (c .before .before .before .if1 .left) (a .fields) (p .1 .1 .1) in (omega (arith, p .0, q .0 .further, q .0 .room .low), (q .0 .room, ((p .1 .1 .0, q .0 .free, q .0 .strict), q .1)))
 
 parse-formatted-value-returns-3 : (t : ℕ) → parse-formatted-value-lts.Need-returns-3 (parse-formatted-value-calls t) (parse-formatted-value-at t) parse-formatted-value.Post
 parse-formatted-value-returns-3 t c =
-    let a = c .before .before .before .before .before .before .before .before .before .before .before .before .before .before .before .before .before .before .before .before .before .before .before .before .before .before .before .before .before .before .before .before .before .before .before .before .before .args in let E = rw (c .before .before .before .before .before .before .before .before .before .before .before .before .before .before .before .before .before .before .before .before .before .before .before .before .before .h .given .1) at (c .before .before .before .before .before .before .before .before .before .before .before .before .before .before .before .before .before .before .before .before .before .before .before .before .before .before .before .before .before .read-head .ensures) in let Q = rw (c .before .r2 .given .1) at (c .before .before .before .before .before .before .before .before .before .parse-spec .ensures) in (spec-refuses (a .s .now) (a .nested) (a .at .at) (a .fr) (a .k) (c .before .before .before .before .before .before .before .before .before .before .before .before .before .before .before .before .before .before .before .before .before .before .before .before .before .h .given .0 .0) _ _ _ _ _ _ _ E (c .before .before .before .before .before .before .before .before .before .before .before .before .before .before .before .before .before .before .before .before .before .before .before .before .before .before .before .before .before .before .before .before .before .before .before .before .before .pre .1 .0) (c .before .before .before .before .before .before .before .before .before .before .before .before .before .before .before .before .before .before .emit-field .ensures) (c .before .before .before .before .before .before .before .before .before .before .before .before .before .if1 .left) _ _ _ _ _ _ (Q .0), tt)
+    let a = c .before .before .before .before .before .before .before .before .before .before .before .before .before .before .before .before .before .before .before .before .before .before .before .before .before .before .before .before .before .before .before .before .before .before .before .before .before .before .args in let O = rw (c .before .before .before .before .before .before .before .before .before .before .before .before .before .before .before .before .before .before .before .before .before .before .before .before .before .h .given .1) at (c .before .before .before .before .before .before .before .before .before .before .before .before .before .before .before .before .before .before .before .before .before .before .before .before .before .before .before .before .before .read-head .ensures) in let E = O .0 (c .before .before .before .before .before .before .before .before .before .before .before .before .before .before .before .before .before .before .before .before .before .before .before .before .before .before .before .before .before .before .before .before .before .before .before .before .before .before .pre .1 .0 .small) in let Q = rw (c .before .r2 .given .1) at (c .before .before .before .before .before .before .before .before .before .parse-spec .ensures) in (spec-refuses (a .s .now) (a .nested) (a .at .at) (a .fr) (a .k) (c .before .before .before .before .before .before .before .before .before .before .before .before .before .before .before .before .before .before .before .before .before .before .before .before .before .h .given .0 .0) _ _ _ _ _ _ _ E (c .before .before .before .before .before .before .before .before .before .before .before .before .before .before .before .before .before .before .before .before .before .before .before .before .before .before .before .before .before .before .before .before .before .before .before .before .before .before .pre .1 .0) (c .before .before .before .before .before .before .before .before .before .before .before .before .before .before .before .before .before .before .emit-field .ensures) (c .before .before .before .before .before .before .before .before .before .before .before .before .before .if1 .left) _ _ _ _ _ _ (Q .0), tt)
 
 parse-formatted-value-returns-4 : (t : ℕ) → parse-formatted-value-lts.Need-returns-4 (parse-formatted-value-calls t) (parse-formatted-value-at t) parse-formatted-value.Post
 parse-formatted-value-returns-4 t c =
-    let a = c .before .before .before .before .before .before .before .before .before .before .before .before .before .before .before .before .before .before .before .before .before .before .before .before .before .before .before .before .before .before .before .before .before .before .before .before .before .before .before .before .before .args in let E = rw (c .before .before .before .before .before .before .before .before .before .before .before .before .before .before .before .before .before .before .before .before .before .before .before .before .before .before .before .before .before .h .given .1) at (c .before .before .before .before .before .before .before .before .before .before .before .before .before .before .before .before .before .before .before .before .before .before .before .before .before .before .before .before .before .before .before .before .before .read-head .ensures) in let Q = rw (c .before .before .before .before .before .next .given .1) at (c .before .before .before .before .before .before .before .before .before .before .before .before .before .parse-spec .ensures) in (end-refuses (a .s .now) (a .nested) (a .at .at) (a .fr) (a .k) (c .before .before .before .before .before .before .before .before .before .before .before .before .before .before .before .before .before .before .before .before .before .before .before .before .before .before .before .before .before .h .given .0 .0) _ _ _ _ _ _ _ E (c .before .before .before .before .before .before .before .before .before .before .before .before .before .before .before .before .before .before .before .before .before .before .before .before .before .before .before .before .before .before .before .before .before .before .before .before .before .before .before .before .before .pre .1 .0) (c .before .before .before .before .before .before .before .before .before .before .before .before .before .before .before .before .before .before .before .before .before .before .emit-field .ensures) (c .before .before .before .before .before .before .before .before .before .before .before .before .before .before .before .before .before .if1 .left) _ _ _ _ _ _ (Q .0) _ _ _ (sym (c .before .r3 .given .1) ∙ (c .before .before .before .end-field .ensures)), tt)
+    let a = c .before .before .before .before .before .before .before .before .before .before .before .before .before .before .before .before .before .before .before .before .before .before .before .before .before .before .before .before .before .before .before .before .before .before .before .before .before .before .before .before .before .before .args in let O = rw (c .before .before .before .before .before .before .before .before .before .before .before .before .before .before .before .before .before .before .before .before .before .before .before .before .before .before .before .before .before .h .given .1) at (c .before .before .before .before .before .before .before .before .before .before .before .before .before .before .before .before .before .before .before .before .before .before .before .before .before .before .before .before .before .before .before .before .before .read-head .ensures) in let E = O .0 (c .before .before .before .before .before .before .before .before .before .before .before .before .before .before .before .before .before .before .before .before .before .before .before .before .before .before .before .before .before .before .before .before .before .before .before .before .before .before .before .before .before .before .pre .1 .0 .small) in let Q = rw (c .before .before .before .before .before .next .given .1) at (c .before .before .before .before .before .before .before .before .before .before .before .before .before .parse-spec .ensures) in (end-refuses (a .s .now) (a .nested) (a .at .at) (a .fr) (a .k) (c .before .before .before .before .before .before .before .before .before .before .before .before .before .before .before .before .before .before .before .before .before .before .before .before .before .before .before .before .before .h .given .0 .0) _ _ _ _ _ _ _ E (c .before .before .before .before .before .before .before .before .before .before .before .before .before .before .before .before .before .before .before .before .before .before .before .before .before .before .before .before .before .before .before .before .before .before .before .before .before .before .before .before .before .before .pre .1 .0) (c .before .before .before .before .before .before .before .before .before .before .before .before .before .before .before .before .before .before .before .before .before .before .emit-field .ensures) (c .before .before .before .before .before .before .before .before .before .before .before .before .before .before .before .before .before .if1 .left) _ _ _ _ _ _ (Q .0) _ _ _ (sym (c .before .r3 .given .1) ∙ (c .before .before .before .end-field .ensures)), tt)
 
 parse-formatted-value-returns-5 : (t : ℕ) → parse-formatted-value-lts.Need-returns-5 (parse-formatted-value-calls t) (parse-formatted-value-at t) parse-formatted-value.Post
 parse-formatted-value-returns-5 t c =
-    let a = c .before .before .before .before .before .before .before .before .before .before .before .before .before .before .before .before .before .before .before .before .before .before .before .before .before .before .before .before .before .before .before .before .before .before .before .before .before .before .before .before .before .before .before .before .before .args in let E = rw (c .before .before .before .before .before .before .before .before .before .before .before .before .before .before .before .before .before .before .before .before .before .before .before .before .before .before .before .before .before .before .before .before .before .h .given .1) at (c .before .before .before .before .before .before .before .before .before .before .before .before .before .before .before .before .before .before .before .before .before .before .before .before .before .before .before .before .before .before .before .before .before .before .before .before .before .read-head .ensures) in let Q = rw (c .before .before .before .before .before .before .before .before .before .next .given .1) at (c .before .before .before .before .before .before .before .before .before .before .before .before .before .before .before .before .before .parse-spec .ensures) in spec-returns (a .s .now) (a .nested) (a .at .at) (a .fr) (a .k) (c .before .before .before .before .before .before .before .before .before .before .before .before .before .before .before .before .before .before .before .before .before .before .before .before .before .before .before .before .before .before .before .before .before .h .given .0 .0) _ _ _ _ _ _ _ E (c .before .before .before .before .before .before .before .before .before .before .before .before .before .before .before .before .before .before .before .before .before .before .before .before .before .before .before .before .before .before .before .before .before .before .before .before .before .before .before .before .before .before .before .before .before .pre .1 .0) (c .before .before .before .before .before .before .before .before .before .before .before .before .before .before .before .before .before .before .before .before .before .before .before .before .before .before .emit-field .ensures) (c .before .before .before .before .before .before .before .before .before .before .before .before .before .before .before .before .before .before .before .before .before .if1 .left) _ _ _ _ _ _ (Q .0) (c .before .before .before .before .before .close .given .0 .0) (sym (c .before .before .before .before .before .close .given .1) ∙ (c .before .before .before .before .before .before .before .end-field .ensures)) _ _ _ (a .fields) (c .before .before .put-signs2 .ensures) (Q .1)
+    let a = c .before .before .before .before .before .before .before .before .before .before .before .before .before .before .before .before .before .before .before .before .before .before .before .before .before .before .before .before .before .before .before .before .before .before .before .before .before .before .before .before .before .before .before .before .before .before .args in let O = rw (c .before .before .before .before .before .before .before .before .before .before .before .before .before .before .before .before .before .before .before .before .before .before .before .before .before .before .before .before .before .before .before .before .before .h .given .1) at (c .before .before .before .before .before .before .before .before .before .before .before .before .before .before .before .before .before .before .before .before .before .before .before .before .before .before .before .before .before .before .before .before .before .before .before .before .before .read-head .ensures) in let E = O .0 (c .before .before .before .before .before .before .before .before .before .before .before .before .before .before .before .before .before .before .before .before .before .before .before .before .before .before .before .before .before .before .before .before .before .before .before .before .before .before .before .before .before .before .before .before .before .before .pre .1 .0 .small) in let Q = rw (c .before .before .before .before .before .before .before .before .before .next .given .1) at (c .before .before .before .before .before .before .before .before .before .before .before .before .before .before .before .before .before .parse-spec .ensures) in spec-returns (a .s .now) (a .nested) (a .at .at) (a .fr) (a .k) (c .before .before .before .before .before .before .before .before .before .before .before .before .before .before .before .before .before .before .before .before .before .before .before .before .before .before .before .before .before .before .before .before .before .h .given .0 .0) _ _ _ _ _ _ _ E (c .before .before .before .before .before .before .before .before .before .before .before .before .before .before .before .before .before .before .before .before .before .before .before .before .before .before .before .before .before .before .before .before .before .before .before .before .before .before .before .before .before .before .before .before .before .before .pre .1 .0) (c .before .before .before .before .before .before .before .before .before .before .before .before .before .before .before .before .before .before .before .before .before .before .before .before .before .before .emit-field .ensures) (c .before .before .before .before .before .before .before .before .before .before .before .before .before .before .before .before .before .before .before .before .before .if1 .left) _ _ _ _ _ _ (Q .0) (c .before .before .before .before .before .close .given .0 .0) (sym (c .before .before .before .before .before .close .given .1) ∙ (c .before .before .before .before .before .before .before .end-field .ensures)) _ _ _ (a .fields) (c .before .before .put-signs2 .ensures) (Q .1)
 
 parse-spec-returns : (t : ℕ) → parse-spec-lts.Need-returns (parse-spec-calls t) (parse-spec-at t) parse-spec.Post
 parse-spec-returns t c =
@@ -155,18 +155,19 @@ pub +parse-formatted-value+parse-fstring+parse-spec-spec : {M : Type 1} → stat
     μ-parse-fstring
     μ-parse-spec
     (λ t. parse-formatted-value-lts.spec (parse-formatted-value-calls t) (parse-formatted-value-at t) parse-formatted-value.Post
+    (λ c. let R = (c .before .before .before .before .before .before .before .before .pre .1 .0) in omega (arith, R .load))  -- cast-read-head
     (λ c κs. search needs)  -- read-head-requires
     (λ c. search needs)  -- enum-known-r
     (λ c. search needs)  -- enum-known-h
-    (λ c. let E = rw (c .before .before .before .before .h .given .1) at (c .before .before .before .before .before .before .before .before .read-head .ensures) in let S = small-head _ _ _ _ _ _ _ (E .head) in omega (arith, S .more))  -- sub-size
+    (λ c. let O = rw (c .before .before .before .before .h .given .1) at (c .before .before .before .before .before .before .before .before .read-head .ensures) in let E = O .0 (c .before .before .before .before .before .before .before .before .before .before .before .before .before .before .before .before .before .pre .1 .0 .small) in let S = small-head _ _ _ _ _ _ _ (E .head) in omega (arith, S .more))  -- sub-size
     (λ c κs. search needs)  -- emit-field-requires
     (λ c κs. search needs)  -- put-signs-requires
-    (λ c. let R = (c .before .before .before .before .before .before .before .before .before .before .before .before .before .before .before .before .before .before .before .before .before .before .before .before .before .before .before .before .pre .1 .0) in omega (arith, R .load, (c .before .before .before .before .before .before .before .before .before .before .before .before .before .before .before .before .before .before .before .before .before .before .before .before .before .before .before .before .pre .1 .1 .1)))  -- add-t37
+    (λ c. let R = (c .before .before .before .before .before .before .before .before .before .before .before .before .before .before .before .before .before .before .before .before .before .before .before .before .before .before .before .before .before .pre .1 .0) in omega (arith, R .load, (c .before .before .before .before .before .before .before .before .before .before .before .before .before .before .before .before .before .before .before .before .before .before .before .before .before .before .before .before .before .pre .1 .1 .1)))  -- add-t37
     (λ c. let l0 = (c .before .rows .given) in let l1 = (c .before .before .before .before .before .before .text2 .given) in let l2 = (c .before .before .before .before .before .before .before .before .words .given) in let l3 = (c .before .before .before .before .before .before .before .before .before .before .before .before .before .before .before .before .before .before .before .text .given) in search needs)  -- same-length
     (λ c. let l0 = (c .before .rows .given) in let l1 = (c .before .before .before .before .before .before .text2 .given) in let l2 = (c .before .before .before .before .before .before .before .before .words .given) in let l3 = (c .before .before .before .before .before .before .before .before .before .before .before .before .before .before .before .before .before .before .before .text .given) in search needs)  -- same-length-2
     (λ c. let l0 = (c .before .rows .given) in let l1 = (c .before .before .before .before .before .before .text2 .given) in let l2 = (c .before .before .before .before .before .before .before .before .words .given) in let l3 = (c .before .before .before .before .before .before .before .before .before .before .before .before .before .before .before .before .before .before .before .text .given) in search needs)  -- same-length-3
     (parse-formatted-value-returns t)  -- returns
-    (λ c. let R = (c .before .before .before .before .before .before .before .before .before .before .before .before .before .before .before .before .before .before .before .before .before .before .before .before .before .before .before .pre .1 .0) in omega (arith, R .load, (c .before .before .before .before .before .before .before .before .before .before .before .before .before .before .before .before .before .before .before .before .before .before .before .before .before .before .before .pre .1 .1 .1)))  -- add-parse-spec
+    (λ c. let R = (c .before .before .before .before .before .before .before .before .before .before .before .before .before .before .before .before .before .before .before .before .before .before .before .before .before .before .before .before .pre .1 .0) in omega (arith, R .load, (c .before .before .before .before .before .before .before .before .before .before .before .before .before .before .before .before .before .before .before .before .before .before .before .before .before .before .before .before .pre .1 .1 .1)))  -- add-parse-spec
     (parse-formatted-value-parse-spec-requires t)  -- parse-spec-requires
     (λ c. search needs)  -- enum-known-r-2
     (λ c. search needs)  -- enum-known-next
@@ -175,7 +176,7 @@ pub +parse-formatted-value+parse-fstring+parse-spec-spec : {M : Type 1} → stat
     (λ c. search needs)  -- enum-known-close
     (λ c κs. search needs)  -- put-signs-requires-2
     (λ c. let l0 = (c .before .before .before .before .text .given) in search needs)  -- same-length-4
-    (λ c. let a = (c .before .before .before .before .before .before .before .before .before .before .before .before .before .args) in let E = rw (c .before .r .given .1) at (c .before .before .before .before .before .read-head .ensures) in (to-refuse (λ l. l) _ _ _ _ _ _ _ _ _ (E (namesBy (a .file .now) (a .index .now)) (a .fr .kind) (a .nested)), tt))  -- returns-2
+    (λ c. let a = (c .before .before .before .before .before .before .before .before .before .before .before .before .before .before .args) in let R = (c .before .before .before .before .before .before .before .before .before .before .before .before .before .before .pre .1 .0) in let E = rw (c .before .r .given .1) at (c .before .before .before .before .before .read-head .ensures) in (to-refuse (λ l. l) _ _ _ _ _ _ _ _ _ (E .0 (R .small) .reads (namesBy (a .file .now) (a .index .now)) (a .fr .kind) (a .nested)), tt))  -- returns-2
     (λ c. let l0 = (c .before .before .before .before .rows2 .given) in let l1 = (c .before .before .before .before .before .before .text3 .given) in let l2 = (c .before .before .before .before .before .before .before .before .words2 .given) in let l3 = (c .before .before .before .before .before .before .before .before .before .before .before .before .before .before .before .text2 .given) in let l4 = (c .before .before .before .before .before .before .before .before .before .before .before .before .before .before .before .before .before .words .given) in let l5 = (c .before .before .before .before .before .before .before .before .before .before .before .before .before .before .before .before .before .before .before .before .before .before .before .before .before .before .before .before .text .given) in search needs)  -- same-length-5
     (λ c. let l0 = (c .before .before .before .before .rows2 .given) in let l1 = (c .before .before .before .before .before .before .text3 .given) in let l2 = (c .before .before .before .before .before .before .before .before .words2 .given) in let l3 = (c .before .before .before .before .before .before .before .before .before .before .before .before .before .before .before .text2 .given) in let l4 = (c .before .before .before .before .before .before .before .before .before .before .before .before .before .before .before .before .before .words .given) in let l5 = (c .before .before .before .before .before .before .before .before .before .before .before .before .before .before .before .before .before .before .before .before .before .before .before .before .before .before .before .before .text .given) in search needs)  -- same-length-6
     (λ c. let l0 = (c .before .before .before .before .rows2 .given) in let l1 = (c .before .before .before .before .before .before .text3 .given) in let l2 = (c .before .before .before .before .before .before .before .before .words2 .given) in let l3 = (c .before .before .before .before .before .before .before .before .before .before .before .before .before .before .before .text2 .given) in let l4 = (c .before .before .before .before .before .before .before .before .before .before .before .before .before .before .before .before .before .words .given) in let l5 = (c .before .before .before .before .before .before .before .before .before .before .before .before .before .before .before .before .before .before .before .before .before .before .before .before .before .before .before .before .text .given) in search needs)  -- same-length-7
