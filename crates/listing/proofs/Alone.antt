@@ -22,7 +22,7 @@ use Rattle.strings.specs.declared.Outcome.{Outcome}
 use Rattle.strings.specs.declared.Outcome.the-variants.{Accepted, Refused}
 use Rattle.strings.specs.Strings.{SignsIs}
 use Rattle.strings.specs.Window.{windowAfter, windowInto, windowNumbers}
-use Rattle.listing.specs.Put.{Reads, refusalRow}
+use Rattle.listing.specs.Put.{Reads}
 
 -- the numbers of fields' rows; none of them is a refusal
 field-tens : (w : ℕ) (rs : List Row) → tens (map (ofField w) rs) ≡ allNumbers w rs

@@ -28,12 +28,14 @@ use Rattle.definition_scripts_laws.proofs.listing.FewRows.{part-few, literal-fe
 use Rattle.literals.specs.declared.Literal.{Literal}
 use Rattle.literals.specs.Answers.{literalOf}
 use Rattle.sources.specs.declared.Field.{Field}
-use Rattle.listing.specs.declared.rows.Told.{Told}
+use Rattle.told.specs.declared.Told.{Told}
+use Rattle.told.specs.Rows.{refusalRow, fieldOf, rowAt, rowsIn}
+use Rattle.told.proofs.Rows.{rows-back}
 use Rattle.listing.specs.declared.count.Window.{Window}
 use Rattle.sources.specs.Source.{signsOf, rowOf, Source}
-use Rattle.listing.specs.Put.{Reads, Bounded, refusalRow, fieldOf, rowAt, rowsIn}
+use Rattle.listing.specs.Put.{Reads, Bounded}
 use Rattle.listing.specs.Count.{total, Found, Seen, Block}
-use Rattle.listing.proofs.Written.{not-read, rows-back}
+use Rattle.listing.proofs.Written.{not-read}
 use Rattle.listing.proofs.Cutting.{found-in, count-flat}
 use Rattle.listing.proofs.Filling.{source-lies, source-field}
 

@@ -7,8 +7,8 @@ use native.Mathlib.Numerals.{add-one}
 use native.Mathlib.Omega.{arith}
 use borrow.Author.Tests.{eq-eqb, ne-eqb}
 use lib.Dec.{ltb, eqb}
-use lib.ListN.{length, drop, getD, length-append}
-use Rattle.definition.specs.Numbers.{readOtherwise}
+use lib.ListN.{length, take, drop, getD, length-append}
+use lib.Seq.{take-append-seam}
 use Rattle.definition.specs.Chars.{if_then_else_}
 use Rattle.definition.specs.Escapes.{Naming}
 use Rattle.definition_scripts.specs.Cut.{Cut, cut, cutPart}
@@ -26,9 +26,11 @@ use Rattle.listing.specs.declared.rows.Part.{Part}
 use Rattle.listing.specs.declared.List as list
 use Rattle.listing.specs.declared.Fields.the-variants.{Listed, TooLong, Short}
 use Rattle.sources.specs.Source.{signsOf, rowOf, Source}
-use Rattle.listing.specs.Put.{Puts, PartIs, rowAt, rowsIn, fieldOf, Lies, Bounded}
+use Rattle.told.specs.Rows.{Wrote, toldOtherwise, rowAt, rowsIn, fieldOf}
+use Rattle.told.proofs.Rows.{otherwise-told, otherwise-most, row-back, rows-back, refusals-most}
+use Rattle.listing.specs.Put.{Puts, PartIs, Lies, Bounded}
 use Rattle.listing.specs.Answers.{Filled, CallIs}
-use Rattle.listing.proofs.Written.{told-most, puts-none, puts-append, row-back, rows-back}
+use Rattle.listing.proofs.Written.{puts-none, puts-wrote, puts-append}
 
 -- THE SOURCE OF A ROW that stands in a buffer
 module _ (look : Naming) (s rows : List ℕ) (i : ℕ) where
@@ -53,20 +55,18 @@ module _ (look : Naming) (s rows : List ℕ) (i : ℕ) where
     unfolding rowAt sourceRows otherwiseRow otherwise
     source-field n = rw (ne-eqb (getD rows (i * 10) 0) 5 e)
 
-    otherwise-most : (n : ℕ) → length (otherwiseRow s n (rowOf f) c) ≤ 1
-    unfolding otherwiseRow
-    otherwise-most n = told-most (ltb (otherwise s (rowOf f) c) (length s)) n (f .start) (otherwise s (rowOf f) c) readOtherwise
+    module _ (count : ℕ) (p : Lies s rows i count) (rows₁ : List ℕ) (n : ℕ) (a : Wrote (toldOtherwise s (i + 1) f) rows rows₁ count n) where
+      otherwise-puts : Puts (otherwiseRow s (i + 1) (rowOf f) c) rows rows₁ count (count + n)
+      otherwise-puts = rw (← otherwise-told s (i + 1) f (source-lies (p .fits) (p .not-long))) (puts-wrote (toldOtherwise s (i + 1) f) rows rows₁ count n a)
 
-    module _ (count : ℕ) (p : Lies s rows i count) (rows₁ : List ℕ) (m : ℕ) (a : Puts (otherwiseRow s (i + 1) (rowOf f) c) rows rows₁ count m) where
-      pub source-bounded : Bounded s (f .place) (sourceEnd (signsOf f)) m
+      pub source-bounded : Bounded s (f .place) (sourceEnd (signsOf f)) (count + n)
       source-bounded =
           let z = source-lies (p .fits) (p .not-long) in
           let k = p .few .1 in
-          let x = a .counted in
-          record { ahead = z .ahead; within = z .within; not-long = p .not-long; few = omega (arith, otherwise-most (i + 1)) }
+          record { ahead = z .ahead; within = z .within; not-long = p .not-long; few = omega (arith, otherwise-most s (i + 1) f rows rows₁ count n a) }
 
-      pub source-puts : (rows₂ : List ℕ) (r : Part) → PartIs look s (f .place) (sourceEnd (signsOf f)) (i + 1) rows₁ rows₂ m r → Puts (sourceRows look s (i + 1) (rowAt rows i)) rows rows₂ count (r .count)
-      source-puts rows₂ r b = rw (source-field (i + 1)) (puts-append _ _ rows rows₁ rows₂ count m (r .count) a (b .puts))
+      pub source-puts : (rows₂ : List ℕ) (r : Part) → PartIs look s (f .place) (sourceEnd (signsOf f)) (i + 1) rows₁ rows₂ (count + n) r → Puts (sourceRows look s (i + 1) (rowAt rows i)) rows rows₂ count (r .count)
+      source-puts rows₂ r b = rw (source-field (i + 1)) (puts-append _ _ rows rows₁ rows₂ count (count + n) (r .count) otherwise-puts (b .puts))
 
 -- buffers of one length have the same room
 pub same-room : (look : Naming) → (s rows b rows₁ : List ℕ) (count : ℕ) (r : Part) → PartIs look s 0 (length s) 0 b rows₁ 0 r → PartIs look s 0 (length s) 0 rows rows₁ 0 r → count ≤ length rows / 10 → count ≤ length b / 10
@@ -208,16 +208,33 @@ module _ (look : Naming) (s rows : List ℕ) where
       whole : (r .count ≡ length (rowsOf look s)) × (rows₁ ≡ over rows 0 (tens (rowsOf look s)))
       whole = let k = p .kept in p .whole (omega arith)
 
+      listed : rows₁ ≡ tens (rowsOf look s) ++ drop (length (tens (rowsOf look s))) rows
+      listed = let k = p .kept in whole .1 ∙ over-front rows (tens (rowsOf look s)) (omega (arith, tens-length (rowsOf look s), whole .0))
+
       pub filled-in : r .count * 10 ≤ length rows₁
       filled-in = omega arith
 
-      pub call-listed : (n : ℕ) → n ≡ refusalsIn (rowsIn rows₁ 0 (r .count)) → CallIs (fieldsInto look s rows) rows₁ (Listed (record { rows = r .count; refusals = n; literals = r .literals; to = r .to }))
-      unfolding fieldsInto fieldsCall fieldsAfter fieldsNumbers
-      call-listed n e =
+      first : take (r .count * 10) rows₁ ≡ tens (rowsOf look s)
+      first =
           let k = p .kept in
-          let w = whole in
-          let m : length (tens (rowsOf look s)) ≤ length rows = omega (arith, tens-length (rowsOf look s), w .0) in
-          let f : rows₁ ≡ tens (rowsOf look s) ++ drop (length (tens (rowsOf look s))) rows = w .1 ∙ over-front rows (tens (rowsOf look s)) m in
-          let g : n ≡ refusalsIn (rowsOf look s) = e ∙ rw (f, w .0) (ap refusalsIn (rows-back [] 0 (rowsOf look s) (drop (length (tens (rowsOf look s))) rows) refl)) in
-          rw (fields-given look s (length rows) long (omega (arith, w .0)))
-          (record { answer = (λ j. 0 ∷ w .0 j ∷ g j ∷ p .literals j ∷ p .to j ∷ []); rows = f })
+          let size : r .count * 10 ≡ length (tens (rowsOf look s)) = omega (arith, tens-length (rowsOf look s), whole .0) in
+          rw (listed, size) (take-append-seam (tens (rowsOf look s)) (drop (length (tens (rowsOf look s))) rows))
+
+      module _ (n : ℕ) (e : n ≡ refusalsIn (rowsIn (take (r .count * 10) rows₁) 0 (length (take (r .count * 10) rows₁) / 10))) where
+        refusals-all : n ≡ refusalsIn (rowsOf look s)
+        refusals-all =
+            let rs = rowsOf look s in
+            let m : length (tens rs) / 10 ≡ length rs = omega (arith, tens-length rs) in
+            e ∙ rw (first, m) (ap (λ x. refusalsIn (rowsIn x 0 (length rs))) (sym (append-nil (tens rs))) ∙ ap refusalsIn (rows-back [] 0 rs [] refl))
+
+        pub refusals-few : n ≤ 1048576
+        refusals-few = omega (arith, refusals-all, refusals-most (rowsOf look s), rows-few look s)
+
+        pub call-listed : CallIs (fieldsInto look s rows) rows₁ (Listed (record { rows = r .count; refusals = n; literals = r .literals; to = r .to }))
+        unfolding fieldsInto fieldsCall fieldsAfter fieldsNumbers
+        call-listed =
+            let k = p .kept in
+            let w = whole in
+            let g = refusals-all in
+            rw (fields-given look s (length rows) long (omega (arith, w .0)))
+            (record { answer = (λ j. 0 ∷ w .0 j ∷ g j ∷ p .literals j ∷ p .to j ∷ []); rows = listed })

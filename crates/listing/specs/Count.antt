@@ -10,7 +10,7 @@ use Rattle.definition_scripts_laws.proofs.cut.PartLaws.{InPart}
 use Rattle.definition_scripts_laws.proofs.listing.SourceLaws.{AllFit}
 use Rattle.definition_scripts_laws.proofs.listing.RowCount.{countRows}
 use Rattle.listing.specs.declared.count.Window.{Window}
-use Rattle.listing.specs.Put.{rowsIn}
+use Rattle.told.specs.Rows.{rowsIn}
 
 -- these rows, and all rows of their sources
 abbrev pub total : (look : Naming) → List ℕ → List ListRow → ℕ

@@ -6,11 +6,11 @@ use crate::rows::read_alone;
 use literals::Literal;
 use literals::Next;
 use literals::next_literal;
-use scans::words;
 use sources::Field;
 use sources::lesser;
-use sources::otherwise;
 use sources::source_end;
+use told::put_otherwise;
+use told::put_unknown;
 ghost use mathlib.Core.Path.{_≡_};
 ghost use mathlib.Core.Bool.{true};
 ghost use Prim.Native.Nat.{_+_, _≤_, _<_};
@@ -21,7 +21,8 @@ ghost use Rattle.definition_scripts.specs.Listing.{unknownRow, readRows, cutRow
 ghost use Rattle.escapes.specs.Answers.{namesBy};
 ghost use Rattle.literals.specs.Answers.{literalOf};
 ghost use Rattle.sources.specs.Source.{signsOf, rowOf, Source};
-ghost use Rattle.listing.specs.Put.{Bounded, rowsIn};
+ghost use Rattle.told.specs.Rows.{rowsIn};
+ghost use Rattle.listing.specs.Put.{Bounded};
 ghost use Rattle.listing.specs.Count.{total, Found, Seen, Block};
 
 // How many rows a literal has in all, and how many are some of them with those of their sources.
@@ -35,10 +36,8 @@ fn own_rows(s: &[u8], f: Field) -> usize
     requires { ⌜ Source (now s) f ⌝ }
     ensures { λ r. ⌜ r ≡ 1 + length (otherwiseRow (now (s .entry)) 0 (rowOf f) (cutPart (now (s .entry)) (f .place) (sourceEnd (signsOf f)))) ⌝ }
 {
-    if otherwise(s, f) < s.len() {
-        return 2;
-    }
-    1
+    let mut none = [0u32; 0];
+    1 + put_otherwise(s, f, 0, &mut none, 0)
 }
 
 // The first rows of a block, with those of their sources.
@@ -98,10 +97,8 @@ fn count_literal(s: &[u8], l: Literal, file: &[u8], index: &[u32]) -> usize
 fn unknown_rows(s: &[u8], l: Literal) -> usize
     ensures { λ r. ⌜ r ≡ length (unknownRow (now (s .entry)) 0 (literalOf l)) ⌝ }
 {
-    if words::may_stand(s, l.start as usize) {
-        return 0;
-    }
-    1
+    let mut none = [0u32; 0];
+    put_unknown(s, l, 0, &mut none, 0)
 }
 
 // The rows of a part of the script, with those of their sources.

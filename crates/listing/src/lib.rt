@@ -7,15 +7,15 @@ use count::count_part;
 use rows::Part;
 use rows::cut_rows;
 use rows::source_rows;
+use told::refusals_in;
 ghost use mathlib.Core.Path.{_≡_};
-ghost use Prim.Native.Nat.{_*_, _≤_};
+ghost use Prim.Native.Nat.{_≤_};
 ghost use lib.ListN.{length};
-ghost use Rattle.definition_scripts.specs.Listing.{refusalsIn, fieldsInto};
+ghost use Rattle.definition_scripts.specs.Listing.{fieldsInto};
 ghost use Rattle.definition.specs.Escapes.{heldNames};
 ghost use Rattle.definition_names.specs.Names.{searched};
 ghost use Rattle.definition_names.specs.NamedReading.{fieldsNamedInto};
 ghost use Rattle.escapes.specs.Answers.{namesBy};
-ghost use Rattle.listing.specs.Put.{rowsIn, refusal};
 ghost use Rattle.listing.specs.Answers.{Filled, CallIs};
 
 // A list: its rows, how many of them are refusals, the literals of the script, and how far it was cut.
@@ -61,31 +61,6 @@ fn fill(script: &[u8], rows: &mut [u32], file: &[u8], index: &[u32]) -> Part
     }
 }
 
-// 1 for the first number of a refusal's row, else 0.
-fn refusal(first: u32) -> usize
-    ensures { λ r. ⌜ (r ≡ refusal first) × (r ≤ 1) ⌝ }
-{
-    if first == 5 {
-        return 1;
-    }
-    0
-}
-
-// How many of so many rows are refusals.
-fn refusals_in(rows: &[u32], count: usize) -> usize
-    requires { ⌜ count * 10 ≤ length (now rows) ⌝ }
-    ensures { λ r. ⌜ (r ≡ refusalsIn (rowsIn (now (rows .entry)) 0 count)) × (r ≤ count) ⌝ }
-{
-    let mut n = 0;
-    let mut i = 0;
-    while i < count {
-        let at = i * 10;
-        n += refusal(rows[at]);
-        i += 1;
-    }
-    n
-}
-
 // Lists every field of a script that is not too long: names are looked up in a lent file by its index, or where that is empty among the held ones.
 fn list_by(script: &[u8], rows: &mut [u32], file: &[u8], index: &[u32]) -> Fields
     requires { ⌜ length (now script) ≤ 1048576 ⌝ }
@@ -97,9 +72,10 @@ fn list_by(script: &[u8], rows: &mut [u32], file: &[u8], index: &[u32]) -> Field
         fill_words(rows, 0);
         return Fields::Short(count_part(script, 0, script.len(), file, index) as u32);
     }
+    let end = count * 10;
     Fields::Listed(List {
         rows: count as u32,
-        refusals: refusals_in(rows, count) as u32,
+        refusals: refusals_in(&rows[..end]) as u32,
         literals: filled.literals,
         to: filled.to,
     })

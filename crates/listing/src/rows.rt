@@ -1,44 +1,28 @@
 // The rows of a literal, of a cut and of a row's source, written behind those before as long as there is room.
-use buffers::Row;
-use buffers::put_row;
 use literals::Literal;
 use literals::Next;
 use literals::next_literal;
-use scans::words;
 use sources::Field;
-use sources::lesser;
-use sources::otherwise;
 use sources::source_end;
 use strings::Outcome;
 use strings::parse_window;
+use told::Told;
+use told::put_otherwise;
+use told::put_refusal;
+use told::put_rows;
+use told::put_unknown;
 ghost use mathlib.Core.Path.{_≡_};
 ghost use mathlib.Core.Bool.{true};
 ghost use Prim.Native.Nat.{_+_, _*_, _≤_, _<_};
 ghost use lib.ListN.{length};
 ghost use Rattle.definition.specs.Numbers.{isFString};
-ghost use Rattle.definition_scripts.specs.Cut.{cutPart};
-ghost use Rattle.definition_scripts.specs.Listing.{unknownRow, readRows, ownRows, tenOf, sourceEnd, otherwiseRow, sourceRows};
-ghost use Rattle.buffers.specs.Over.{over};
+ghost use Rattle.definition_scripts.specs.Listing.{readRows, ownRows, sourceRows};
 ghost use Rattle.escapes.specs.Answers.{namesBy};
 ghost use Rattle.literals.specs.Answers.{literalOf};
-ghost use Rattle.sources.specs.Source.{signsOf, rowOf, Source};
-ghost use Rattle.listing.specs.Put.{refusalRow, AloneIs, rowAt, fieldOf, Puts, PartIs, Lies, Bounded};
+ghost use Rattle.told.specs.Rows.{rowAt, fieldOf};
+ghost use Rattle.listing.specs.Put.{AloneIs, Puts, PartIs, Lies, Bounded};
 
 const REFUSAL: u32 = 5;
-
-const READ_OTHERWISE: u32 = 75;
-
-const UNKNOWN_PREFIX: u32 = 76;
-
-// Why a literal or a field is refused, and where.
-pub(crate) struct Told {
-    pub(crate) start: u32,
-    pub(crate) place: u32,
-    pub(crate) number: u32,
-    pub(crate) a: u32,
-    pub(crate) b: u32,
-    pub(crate) opened: u32,
-}
 
 // What a literal gives that is read alone: so many fields, or its refusal.
 pub(crate) enum Alone {
@@ -90,41 +74,6 @@ pub(crate) fn read_alone(
     }
 }
 
-// Writes a refusal's row at its place.
-fn put_refusal(rows: &mut [u32], count: usize, within: u32, t: Told)
-    ensures { λ _. ⌜ now (rows .exit) ≡ over (now (rows .entry)) (count * 10) (tenOf (refusalRow within t)) ⌝ }
-{
-    let row = Row {
-        reason: REFUSAL,
-        start: t.start,
-        place: t.place,
-        expression: t.number,
-        conversion: t.a,
-        equals: t.b,
-        bang: t.opened,
-        colon: 0,
-        close: 0,
-        within,
-    };
-    put_row(rows, count, row);
-}
-
-// Writes the numbers of rows behind so many rows, as far as there is room.
-fn put_rows(rows: &mut [u32], count: usize, numbers: &[u32])
-    ensures { λ _. ⌜ now (rows .exit) ≡ over (now (rows .entry)) (count * 10) (now (numbers .entry)) ⌝ }
-{
-    if rows.len() / 10 < count {
-        return;
-    }
-    let from = count * 10;
-    let n = lesser(rows.len() - from, numbers.len());
-    let mut i = 0;
-    while i < n {
-        rows[from + i] = numbers[i];
-        i += 1;
-    }
-}
-
 // Writes the rows of an f-string behind so many: its fields, or its one refusal. Says how many there are then. It is read once up to 8 fields, and above them once more.
 fn fstring_rows(
     s: &[u8],
@@ -162,31 +111,6 @@ fn fstring_rows(
     }
 }
 
-// Writes the row of 76 of a literal, if it has one.
-fn unknown_row(s: &[u8], l: Literal, within: u32, rows: &mut [u32], count: usize) -> usize
-    requires { ⌜ count < 4294967296 ⌝ }
-    ensures { λ r. ⌜ Puts (unknownRow (now (s .entry)) within (literalOf l)) (now (rows .entry)) (now (rows .exit)) count r ⌝ }
-{
-    let start = l.start as usize;
-    let word = words::word_start(s, start);
-    if word == start {
-        return count;
-    }
-    if words::may_stand(s, start) {
-        return count;
-    }
-    let told = Told {
-        start: l.start,
-        place: word as u32,
-        number: UNKNOWN_PREFIX,
-        a: 0,
-        b: 0,
-        opened: 0,
-    };
-    put_refusal(rows, count, within, told);
-    count + 1
-}
-
 // Writes the rows of a literal behind so many. Only f-strings are read.
 fn literal_rows(
     s: &[u8],
@@ -200,7 +124,7 @@ fn literal_rows(
     requires { ⌜ count < 4294967295 ⌝ }
     ensures { λ r. ⌜ Puts (ownRows (namesBy (now (file .entry)) (now (index .entry))) (now (s .entry)) within (literalOf l)) (now (rows .entry)) (now (rows .exit)) count r ⌝ }
 {
-    let past = unknown_row(s, l, within, rows, count);
+    let past = count + put_unknown(s, l, within, rows, count);
     if is_fstring(l.kind) {
         return fstring_rows(s, l, within, rows, past, file, index);
     }
@@ -281,27 +205,6 @@ pub(crate) fn field_at(rows: &[u32], i: usize) -> Field
     }
 }
 
-// Writes the row of 75 of a field, if it has one.
-fn otherwise_row(s: &[u8], f: Field, within: u32, rows: &mut [u32], count: usize) -> usize
-    requires { ⌜ Source (now s) f × (count < 4294967296) ⌝ }
-    ensures { λ r. ⌜ Puts (otherwiseRow (now (s .entry)) within (rowOf f) (cutPart (now (s .entry)) (f .place) (sourceEnd (signsOf f)))) (now (rows .entry)) (now (rows .exit)) count r ⌝ }
-{
-    let place = otherwise(s, f);
-    if s.len() <= place {
-        return count;
-    }
-    let told = Told {
-        start: f.start,
-        place: place as u32,
-        number: READ_OTHERWISE,
-        a: 0,
-        b: 0,
-        opened: 0,
-    };
-    put_refusal(rows, count, within, told);
-    count + 1
-}
-
 // Writes the rows of the source of row number i, from 0.
 pub(crate) fn source_rows(
     s: &[u8],
@@ -320,14 +223,14 @@ pub(crate) fn source_rows(
     }
     let f = field_at(rows, i);
     let within = (i + 1) as u32;
-    let told = otherwise_row(s, f, within, rows, count);
+    let behind = count + put_otherwise(s, f, within, rows, count);
     let part = cut_rows(
         s,
         f.place as usize,
         source_end(f),
         within,
         rows,
-        told,
+        behind,
         file,
         index,
     );

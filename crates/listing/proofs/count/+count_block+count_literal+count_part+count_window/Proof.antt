@@ -8,7 +8,7 @@ use Rattle.definition_scripts.specs.Cut.{cutPart}
 use Rattle.definition_scripts.specs.Listing.{readRows, cutRows}
 use Rattle.literals.specs.Answers.{literalOf}
 use Rattle.escapes.specs.Answers.{namesBy}
-use Rattle.listing.specs.Put.{rowsIn}
+use Rattle.told.specs.Rows.{rowsIn}
 use Rattle.listing.specs.Count.{total}
 use Rattle.listing.proofs.Cutting.{short-part}
 use Rattle.listing.proofs.Counting.{Counting, counting-start, counting-over, counting-breaks, counting-most, counting-found, counting-less, counting-next, literal-most, not-counted, Windows, windows-start, windows-few, windows-most, windows-done, windows-next, window-refused, window-among, window-block, window-less, window-seen, Blocks, blocks-start, blocks-done, in-block, block-source, block-bounded, block-less, block-most, blocks-next}

@@ -2,7 +2,8 @@
 use borrow.Author.Needs.{needs}
 use native.Mathlib.Omega.{arith}
 use Rattle.escapes.specs.Answers.{namesBy}
-use Rattle.listing.proofs.Filling.{source-told, source-lies, source-bounded, source-puts}
+use Rattle.told.proofs.Rows.{otherwise-most}
+use Rattle.listing.proofs.Filling.{source-told, source-bounded, source-puts}
 use Rattle.listing.proofs.rows.source_rows.Statement.{statement}
 use Rattle.listing.proofs.rows.source_rows.Tie as tie
 
@@ -17,9 +18,10 @@ source-rows-spec =
     (λ c κs. (c .before .before .before .before .before .before .before .pre .placed))  -- field-at-requires
     (λ c. let p = (c .before .before .before .before .before .before .before .before .pre .few) in search needs)  -- add-within
     (λ c. let p = (c .before .before .before .before .before .before .before .before .pre .few) in search needs)  -- cast-within
-    (λ c κs. (rw (c .before .field-at .ensures) (source-lies (namesBy (c .before .before .before .before .before .before .before .before .before .args .file .now) (c .before .before .before .before .before .before .before .before .before .args .index .now)) _ _ _ (c .before .before .before .if1 .left) ((c .before .before .before .before .before .before .before .before .before .pre) .fits) ((c .before .before .before .before .before .before .before .before .before .pre) .not-long)), omega (arith, (c .before .before .before .before .before .before .before .before .before .pre .few))))  -- otherwise-row-requires
+    (λ c κs. search needs)  -- put-otherwise-requires
+    (λ c. let p = (c .before .before .before .before .before .before .before .before .before .before .before .before .pre .few) in let m = otherwise-most _ _ _ _ _ _ _ (c .before .before .put-otherwise .ensures) in omega arith)  -- add-behind
     (λ c. search needs)  -- cast-cut-rows
     (λ c κs. search needs)  -- source-end-requires
-    (λ c κs. rw ((c .before .source-end .ensures), (c .before .before .before .before .before .before .before .field-at .ensures)) (source-bounded (namesBy (c .before .before .before .before .before .before .before .before .before .before .before .before .before .before .before .args .file .now) (c .before .before .before .before .before .before .before .before .before .before .before .before .before .before .before .args .index .now)) _ _ _ (c .before .before .before .before .before .before .before .before .before .if1 .left) _ (c .before .before .before .before .before .before .before .before .before .before .before .before .before .before .before .pre) _ _ (rw (c .before .before .before .before .before .before .before .field-at .ensures) at (c .before .before .before .before .before .otherwise-row .ensures))))  -- cut-rows-requires
+    (λ c κs. rw ((c .before .source-end .ensures), (c .before .before .before .before .before .before .before .field-at .ensures)) (source-bounded (namesBy (c .before .before .before .before .before .before .before .before .before .before .before .before .before .before .before .args .file .now) (c .before .before .before .before .before .before .before .before .before .before .before .before .before .before .before .args .index .now)) _ _ _ (c .before .before .before .before .before .before .before .before .before .if1 .left) _ (c .before .before .before .before .before .before .before .before .before .before .before .before .before .before .before .pre) _ _ (rw (c .before .before .before .before .before .before .before .field-at .ensures) at (c .before .before .before .before .before .put-otherwise .ensures))))  -- cut-rows-requires
     (λ c. search needs)  -- same-length
-    (λ c. source-puts _ _ _ _ (c .before .before .before .before .before .before .before .before .before .before .before .before .if1 .left) _ (c .before .before .before .before .before .before .before .before .before .before .before .before .before .before .before .before .before .before .pre) _ _ (rw (c .before .before .before .before .before .before .before .before .before .before .field-at .ensures) at (c .before .before .before .before .before .before .before .before .otherwise-row .ensures)) _ _ (rw ((c .before .before .before .before .source-end .ensures), (c .before .before .before .before .before .before .before .before .before .before .field-at .ensures)) at (c .before .before .cut-rows .ensures))))  -- returns-2
+    (λ c. source-puts _ _ _ _ (c .before .before .before .before .before .before .before .before .before .before .before .before .if1 .left) _ (c .before .before .before .before .before .before .before .before .before .before .before .before .before .before .before .before .before .before .pre) _ _ (rw (c .before .before .before .before .before .before .before .before .before .before .field-at .ensures) at (c .before .before .before .before .before .before .before .before .put-otherwise .ensures)) _ _ (rw ((c .before .before .before .before .source-end .ensures), (c .before .before .before .before .before .before .before .before .before .before .field-at .ensures)) at (c .before .before .cut-rows .ensures))))  -- returns-2

@@ -1,4 +1,4 @@
--- `listing::rows::put_rows` meets its contract. Assumes nothing.
+-- `told::put_rows` meets its contract. Assumes nothing.
 use borrow.Author.Needs.{needs}
 use native.Mathlib.Omega.{arith}
 use mathlib.Core.Path.{_≡_, _∙_, sym}
@@ -6,9 +6,9 @@ use Prim.Native.Nat.{_+_, _≤_, _-_, _*_}
 use lib.ListN.{length, take}
 use Rattle.buffers.specs.Over.{over}
 use Rattle.buffers.proofs.Over.{over-nil, over-out, over-take, over-more}
-use Rattle.listing.proofs.Written.{least-min}
-use Rattle.listing.proofs.rows.put_rows.Statement.{statement}
-use Rattle.listing.proofs.rows.put_rows.Tie as tie
+use Rattle.told.proofs.Rows.{least-min}
+use Rattle.told.proofs.put_rows.Statement.{statement}
+use Rattle.told.proofs.put_rows.Tie as tie
 
 abbrev Inv-loop : tie.InvT-loop
 Inv-loop rows₀ count numbers from n i₀ rows i = (i ≤ n) × (n ≤ length numbers) × (count * 10 + n ≤ length rows₀) × (length rows ≡ length rows₀) × (rows ≡ over rows₀ (count * 10) (take i numbers))

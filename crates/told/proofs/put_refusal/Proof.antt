@@ -1,8 +1,8 @@
--- `listing::rows::put_refusal` meets its contract. Assumes nothing.
+-- `told::put_refusal` meets its contract. Assumes nothing.
 use borrow.Author.Needs.{needs}
 use Rattle.definition_scripts.specs.Listing.{tenOf}
-use Rattle.listing.proofs.rows.put_refusal.Statement.{statement}
-use Rattle.listing.proofs.rows.put_refusal.Tie as tie
+use Rattle.told.proofs.put_refusal.Statement.{statement}
+use Rattle.told.proofs.put_refusal.Tie as tie
 
 pub put-refusal-spec : {M : Type 1} → statement M
 unfolding tenOf

@@ -1,8 +1,8 @@
--- `listing::refusal` meets its contract. Assumes nothing.
+-- `told::refusal` meets its contract. Assumes nothing.
 use native.Mathlib.Omega.{arith}
 use borrow.Author.Tests.{eq-eqb, ne-eqb}
-use Rattle.listing.proofs.refusal.Statement.{statement}
-use Rattle.listing.proofs.refusal.Tie as tie
+use Rattle.told.proofs.refusal.Statement.{statement}
+use Rattle.told.proofs.refusal.Tie as tie
 
 pub refusal-spec : {M : Type 1} → statement M
 refusal-spec =
