@@ -340,7 +340,7 @@ pub fn read_all(
 ) -> Reading
     ensures { λ r. ⌜ ReadingIs (namesBy (now (file .entry)) (now (index .entry))) within skip (now (script .entry)) (now (numbers .entry)) (now (words .entry)) (now (text .entry)) (now (rows .entry)) (now (words .exit)) (now (text .exit)) (now (rows .exit)) r ⌝ }
 {
-    match entry::check(script, numbers) {
+    match checks::check(script, numbers) {
         Checked::Refused(r) => refuse(words, text, rows, r),
         Checked::Passed(chars) => {
             let count = (numbers.len() / 6) as u32;
@@ -445,7 +445,7 @@ pub fn read_one(script: &[u8], l: Descriptor, words: &mut [u32], text: &mut [u8]
 {
     let none = [0u32; 0];
     let mut rows = [0u32; 0];
-    match entry::check_one(script, l) {
+    match checks::check_one(script, l) {
         Checked::Refused(r) => refuse(words, text, &mut rows, r),
         Checked::Passed(chars) => {
             let whole = Whole {

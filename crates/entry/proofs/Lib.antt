@@ -2,4 +2,3 @@ pub mod Literals
 pub mod Checks
 pub mod Passed
 pub mod One
-pub mod OnePass

@@ -181,7 +181,7 @@ pub fn parse_named(
 ) -> Outcome
     ensures { λ r. ⌜ CallIs (namedNumbers (now (file .entry)) (now (index .entry)) (now (script .entry)) (now (numbers .entry)) (now (words .entry)) (now (text .entry))) (now (words .exit)) (now (text .exit)) r ⌝ }
 {
-    match entry::check(script, numbers) {
+    match checks::check(script, numbers) {
         Checked::Refused(r) => refuse(words, text, r),
         Checked::Passed(_) => match names::check(file, index) {
             names::Answer::Refused(number) => refuse(words, text, of_names(number)),
