@@ -7,12 +7,12 @@ use Prim.Native.Nat.{ℕ, suc, _+_, _≤_, _<_}
 use native.Mathlib.Omega.{arith}
 use borrow.Author.Tests.{lt-ltb, le-ltb, lt-leb, eq-eqb, ne-eqb, ltb-true, ltb-false, leb-true, leb-false, eqb-true, eqb-false}
 use lib.Dec.{ltb, leb, eqb}
-use lib.ListN.{length, List·getD-eq-default}
+use lib.ListN.{length, getD, List·getD-eq-default}
 use Rattle.definition.specs.Chars.{if_then_else_, byte, width, code, next, _to_, inside}
 use Rattle.definition.specs.Body.{textCase, textMove}
 use Rattle.definition_cuts.specs.Tokens.{moveEnd, staying, tokenEnd, withFirst}
 use Rattle.definition_cuts_laws.specs.Standing.{octalAt}
-use Rattle.definition.proofs.moves.CharLaws.{cases, no, inside-not, next-past, code-is, first-fails, first-passes}
+use Rattle.definition.proofs.moves.CharLaws.{cases, no, byte-is, inside-not, next-past, code-is, first-fails, first-passes}
 use Rattle.definition_cuts_laws.proofs.tokens.FormedPaths.{Formed, done, char-on, Head, formed-later, formed-front, formed-next, formed-head, formed-at, next-wide}
 use Rattle.marks.specs.Marks.{special}
 use Rattle.plain.specs.Plain.{plainEnd, AllPlain}
@@ -26,6 +26,10 @@ pub record Run (s : List ℕ) (i e : ℕ) : Type 0 where
   pub bytes : AllPlain 1 s i e
   pub within : e ≤ length s
   pub ends : Head s e
+
+-- what is told of the byte at an index
+pub tail-at : (s : List ℕ) (i : ℕ) {r t : Bool} → i < length s → r ≡ inside (0x80 to 0xBF) (getD s i 0) → r ≡ t → inside (0x80 to 0xBF) (byte s i) ≡ t
+tail-at s i h e q = ap (inside (0x80 to 0xBF)) (sym (byte-is s i h)) ∙ sym e ∙ q
 
 module _ (s : List ℕ) where
   pub no-run : (i : ℕ) → i ≤ length s → Head s i → Run s i i

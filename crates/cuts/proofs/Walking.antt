@@ -33,35 +33,6 @@ both : (a b : Bool) → (a && b) ≡ true → (a ≡ true) × (b ≡ true)
 both true b e = (refl, e)
 both false b e = let z : _≡_ {A = ℕ} 0 1 = cc in absurd (omega arith)
 
--- OFFSETS THAT RISE, up to number k
-pub record Rising (n : ℕ) (cuts : List ℕ) (from k : ℕ) : Type 0 where
-  pub is : rise n 0 cuts ≡ rise n from (drop k cuts)
-  pub few : k ≤ length cuts
-
-pub rising : (n : ℕ) (cuts : List ℕ) → Rising n cuts 0 0
-rising n cuts = record { is = refl; few = zero-le }
-
-module _ (n : ℕ) (cuts : List ℕ) (from k : ℕ) (g : Rising n cuts from k) where
-  pub risen : length cuts ≤ k → true ≡ rise n 0 cuts
-  unfolding rise
-  risen h = sym (g .is ∙ rw (drop-of-length-le cuts h) refl)
-
-  module _ (h : k < length cuts) where
-    pub not-after : getD cuts k 0 ≤ from → false ≡ rise n 0 cuts
-    unfolding rise
-    not-after l = sym (g .is ∙ rw (drop-cons cuts k 0 h, le-ltb from (getD cuts k 0) l, rise) refl)
-
-    pub not-inside : from < getD cuts k 0 → n ≤ getD cuts k 0 → false ≡ rise n 0 cuts
-    unfolding rise
-    not-inside a l = sym (g .is ∙ rw (drop-cons cuts k 0 h, lt-ltb from (getD cuts k 0) a, le-ltb (getD cuts k 0) n l, rise) refl)
-
-    pub rise-on : from < getD cuts k 0 → getD cuts k 0 < n → Rising n cuts (getD cuts k 0) (k + 1)
-    unfolding rise
-    rise-on a b = record {
-      is = g .is ∙ rw (drop-cons cuts k 0 h, lt-ltb from (getD cuts k 0) a, lt-ltb (getD cuts k 0) n b, rise) (ap (λ m. rise n (getD cuts k 0) (drop m cuts)) (sym (add-one k)));
-      few = omega arith;
-    }
-
 -- PIECES, of which something is asked: up to cut number k it holds
 pub record Walk (F : List (List ℕ) → Bool) (s cuts : List ℕ) (from k : ℕ) : Type 0 where
   pub is : F (pieces s 0 cuts) ≡ F (pieces s from (drop k cuts))

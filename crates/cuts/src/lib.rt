@@ -1,6 +1,9 @@
 // Long templates broken over lines: the check of cut offsets in a body of kind 1, and the planner.
 use buffers::fill_words;
 use buffers::put_word;
+use offsets::is_tail;
+use offsets::rises;
+use offsets::wide;
 use plain::is_plain_at;
 use plain::plain_end;
 use tokens::Token;
@@ -10,7 +13,7 @@ ghost use mathlib.Core.Bool.{true, false};
 ghost use Prim.Native.Nat.{_≤_, _<_};
 ghost use lib.Dec.{leb};
 ghost use lib.ListN.{length, drop};
-ghost use Rattle.definition.specs.Chars.{byte, _to_, inside, wellFormed};
+ghost use Rattle.definition.specs.Chars.{wellFormed};
 ghost use Rattle.definition.specs.Escapes.{heldNames};
 ghost use Rattle.definition.specs.Reading.{readAlone};
 ghost use Rattle.definition_cuts.specs.Cuts.{rise, pieces, allShort, allRead, isRead, checked};
@@ -38,18 +41,6 @@ enum Made {
     Nothing,
 }
 
-// Whether the byte at an index is one of 80 to BF, with which no character begins.
-fn is_tail(s: &[u8], at: usize) -> bool
-    requires { ⌜ at < length (now s) ⌝ }
-    ensures { λ r. ⌜ r ≡ inside (0x80 to 0xBF) (byte (now (s .entry)) at) ⌝ }
-{
-    let b = s[at];
-    if b < 0x80 {
-        return false;
-    }
-    b <= 0xBF
-}
-
 // The last index no later than one, and no earlier than another, where a character begins; else that other.
 fn start_at(s: &[u8], from: usize, at: usize) -> usize
     requires { ⌜ (from ≤ at) × (at < length (now s)) ⌝ }
@@ -57,7 +48,8 @@ fn start_at(s: &[u8], from: usize, at: usize) -> usize
 {
     let mut i = at;
     while from < i {
-        if is_tail(s, i) {
+        let b = s[i];
+        if is_tail(b) {
             i -= 1;
             continue;
         }
@@ -146,12 +138,6 @@ fn octal_at(s: &[u8], at: usize) -> bool
     false
 }
 
-fn wide(x: u32) -> usize
-    ensures { λ r. ⌜ r ≡ x ⌝ }
-{
-    x as usize
-}
-
 // The cut after those of a token, and whether one stood among octal digits; or one stands within the token.
 enum Passing {
     At(usize, bool),
@@ -214,7 +200,8 @@ fn check_cuts(s: &[u8], cuts: &[u32]) -> Verdict
             if c < i {
                 return Verdict::Refused;
             }
-            if is_tail(s, c) {
+            let b = s[c];
+            if is_tail(b) {
                 return Verdict::Refused;
             }
             i = c;
@@ -250,26 +237,6 @@ fn check_cuts(s: &[u8], cuts: &[u32]) -> Verdict
         }
     }
     Verdict::Passed(differs)
-}
-
-// Whether the offsets rise strictly inside a body.
-fn rises(s: &[u8], cuts: &[u32]) -> bool
-    ensures { λ r. ⌜ r ≡ rise (length (now (s .entry))) 0 (now (cuts .entry)) ⌝ }
-{
-    let mut from = 0;
-    let mut k = 0;
-    while k < cuts.len() {
-        let c = wide(cuts[k]);
-        if c <= from {
-            return false;
-        }
-        if s.len() <= c {
-            return false;
-        }
-        from = c;
-        k += 1;
-    }
-    true
 }
 
 // Whether each piece has at most so many bytes.

@@ -1,11 +1,10 @@
 -- `cuts::check_cuts` meets its contract. Assumes nothing.
 use borrow.Author.Needs.{needs}
 use native.Mathlib.Omega.{arith}
-use mathlib.Core.Path.{sym, _∙_}
 use Prim.Native.Nat.{_+_, _-_, _*_}
 use lib.ListN.{length}
 use Rattle.cuts.proofs.Lessening.{token-less, cut-less, found-less}
-use Rattle.cuts.proofs.PlainRuns.{found-later}
+use Rattle.cuts.proofs.PlainRuns.{found-later, tail-at}
 use Rattle.cuts.proofs.Checking.{Checking, checking, check-done, run-starts, none-left, next-behind, next-before, next-in-run, next-within, token-refused, cut-inside, next-token}
 use Rattle.cuts.proofs.check_cuts.Statement.{statement}
 use Rattle.cuts.proofs.check_cuts.Tie as tie
@@ -32,11 +31,12 @@ check-cuts-spec =
     (λ c. token-less _ _ _ _ _ _ _ (c .before .before .before .before .if1 .taken) (c .before .before .before .before .before .before .loop .inv .run .within) (omega arith))  -- loop-less-2
     (λ c. next-behind _ _ _ _ _ _ (c .before .before .before .before .before .before .loop .inv) (c .before .before .before .before .if1 .taken) (c .before .before .before .if2 .left) _ (c .before .wide .ensures) (c .if3 .taken))  -- loop-again-2
     (λ c. next-before _ _ _ _ _ _ (c .before .before .before .before .before .before .before .loop .inv) (c .before .before .before .before .before .if1 .taken) (c .before .before .before .before .if2 .left) _ (c .before .before .wide .ensures) (c .if4 .taken))  -- returns
-    (λ c κs. let w = c .before .before .before .before .before .before .before .loop .inv .run .within in search needs)  -- is-tail-requires
-    (λ c. next-within _ _ _ _ _ _ (c .before .before .before .before .before .before .before .before .before .loop .inv) (c .before .before .before .before .before .before .before .if1 .taken) (c .before .before .before .before .before .before .if2 .left) _ (c .before .before .before .before .wide .ensures) (c .before .before .if4 .left) (c .before .before .before .if3 .left) (sym (c .before .is-tail .ensures) ∙ c .if5 .taken))  -- returns-2
+    (λ c. let w = c .before .before .before .before .before .before .before .before .loop .inv .run .within in search needs)  -- shared-slice-read-b
+    (λ c κs. search needs)  -- is-tail-requires
+    (λ c. next-within _ _ _ _ _ _ (c .before .before .before .before .before .before .before .before .before .before .loop .inv) (c .before .before .before .before .before .before .before .before .if1 .taken) (c .before .before .before .before .before .before .before .if2 .left) _ (c .before .before .before .before .before .wide .ensures) (c .before .before .before .if4 .left) (c .before .before .before .before .if3 .left) (tail-at (c .before .before .before .before .before .before .before .before .before .before .before .before .before .args .s .now) (c .before .before .before .before .before .wide .result) (let w = c .before .before .before .before .before .before .before .before .before .before .loop .inv .run .within in search needs) (c .before .is-tail .ensures) (c .if5 .taken)))  -- returns-2
     (λ c. search needs)  -- add-k
-    (λ c. cut-less _ _ _ _ _ _ _ (c .before .before .if4 .left) (omega arith) (c .before .before .before .before .before .before .if2 .left))  -- loop-less-3
-    (λ c. next-in-run _ _ _ _ _ _ (c .before .before .before .before .before .before .before .before .before .loop .inv) (c .before .before .before .before .before .before .before .if1 .taken) (c .before .before .before .before .before .before .if2 .left) _ (c .before .before .before .before .wide .ensures) (c .before .before .if4 .left) (c .before .before .before .if3 .left) (sym (c .before .is-tail .ensures) ∙ c .if5 .left))  -- loop-again-3
+    (λ c. cut-less _ _ _ _ _ _ _ (c .before .before .before .if4 .left) (omega arith) (c .before .before .before .before .before .before .before .if2 .left))  -- loop-less-3
+    (λ c. next-in-run _ _ _ _ _ _ (c .before .before .before .before .before .before .before .before .before .before .loop .inv) (c .before .before .before .before .before .before .before .before .if1 .taken) (c .before .before .before .before .before .before .before .if2 .left) _ (c .before .before .before .before .before .wide .ensures) (c .before .before .before .if4 .left) (c .before .before .before .before .if3 .left) (tail-at (c .before .before .before .before .before .before .before .before .before .before .before .before .before .args .s .now) (c .before .before .before .before .before .wide .result) (let w = c .before .before .before .before .before .before .before .before .before .before .loop .inv .run .within in search needs) (c .before .is-tail .ensures) (c .if5 .left)))  -- loop-again-3
     (λ c κs. search needs)  -- is-plain-at-requires
     (λ c κs. search needs)  -- plain-end-requires
     (λ c. found-less _ _ _ _ _ _ (c .before .before .before .if1 .left) (found-later _ _ _ (c .before .before .is-plain-at .ensures) (c .before .if6 .taken) _ (c .plain-end .ensures)))  -- loop-less-4

@@ -2,7 +2,7 @@
 use borrow.Author.Needs.{needs}
 use borrow.Author.Tests.{eqb-true, eqb-false}
 use native.Mathlib.Omega.{arith}
-use mathlib.Core.Path.{_≡_, sym, _∙_}
+use mathlib.Core.Path.{_≡_}
 use mathlib.Core.Bool.{true}
 use mathlib.Core.List.{List}
 use Prim.Native.Nat.{ℕ, _-_, _≤_, _<_}
@@ -10,6 +10,7 @@ use lib.Dec.{eqb}
 use Rattle.definition.specs.Chars.{byte, _to_, inside}
 use Rattle.definition.proofs.moves.CharLaws.{cases}
 use Rattle.cuts.specs.Answers.{Tails}
+use Rattle.cuts.proofs.PlainRuns.{tail-at}
 use Rattle.cuts.proofs.start_at.Statement.{statement}
 use Rattle.cuts.proofs.start_at.Tie as tie
 
@@ -30,9 +31,10 @@ start-at-spec =
     Inv-loop
     μ-loop
     (λ c. (c .before .pre .0, omega arith, λ k a b. absurd (omega arith)))  -- loop-holds
+    (λ c. search needs)  -- shared-slice-read-b
     (λ c κs. search needs)  -- is-tail-requires
     (λ c. search needs)  -- sub-i
     (λ c. search needs)  -- loop-less
-    (λ c. let a = c .before .before .before .before .before .args in let l = c .before .before .before .loop in (search needs, search needs, one-more (a .s .now) (l .i) (a .at) (l .inv .2) (sym (c .before .is-tail .ensures) ∙ c .if1 .taken)))  -- loop-again
-    (λ c. let l = c .before .before .before .loop in record { on = l .inv .0; within = l .inv .1; tails = l .inv .2; first = λ h. sym (c .before .is-tail .ensures) ∙ c .if1 .left })  -- returns
+    (λ c. let a = c .before .before .before .before .before .before .args in let l = c .before .before .before .before .loop in (search needs, search needs, one-more (a .s .now) (l .i) (a .at) (l .inv .2) (tail-at (a .s .now) (l .i) (omega (arith, l .inv .1, c .before .before .before .before .before .before .pre .1)) (c .before .is-tail .ensures) (c .if1 .taken))))  -- loop-again
+    (λ c. let a = c .before .before .before .before .before .before .args in let l = c .before .before .before .before .loop in record { on = l .inv .0; within = l .inv .1; tails = l .inv .2; first = λ h. tail-at (a .s .now) (l .i) (omega (arith, l .inv .1, c .before .before .before .before .before .before .pre .1)) (c .before .is-tail .ensures) (c .if1 .left) })  -- returns
     (λ c. let l = c .before .loop in record { on = l .inv .0; within = l .inv .1; tails = l .inv .2; first = λ h. absurd (omega (arith, c .loop-test .left)) }))  -- returns-2
