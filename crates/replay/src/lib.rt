@@ -1,6 +1,7 @@
 // A recorded trace replayed through a template: for each row the line that Python would write, then byte 10.
 use strings::Outcome;
 use strings::parse_strings;
+use traces::number_of;
 ghost use mathlib.Core.Path.{_≡_};
 ghost use mathlib.Core.Bool.{true, _||_};
 ghost use mathlib.Core.List.{List, []};
@@ -555,16 +556,6 @@ fn write_rows(
     let mut held = [0u32; 512];
     let steps = hold_steps(&mut held, words, count, text);
     write_lines(out, &held, steps, words, count, text, trace, fields)
-}
-
-// A number as it is told: at most 4,294,967,295.
-fn number_of(n: usize) -> u32
-    ensures { λ r. ⌜ r ≡ min n 0xFFFFFFFF ⌝ }
-{
-    if MOST_BYTES <= n {
-        return 0xFFFFFFFF;
-    }
-    n as u32
 }
 
 // Writes zeros throughout.

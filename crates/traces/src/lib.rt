@@ -1,7 +1,7 @@
-// A trace by RFC 4180: rows of columns that are decimal integers.
+// A trace by RFC 4180: rows of columns that are decimal integers. Numbers as they are told of it.
 ghost use mathlib.Core.Path.{_≡_};
 ghost use mathlib.Core.Bool.{_&&_, not};
-ghost use Prim.Native.Nat.{_+_, _-_, _<_, _≤_};
+ghost use Prim.Native.Nat.{_+_, _-_, _<_, _≤_, min};
 ghost use lib.Dec.{eqb};
 ghost use lib.ListN.{length, drop};
 ghost use Rattle.definition_replay.specs.Spec.{first, past};
@@ -29,6 +29,8 @@ const ROW_MALFORMED: u32 = 70;
 const WRONG_COLUMNS: u32 = 71;
 
 const OUT_OF_RANGE: u32 = 72;
+
+const MOST: usize = 0xFFFFFFFF;
 
 // What stands behind a column.
 fn behind(s: &[u8], at: usize) -> Mark
@@ -304,4 +306,14 @@ pub fn check_row(s: &[u8], at: usize, fields: usize) -> u32
         i = column.next;
     }
     ROW_MALFORMED
+}
+
+// A number as it is told: at most 4,294,967,295.
+pub fn number_of(n: usize) -> u32
+    ensures { λ r. ⌜ r ≡ min n 0xFFFFFFFF ⌝ }
+{
+    if MOST <= n {
+        return 0xFFFFFFFF;
+    }
+    n as u32
 }

@@ -1,8 +1,8 @@
--- `replay::number_of` meets its contract. Assumes nothing.
+-- `traces::number_of` meets its contract. Assumes nothing.
 use borrow.Author.Needs.{needs}
 use native.Mathlib.Omega.{arith}
-use Rattle.replay.proofs.number_of.Statement.{statement}
-use Rattle.replay.proofs.number_of.Tie as tie
+use Rattle.traces.proofs.number_of.Statement.{statement}
+use Rattle.traces.proofs.number_of.Tie as tie
 
 pub number-of-spec : {M : Type 1} → statement M
 number-of-spec =
