@@ -55,18 +55,18 @@ module _ (look : Naming) (s rows : List ℕ) (i : ℕ) where
     unfolding rowAt sourceRows otherwiseRow otherwise
     source-field n = rw (ne-eqb (getD rows (i * 10) 0) 5 e)
 
-    module _ (count : ℕ) (p : Lies s rows i count) (rows₁ : List ℕ) (n : ℕ) (a : Wrote (toldOtherwise s (i + 1) f) rows rows₁ count n) where
-      otherwise-puts : Puts (otherwiseRow s (i + 1) (rowOf f) c) rows rows₁ count (count + n)
-      otherwise-puts = rw (← otherwise-told s (i + 1) f (source-lies (p .fits) (p .not-long))) (puts-wrote (toldOtherwise s (i + 1) f) rows rows₁ count n a)
-
+    module _ (count : ℕ) (p : Lies s rows i count) (rows₁ : List ℕ) (w n : ℕ) (a : Wrote (toldOtherwise s w f) rows rows₁ count n) where
       pub source-bounded : Bounded s (f .place) (sourceEnd (signsOf f)) (count + n)
       source-bounded =
           let z = source-lies (p .fits) (p .not-long) in
           let k = p .few .1 in
-          record { ahead = z .ahead; within = z .within; not-long = p .not-long; few = omega (arith, otherwise-most s (i + 1) f rows rows₁ count n a) }
+          record { ahead = z .ahead; within = z .within; not-long = p .not-long; few = omega (arith, otherwise-most s w f rows rows₁ count n a) }
 
-      pub source-puts : (rows₂ : List ℕ) (r : Part) → PartIs look s (f .place) (sourceEnd (signsOf f)) (i + 1) rows₁ rows₂ (count + n) r → Puts (sourceRows look s (i + 1) (rowAt rows i)) rows rows₂ count (r .count)
-      source-puts rows₂ r b = rw (source-field (i + 1)) (puts-append _ _ rows rows₁ rows₂ count (count + n) (r .count) otherwise-puts (b .puts))
+      otherwise-puts : Puts (otherwiseRow s w (rowOf f) c) rows rows₁ count (count + n)
+      otherwise-puts = rw (← otherwise-told s w f (source-lies (p .fits) (p .not-long))) (puts-wrote (toldOtherwise s w f) rows rows₁ count n a)
+
+      pub source-puts : (rows₂ : List ℕ) (r : Part) → PartIs look s (f .place) (sourceEnd (signsOf f)) w rows₁ rows₂ (count + n) r → w ≡ i + 1 → Puts (sourceRows look s (i + 1) (rowAt rows i)) rows rows₂ count (r .count)
+      source-puts rows₂ r b g = rw (← g, source-field w) (puts-append _ _ rows rows₁ rows₂ count (count + n) (r .count) otherwise-puts (b .puts))
 
 -- buffers of one length have the same room
 pub same-room : (look : Naming) → (s rows b rows₁ : List ℕ) (count : ℕ) (r : Part) → PartIs look s 0 (length s) 0 b rows₁ 0 r → PartIs look s 0 (length s) 0 rows rows₁ 0 r → count ≤ length rows / 10 → count ≤ length b / 10

@@ -22,6 +22,6 @@ source-rows-spec =
     (λ c. let p = (c .before .before .before .before .before .before .before .before .before .before .before .before .pre .few) in let m = otherwise-most _ _ _ _ _ _ _ (c .before .before .put-otherwise .ensures) in omega arith)  -- add-behind
     (λ c. search needs)  -- cast-cut-rows
     (λ c κs. search needs)  -- source-end-requires
-    (λ c κs. rw ((c .before .source-end .ensures), (c .before .before .before .before .before .before .before .field-at .ensures)) (source-bounded (namesBy (c .before .before .before .before .before .before .before .before .before .before .before .before .before .before .before .args .file .now) (c .before .before .before .before .before .before .before .before .before .before .before .before .before .before .before .args .index .now)) _ _ _ (c .before .before .before .before .before .before .before .before .before .if1 .left) _ (c .before .before .before .before .before .before .before .before .before .before .before .before .before .before .before .pre) _ _ (rw (c .before .before .before .before .before .before .before .field-at .ensures) at (c .before .before .before .before .before .put-otherwise .ensures))))  -- cut-rows-requires
+    (λ c κs. rw ((c .before .source-end .ensures), (c .before .before .before .before .before .before .before .field-at .ensures)) (source-bounded (namesBy (c .before .before .before .before .before .before .before .before .before .before .before .before .before .before .before .args .file .now) (c .before .before .before .before .before .before .before .before .before .before .before .before .before .before .before .args .index .now)) _ _ _ (c .before .before .before .before .before .before .before .before .before .if1 .left) _ (c .before .before .before .before .before .before .before .before .before .before .before .before .before .before .before .pre) _ _ _ (rw (c .before .before .before .before .before .before .before .field-at .ensures) at (c .before .before .before .before .before .put-otherwise .ensures))))  -- cut-rows-requires
     (λ c. search needs)  -- same-length
-    (λ c. source-puts _ _ _ _ (c .before .before .before .before .before .before .before .before .before .before .before .before .if1 .left) _ (c .before .before .before .before .before .before .before .before .before .before .before .before .before .before .before .before .before .before .pre) _ _ (rw (c .before .before .before .before .before .before .before .before .before .before .field-at .ensures) at (c .before .before .before .before .before .before .before .before .put-otherwise .ensures)) _ _ (rw ((c .before .before .before .before .source-end .ensures), (c .before .before .before .before .before .before .before .before .before .before .field-at .ensures)) at (c .before .before .cut-rows .ensures))))  -- returns-2
+    (λ c. source-puts _ _ _ _ (c .before .before .before .before .before .before .before .before .before .before .before .before .if1 .left) _ (c .before .before .before .before .before .before .before .before .before .before .before .before .before .before .before .before .before .before .pre) _ _ _ (rw (c .before .before .before .before .before .before .before .before .before .before .field-at .ensures) at (c .before .before .before .before .before .before .before .before .put-otherwise .ensures)) _ _ (rw ((c .before .before .before .before .source-end .ensures), (c .before .before .before .before .before .before .before .before .before .before .field-at .ensures)) at (c .before .before .cut-rows .ensures)) (omega arith)))  -- returns-2
