@@ -1,5 +1,4 @@
 pub mod Digits
-pub mod Names
 pub mod Letters
 pub mod One
 pub mod Lent

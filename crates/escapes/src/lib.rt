@@ -3,10 +3,9 @@ use utf8::Cursor;
 use utf8::Step;
 ghost use mathlib.Core.Path.{_≡_};
 ghost use Prim.Native.Nat.{_<_, _≤_};
-ghost use Rattle.definition.specs.Chars.{same};
 ghost use Rattle.definition.specs.Numbers.{isBytes};
-ghost use Rattle.definition.specs.Escapes.{fault, refused, octalDigit, octalFrom, scalar, hexFrom, held, lookup, unicodeName, escape};
-ghost use Rattle.escapes.specs.Answers.{says, heldName, namesBy};
+ghost use Rattle.definition.specs.Escapes.{fault, refused, octalDigit, octalFrom, scalar, hexFrom, unicodeName, escape};
+ghost use Rattle.escapes.specs.Answers.{says, namesBy};
 
 // A refusal's number, and the bytes taken at its place.
 pub struct Refusal {
@@ -33,47 +32,6 @@ const NAME_NOT_HELD: u32 = 13;
 
 // What stands where there is no code.
 const NO_CODE: u32 = 0x110000;
-
-// The held names, one after the other; where each begins, and the end; and their codes.
-const NAMES: [u8; 232] =
-    *b"DEGREE SIGNPLUS-MINUS SIGNSUPERSCRIPT TWOMICRO SIGNMULTIPLICATION SIGNDIVISION SIGN\
-    GREEK CAPITAL LETTER DELTAGREEK CAPITAL LETTER OMEGAGREEK SMALL LETTER MUOHM SIGNINFINITY\
-    ALMOST EQUAL TOLESS-THAN OR EQUAL TOGREATER-THAN OR EQUAL TO";
-
-const STARTS: [u8; 15] = [
-    0,
-    11,
-    26,
-    41,
-    51,
-    70,
-    83,
-    109,
-    135,
-    156,
-    164,
-    172,
-    187,
-    208,
-    232,
-];
-
-const CODES: [u32; 14] = [
-    0x00B0,
-    0x00B1,
-    0x00B2,
-    0x00B5,
-    0x00D7,
-    0x00F7,
-    0x0394,
-    0x03A9,
-    0x03BC,
-    0x2126,
-    0x221E,
-    0x2248,
-    0x2264,
-    0x2265,
-];
 
 // A refusal with a number, at a place.
 fn refuse(number: u32, at: usize) -> Escaped
@@ -162,37 +120,12 @@ fn parse_octet(s: &[u8], from: Cursor, first: u32) -> Escaped
     Escaped::Code(p, cursor)
 }
 
-// Whether the name is the held one of a number.
-fn is_name(name: &[u8], k: usize) -> bool
-    requires { ⌜ k < 14 ⌝ }
-    ensures { λ r. ⌜ r ≡ same (heldName k) (now (name .entry)) ⌝ }
-{
-    let names = NAMES;
-    let from = STARTS[k] as usize;
-    let to = STARTS[k + 1] as usize;
-    check::same(&names[from..to], name)
-}
-
-// The code of a held name; no code if it isn't held.
-fn code_of(name: &[u8]) -> u32
-    ensures { λ r. ⌜ r ≡ lookup held (now (name .entry)) ⌝ }
-{
-    let mut k = 0;
-    while k < 14 {
-        if is_name(name, k) {
-            return CODES[k];
-        }
-        k += 1;
-    }
-    NO_CODE
-}
-
 // The code of a name: in a lent file, by its index; where that is empty, among the held ones.
 fn code_in(name: &[u8], file: &[u8], index: &[u32]) -> u32
     ensures { λ r. ⌜ r ≡ namesBy (now (file .entry)) (now (index .entry)) (now (name .entry)) ⌝ }
 {
     if file.len() == 0 {
-        return code_of(name);
+        return held::code_of(name);
     }
     names::look_up(file, index, name)
 }
