@@ -12,9 +12,11 @@ use records::Frame;
 use records::Sink;
 use records::Whole;
 use records::Window;
+use records::again::frame_again;
 use records::close_held;
 use records::literal;
 use texts::Text;
+use texts::parse_alone;
 use texts::parse_string;
 use utf8::Cursor;
 use utf8::Step;
@@ -372,9 +374,10 @@ fn body_alone(s: &[u8], fr: Frame, words: &mut [u32], text: &mut [u8]) -> Read
     requires { ⌜ BodyRoom (now s) 0 fr nothing ⌝ }
     ensures { λ r. ⌜ ReadIs (readBody heldNames (fr .kind) (now (s .entry))) fr 0 (now (words .entry)) (now (text .entry)) (now (words .exit)) (now (text .exit)) nothing r × SignedIs r (readBody heldNames (fr .kind) (now (s .entry))) fr [] [] 0 ⌝ }
 {
-    let file = [0u8; 0];
-    let index = [0u32; 0];
     if entry::is_of(Class::FStrings, fr.kind) {
+        let file = [0u8; 0];
+        let index = [0u32; 0];
+        let mut rows = [0u32; 0];
         let k = Sink {
             count: 0,
             used: 0,
@@ -382,12 +385,11 @@ fn body_alone(s: &[u8], fr: Frame, words: &mut [u32], text: &mut [u8]) -> Read
             from: 0,
             parts: 0,
         };
-        let mut rows = [0u32; 0];
         return parse_fstring(
             s,
             Cursor { at: 0 },
             0,
-            fr,
+            frame_again(fr),
             words,
             text,
             &mut rows,
@@ -398,7 +400,7 @@ fn body_alone(s: &[u8], fr: Frame, words: &mut [u32], text: &mut [u8]) -> Read
             false,
         );
     }
-    match parse_string(s, fr.kind, text, 0, &file, &index) {
+    match parse_alone(s, fr.kind, text) {
         Text::Refused(r) => Read::Refused(r),
         Text::Done(used) => {
             let k = Sink {

@@ -19,6 +19,7 @@ use Rattle.plain.proofs.Runs.{plain, end-past, end-special, end-char}
 use Rattle.buffers.proofs.Over.{over-append}
 use Rattle.texts.specs.declared.Reached.{Reached}
 use Rattle.texts.specs.Text.{PlainIs, Leads, more, Upto}
+use Rattle.texts.proofs.Laws.{start}
 
 -- a part, cut in two
 part-split : (s : List ℕ) (i k e : ℕ) → i ≤ k → k ≤ e → part s i e ≡ part s i k ++ part s k e
@@ -95,3 +96,9 @@ module _ (look : Naming) (kind : ℕ) (s : List ℕ) (used : ℕ) (text₀ text 
       → Upto (textMove look kind s depth) from used text₀ text′ (r .cursor .at) (r .used)
   text-run depth from d u h =
       after-run kind s (textMove look kind s depth) from (λ j c h e. text-plain kind s look j c h e depth d) used text₀ text i end u (omega arith)
+
+-- a string's plain bytes from its front on
+pub string-first : (look : Naming) (kind : ℕ) (s : List ℕ) (used : ℕ) (text text′ : List ℕ) (r : Reached) → PlainIs kind s 0 used text text′ r
+    → Upto (stringMove look kind s) 0 used text text′ (r .cursor .at) (r .used)
+string-first look kind s used text text′ r h =
+    string-run look kind s used text text 0 used (start (stringMove look kind s) 0 used text) (omega arith) text′ r h

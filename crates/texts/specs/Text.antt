@@ -79,6 +79,18 @@ abbrev pub StringBy : (look : Naming) → ℕ → List ℕ → Read (List ℕ) �
 StringBy look kind s (got t j) used text text′ r = (r ≡ Done (used + length t)) × (text′ ≡ over text used t)
 StringBy look kind s (refused x) used text text′ r = (r ≡ Not (refusal x)) × Halts (stringMove look kind s) x 0 used text text′
 
+-- a string was begun: read from its front up to i, at a used length from which no sum wraps
+pub record Begun (look : Naming) (kind : ℕ) (s text : List ℕ) (i end : ℕ) : Type 0 where
+  pub used : ℕ
+  pub lent : List ℕ
+  pub few : used ≤ 2 ^ 32
+  pub upto : Upto (stringMove look kind s) 0 used lent text i end
+
+-- however it was begun, the reading from i on ends it: the buffer before and after it, and the answer
+abbrev pub FromIs : (look : Naming) → ℕ → List ℕ → ℕ → ℕ → List ℕ → List ℕ → Text → Type 0
+FromIs look kind s i end text text′ r =
+    (used : ℕ) (lent : List ℕ) → Upto (stringMove look kind s) 0 used lent text i end → StringBy look kind s (stringN look (enough s) kind s 0 []) used lent text′ r
+
 abbrev pub StringIs : (look : Naming) → ℕ → List ℕ → ℕ → List ℕ → List ℕ → Text → Type 0
 StringIs look kind s used text text′ r =
     Whether (tooLarge s used)

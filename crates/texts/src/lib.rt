@@ -18,14 +18,14 @@ ghost use Prim.Native.Nat.{ℕ, _+_, _≤_, _<_, _^_};
 ghost use lib.ListN.{length};
 ghost use Rattle.definition.specs.Numbers.{isRaw};
 ghost use Rattle.definition.specs.Chars.{_is_, part, code};
-ghost use Rattle.definition.specs.Escapes.{Naming, fault, got, stands, octalDigit, simple, hex, scalar, encode, escape};
+ghost use Rattle.definition.specs.Escapes.{Naming, heldNames, fault, got, stands, octalDigit, simple, hex, scalar, encode, escape};
 ghost use Rattle.definition.specs.Body.{goes, withEscape, stringMove, stringN, textMove, enough};
 ghost use Rattle.escapes.specs.Answers.{namesBy};
 ghost use Rattle.marks.specs.Marks.{refusal};
 ghost use Rattle.buffers.specs.Over.{over};
 ghost use Rattle.texts.specs.Codes.{Asks, HexIs, OctalIs, CodedIs};
 ghost use Rattle.texts.specs.EscapeEnds.{EscapeIs};
-ghost use Rattle.texts.specs.Text.{Room, Taken, PlainIs, Does, StringBy, StringIs, RunBy, RunIs};
+ghost use Rattle.texts.specs.Text.{Room, Taken, PlainIs, Does, StringBy, Begun, FromIs, StringIs, RunBy, RunIs};
 
 const LARGEST_BODY: usize = 1048576;
 
@@ -445,24 +445,21 @@ fn coded_at(s: &[u8], at: usize, kind: u32) -> Coded
     }
 }
 
-// The text of a string or bytes, at the used length: its plain bytes first.
-fn string_text(
+// The text of a string or bytes from a cursor on, which was begun, at the used length.
+fn string_from(
     s: &[u8],
+    from: Cursor,
     kind: u32,
     text: &mut [u8],
     used: usize,
     file: &[u8],
     index: &[u32],
 ) -> Text
-    requires { ⌜ (length (now s) ≤ 1048576) × (used ≤ 2 ^ 32) ⌝ }
-    ensures { λ r. ⌜ StringBy (namesBy (now (file .entry)) (now (index .entry))) kind (now (s .entry)) (stringN (namesBy (now (file .entry)) (now (index .entry))) (enough (now (s .entry))) kind (now (s .entry)) 0 []) used (now (text .entry)) (now (text .exit)) r ⌝ }
+    requires { ⌜ (length (now s) ≤ 1048576) × Begun (namesBy (now file) (now index)) kind (now s) (now text) (from .at) used ⌝ }
+    ensures { λ r. ⌜ FromIs (namesBy (now (file .entry)) (now (index .entry))) kind (now (s .entry)) (from .at) used (now (text .entry)) (now (text .exit)) r ⌝ }
 {
-    let first = plain_text(s, Cursor { at: 0 }, kind, text, used);
-    if s.len() <= first.cursor.at {
-        return Text::Done(first.used);
-    }
-    let mut cursor = first.cursor;
-    let mut end = first.used;
+    let mut cursor = from;
+    let mut end = used;
     loop {
         if is_plain_at(s, cursor.at, kind) {
             let run = plain_text(s, cursor, kind, text, end);
@@ -488,6 +485,25 @@ fn string_text(
     }
 }
 
+// The text of a string or bytes, at the used length: its plain bytes first.
+fn string_text(
+    s: &[u8],
+    kind: u32,
+    text: &mut [u8],
+    used: usize,
+    file: &[u8],
+    index: &[u32],
+) -> Text
+    requires { ⌜ (length (now s) ≤ 1048576) × (used ≤ 2 ^ 32) ⌝ }
+    ensures { λ r. ⌜ StringBy (namesBy (now (file .entry)) (now (index .entry))) kind (now (s .entry)) (stringN (namesBy (now (file .entry)) (now (index .entry))) (enough (now (s .entry))) kind (now (s .entry)) 0 []) used (now (text .entry)) (now (text .exit)) r ⌝ }
+{
+    let first = plain_text(s, Cursor { at: 0 }, kind, text, used);
+    if s.len() <= first.cursor.at {
+        return Text::Done(first.used);
+    }
+    string_from(s, first.cursor, kind, text, first.used, file, index)
+}
+
 // A string's or bytes' body: its text, at the used length. A body of more than 2^20 bytes, or a used length of more than 2^32, is refused before.
 pub fn parse_string(
     s: &[u8],
@@ -506,6 +522,22 @@ pub fn parse_string(
         return Text::Refused(refused_at(BODIES_TOO_LONG, 0));
     }
     string_text(s, kind, text, used, file, index)
+}
+
+// A string's or bytes' body that is read alone: its text, from the buffer's front on, with the held names. A body of more than 2^20 bytes is refused before.
+pub fn parse_alone(s: &[u8], kind: u32, text: &mut [u8]) -> Text
+    ensures { λ r. ⌜ StringIs heldNames kind (now (s .entry)) 0 (now (text .entry)) (now (text .exit)) r ⌝ }
+{
+    if LARGEST_BODY < s.len() {
+        return Text::Refused(refused_at(BODIES_TOO_LONG, 0));
+    }
+    let first = plain_text(s, Cursor { at: 0 }, kind, text, 0);
+    if s.len() <= first.cursor.at {
+        return Text::Done(first.used);
+    }
+    let file = [0u8; 0];
+    let index = [0u32; 0];
+    string_from(s, first.cursor, kind, text, first.used, &file, &index)
 }
 
 // F-string text from a cursor on, up to what stops it.

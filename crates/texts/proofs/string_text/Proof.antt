@@ -1,68 +1,19 @@
 -- `texts::string_text` meets its contract. Assumes nothing.
 use borrow.Author.Needs.{needs}
 use native.Mathlib.Omega.{arith}
-use mathlib.Core.List.{List}
-use Prim.Native.Nat.{ℕ, _-_, _≤_}
-use lib.ListN.{length}
-use Rattle.definition.specs.Body.{stringMove}
 use Rattle.escapes.specs.Answers.{namesBy}
-use Rattle.plain.proofs.Runs.{plain-told, end-later}
-use Rattle.texts.specs.Text.{Upto}
-use Rattle.texts.proofs.Laws.{string-bounds, start, long, string-more, string-coded, string-done, string-refused, string-over}
-use Rattle.texts.proofs.Runs.{string-run}
+use Rattle.texts.proofs.Laws.{long, string-done}
+use Rattle.texts.proofs.Runs.{string-first}
 use Rattle.texts.proofs.string_text.Statement.{statement}
 use Rattle.texts.proofs.string_text.Tie as tie
-
--- whatever was read and written up to the loop is read on
-abbrev Inv-loop : tie.InvT-loop
-Inv-loop s kind text₀ used file index cursor₀ end₀ text cursor end =
-    (lent : List ℕ) → Upto (stringMove (namesBy file index) kind s) 0 used lent text₀ (cursor₀ .at) end₀ → Upto (stringMove (namesBy file index) kind s) 0 used lent text (cursor .at) end
-
-abbrev μ-loop : tie.MeasureT-loop
-μ-loop s kind text₀ used file index cursor₀ end₀ text cursor end = length s - cursor .at
-
-so-far : (c : tie.At-loop Inv-loop μ-loop) → let a = c .before .before .before .before .before .before .before .before .before .before .before .before .args in Upto (stringMove (namesBy (a .file .now) (a .index .now)) (a .kind) (a .s .now)) 0 (a .used) (a .text .now) (c .loop .text) (c .loop .cursor .at) (c .loop .end)
-so-far c =
-    let a = c .before .before .before .before .before .before .before .before .before .before .before .before .args in
-    c .loop .inv (a .text .now) (string-run (namesBy (a .file .now) (a .index .now)) (a .kind) (a .s .now) (a .used) (a .text .now) (a .text .now) 0 (a .used) (start _ _ _ _) (omega arith) _ (c .before .before .before .before .before .before .plain-text .result) (c .before .before .before .before .before .before .plain-text .ensures))
 
 pub string-text-spec : {M : Type 1} → statement M
 string-text-spec =
     tie.close
     (tie.spec
-    Inv-loop
-    μ-loop
     (λ c κs. (omega arith, search needs))  -- plain-text-requires
-    (λ c.
-    let a = c .before .before .before .before .before .before .before .before .before .before .args in
-    let u = string-run (namesBy (a .file .now) (a .index .now)) (a .kind) (a .s .now) (a .used) (a .text .now) (a .text .now) 0 (a .used) (start _ _ _ _) (omega arith) _ (c .before .before .before .before .plain-text .result) (c .before .before .before .before .plain-text .ensures) in
-    let l = long _ _ _ _ _ _ _ u in search needs)  -- same-length
-    (λ c.
-    let a = c .before .before .before .before .before .before .before .before .before .before .args in
-    let u = string-run (namesBy (a .file .now) (a .index .now)) (a .kind) (a .s .now) (a .used) (a .text .now) (a .text .now) 0 (a .used) (start _ _ _ _) (omega arith) _ (c .before .before .before .before .plain-text .result) (c .before .before .before .before .plain-text .ensures) in
-    string-done _ _ _ _ _ _ _ _ u (c .if1 .taken))  -- returns
-    (λ c lent u. u)  -- loop-holds
-    (λ c κs. search needs)  -- is-plain-at-requires
-    (λ c κs. let u = so-far (c .before .before .before) in let b = string-bounds _ _ _ _ _ (u .leads) in let a = c .before .before .before .before .before .before .before .before .before .before .before .before .before .before .before .args in let p = plain-told (a .kind) (a .s .now) (c .before .before .before .loop .cursor .at) _ (c .before .before .is-plain-at .ensures) (c .before .if2 .taken) in search needs)  -- plain-text-requires-2
-    (λ c.
-    let a = c .before .before .before .before .before .before .before .before .before .before .before .before .before .before .before .before .before .before .before .args in
-    let p = plain-told (a .kind) (a .s .now) (c .before .before .before .before .before .before .before .loop .cursor .at) _ (c .before .before .before .before .before .before .is-plain-at .ensures) (c .before .before .before .before .before .if2 .taken) in
-    omega (arith, p .0, c .before .before .before .plain-text2 .ensures .0, end-later (a .kind) (a .s .now) _ (p .0) (p .1)))  -- loop-less
-    (λ c lent u.
-    let a = c .before .before .before .before .before .before .before .before .before .before .before .before .before .before .before .before .before .before .before .args in
-    let p = plain-told (a .kind) (a .s .now) (c .before .before .before .before .before .before .before .loop .cursor .at) _ (c .before .before .before .before .before .before .is-plain-at .ensures) (c .before .before .before .before .before .if2 .taken) in
-    let h : c .before .before .before .before .before .before .before .loop .cursor .at ≤ length (a .s .now) = omega (arith, p .0) in
-    string-run _ _ _ _ _ _ _ _ (c .before .before .before .before .before .before .before .loop .inv lent u) h _ (c .before .before .before .plain-text2 .result) (c .before .before .before .plain-text2 .ensures))  -- loop-again
-    (λ c κs. let b = string-bounds _ _ _ _ _ (so-far (c .before .before) .leads) in (b .inside (omega arith), c .before .before .before .before .before .before .before .before .before .before .before .before .before .before .pre .0))  -- coded-at-requires
-    (λ c κs. let u = so-far (c .before .before .before .before .before .before .before) in let b = string-bounds _ _ _ _ _ (u .leads) in search needs)  -- add-code-requires
-    (λ c. let e = c .before .before .before .before .before .before .before .coded-at in let m = string-coded _ _ _ _ _ _ _ _ (so-far (c .before .before .before .before .before .before .before .before .before .before)) (e .result .code) (e .result .to) _ _ (e .ensures (c .before .before .before .before .if3 .taken)) (c .before .before .add-code .ensures .0) (c .before .before .add-code .ensures .1) in omega (arith, m .0, m .1))  -- loop-less-2
-    (λ c lent u. let e = c .before .before .before .before .before .before .before .coded-at in string-coded _ _ _ _ _ _ _ _ (c .before .before .before .before .before .before .before .before .before .before .loop .inv lent u) (e .result .code) (e .result .to) _ _ (e .ensures (c .before .before .before .before .if3 .taken)) (c .before .before .add-code .ensures .0) (c .before .before .add-code .ensures .1) .2)  -- loop-again-2
-    (λ c κs. let u = so-far (c .before .before .before .before .before .before .before) in let b = string-bounds _ _ _ _ _ (u .leads) in search needs)  -- string-piece-requires
-    (λ c. search needs)  -- enum-known-piece
-    (λ c. let m = string-more _ _ _ _ _ _ _ _ (so-far (c .before .before .before .before .before .before .before .before .before .before .before .before .before)) _ _ (c .before .before .before .before .before .string-piece .ensures) _ _ (c .before .piece .given .1) in omega (arith, m .0, m .1))  -- loop-less-3
-    (λ c lent u. string-more _ _ _ _ _ _ _ _ (c .before .before .before .before .before .before .before .before .before .before .before .before .before .loop .inv lent u) _ _ (c .before .before .before .before .before .string-piece .ensures) _ _ (c .before .piece .given .1) .2)  -- loop-again-3
-    (λ c. search needs)  -- enum-known-piece-2
-    (λ c. let l = long _ _ _ _ _ _ _ (so-far (c .before .before .before .before .before .before .before .before .before .before .before .before .before)) in search needs)  -- same-length-2
-    (λ c. string-refused _ _ _ _ _ _ _ _ (so-far (c .before .before .before .before .before .before .before .before .before .before .before .before .before)) _ _ (c .before .before .before .before .before .string-piece .ensures) _ (c .before .piece2 .given .1))  -- returns-2
-    (λ c. let l = long _ _ _ _ _ _ _ (so-far (c .before .before .before .before .before .before .before .before .before .before .before)) in search needs)  -- same-length-3
-    (λ c. string-over _ _ _ _ _ _ _ _ (so-far (c .before .before .before .before .before .before .before .before .before .before .before)) _ _ (c .before .before .before .string-piece .ensures) (c .match .keys3)))  -- returns-3
+    (λ c. let a = c .before .before .before .before .before .before .before .before .before .before .args in let u = string-first (namesBy (a .file .now) (a .index .now)) (a .kind) (a .s .now) (a .used) (a .text .now) _ (c .before .before .before .before .plain-text .result) (c .before .before .before .before .plain-text .ensures) in let l = long _ _ _ _ _ _ _ u in search needs)  -- same-length
+    (λ c. let a = c .before .before .before .before .before .before .before .before .before .before .args in let u = string-first (namesBy (a .file .now) (a .index .now)) (a .kind) (a .s .now) (a .used) (a .text .now) _ (c .before .before .before .before .plain-text .result) (c .before .before .before .before .plain-text .ensures) in string-done _ _ _ _ _ _ _ _ u (c .if1 .taken))  -- returns
+    (λ c κs. let a = c .before .before .before .before .before .before .before .before .before .before .before .args in let u = string-first (namesBy (a .file .now) (a .index .now)) (a .kind) (a .s .now) (a .used) (a .text .now) _ (c .before .before .before .before .before .plain-text .result) (c .before .before .before .before .before .plain-text .ensures) in let p = c .before .before .before .before .before .before .before .before .before .before .before .pre in (p .0, record { used = a .used; lent = a .text .now; few = p .1; upto = u }))  -- string-from-requires
+    (λ c. let a = c .before .before .before .before .before .before .before .before .before .before .before .before .before .before .args in let u = string-first (namesBy (a .file .now) (a .index .now)) (a .kind) (a .s .now) (a .used) (a .text .now) _ (c .before .before .before .before .before .before .before .before .plain-text .result) (c .before .before .before .before .before .before .before .before .plain-text .ensures) in let l = long _ _ _ _ _ _ _ u in search needs)  -- same-length-2
+    (λ c. let a = c .before .before .before .before .before .before .before .before .before .before .before .before .before .before .args in let u = string-first (namesBy (a .file .now) (a .index .now)) (a .kind) (a .s .now) (a .used) (a .text .now) _ (c .before .before .before .before .before .before .before .before .plain-text .result) (c .before .before .before .before .before .before .before .before .plain-text .ensures) in c .before .before .string-from .ensures _ _ u))  -- returns-2
