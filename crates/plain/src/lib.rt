@@ -1,9 +1,9 @@
 // Where a run of plain bytes ends: by blocks where the first eight are plain, else byte by byte. Nothing is written here.
-use marks::is_foreign;
+use escapes::is_any_bytes;
 use marks::is_special;
-use marks::wide;
 use searches::is_byte;
 use utf8::greater;
+use utf8::greatest;
 ghost use mathlib.Core.Path.{_≡_};
 ghost use mathlib.Core.Bool.{_&&_, not, true};
 ghost use Prim.Native.Nat.{_≤_, _<_};
@@ -30,17 +30,15 @@ fn plain_to(s: &[u8], from: usize, to: usize, kind: u32) -> usize
 
 // Whether the bytes from an index up to another are plain.
 fn is_plain(s: &[u8], from: usize, to: usize, kind: u32) -> bool
-    requires { ⌜ to ≤ length (now s) ⌝ }
+    requires { ⌜ (from ≤ to) × (to ≤ length (now s)) ⌝ }
     ensures { λ r. ⌜ (r ≡ true → AllPlain kind (now (s .entry)) from to) ⌝ }
 {
-    let mut most = 0;
     let mut left = 0;
     let mut right = 0;
     let mut backslash = 0;
     let mut i = from;
     while i < to {
         let b = s[i];
-        most = greater(most, b);
         left = greater(left, is_byte(b, 0x7B));
         right = greater(right, is_byte(b, 0x7D));
         backslash = greater(backslash, is_byte(b, 0x5C));
@@ -49,7 +47,10 @@ fn is_plain(s: &[u8], from: usize, to: usize, kind: u32) -> bool
     if 0 < greater(left, greater(right, backslash)) {
         return false;
     }
-    !is_foreign(wide(most), kind)
+    if is_any_bytes(kind) {
+        return greatest(&s[from..to]) < 0x80;
+    }
+    true
 }
 
 // How far from an index on whole blocks of a size are plain.
@@ -76,6 +77,9 @@ fn plain_far(s: &[u8], at: usize, kind: u32) -> usize
     let n = s.len();
     let i = plain_blocks(s, at, 64, kind);
     let j = plain_blocks(s, i, 8, kind);
+    if j == n {
+        return n;
+    }
     if n - j < 8 {
         if is_plain(s, n - 8, n, kind) {
             return n;

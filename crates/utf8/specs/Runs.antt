@@ -1,5 +1,5 @@
 -- Runs of bytes: below a limit, well-formed; and the bytes that begin a character.
-use Prim.Native.Nat.{ℕ, zero, suc, _+_, _≤_, _<_}
+use Prim.Native.Nat.{ℕ, zero, suc, _+_, _≤_, _<_, max}
 use mathlib.Core.Path.{_≡_}
 use mathlib.Core.Bool.{Bool, true, _&&_}
 use mathlib.Core.List.{List, [], _∷_}
@@ -21,6 +21,11 @@ pub record Ascii (s : List ℕ) (i j : ℕ) : Type 0 where
 pub record AsciiEnd (s : List ℕ) (i j : ℕ) : Type 0 where
   pub upto : Ascii s i j
   pub ends : j < length s → 0x80 ≤ byte s j
+
+-- the greatest byte of a text; 0 if it has none
+unfoldable pub greatest : List ℕ → ℕ
+greatest [] = 0
+greatest (b ∷ s) = max b (greatest s)
 
 -- whether a text is all ASCII
 unfoldable pub allAscii : List ℕ → Bool

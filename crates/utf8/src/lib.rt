@@ -8,7 +8,7 @@ ghost use Rattle.definition.specs.Chars.{byte, follow, width, decoded, code, we
 ghost use Rattle.definition.specs.Counts.{more, counted};
 ghost use Rattle.utf8.specs.Classes.{classes, classOf, ranges};
 ghost use Rattle.utf8.specs.Steps.{stepAt, countOf};
-ghost use Rattle.utf8.specs.Runs.{Below, Ascii, AsciiEnd, allAscii, Formed, headOf, headsFrom};
+ghost use Rattle.utf8.specs.Runs.{Below, Ascii, AsciiEnd, greatest, allAscii, Formed, headOf, headsFrom};
 ghost use Rattle.utf8.specs.Fits.{isDue, SecondFits, Fits, AllFit, Fitting, lastStart};
 
 // A place in the bytes of a body.
@@ -228,18 +228,25 @@ pub fn greater(a: u8, b: u8) -> u8
     if a < b { b } else { a }
 }
 
-// Whether all bytes from an index up to another are ASCII.
-fn is_ascii(s: &[u8], from: usize, to: usize) -> bool
-    requires { ⌜ to ≤ length (now s) ⌝ }
-    ensures { λ r. ⌜ (r ≡ true → Below 0x80 (now (s .entry)) from to) ⌝ }
+// The greatest byte of a text; 0 if it has none.
+pub fn greatest(s: &[u8]) -> u8
+    ensures { λ r. ⌜ r ≡ greatest (now (s .entry)) ⌝ }
 {
     let mut most = 0;
-    let mut i = from;
-    while i < to {
+    let mut i = 0;
+    while i < s.len() {
         most = greater(most, s[i]);
         i += 1;
     }
-    most < 0x80
+    most
+}
+
+// Whether all bytes from an index up to another are ASCII.
+fn is_ascii(s: &[u8], from: usize, to: usize) -> bool
+    requires { ⌜ (from ≤ to) × (to ≤ length (now s)) ⌝ }
+    ensures { λ r. ⌜ (r ≡ true → Below 0x80 (now (s .entry)) from to) ⌝ }
+{
+    greatest(&s[from..to]) < 0x80
 }
 
 // So far from an index on whole blocks of a size are ASCII.
@@ -275,12 +282,15 @@ fn ascii_bytes(s: &[u8], from: usize) -> usize
 
 // Where the ASCII bytes from an index on end, by blocks: the last eight may be looked at twice.
 fn ascii_far(s: &[u8], at: usize) -> usize
-    requires { ⌜ at + 8 ≤ length (now s) ⌝ }
+    requires { ⌜ (8 ≤ at) × (at ≤ length (now s)) ⌝ }
     ensures { λ r. ⌜ AsciiEnd (now (s .entry)) at r ⌝ }
 {
     let n = s.len();
     let i = ascii_blocks(s, at, 64);
     let j = ascii_blocks(s, i, 8);
+    if j == n {
+        return n;
+    }
     if n - j < 8 {
         if is_ascii(s, n - 8, n) {
             return n;
@@ -296,7 +306,7 @@ fn ascii_end(s: &[u8], at: usize) -> usize
 {
     if 8 <= s.len() - at {
         if is_ascii(s, at, at + 8) {
-            return ascii_far(s, at);
+            return ascii_far(s, at + 8);
         }
     }
     ascii_bytes(s, at)
