@@ -104,7 +104,7 @@ pub fn check_one(script: &[u8], l: Descriptor) -> Checked
 {
     let Passing::Chars(chars) = pass_one(script, 0, LARGEST_BODIES, l) else {
         let numbers = [l.kind, l.triple, l.offset, l.size, l.start, l.end];
-        return in_order(script, &numbers, 1);
+        return in_order(&script[..], &numbers, 1);
     };
     Checked::Passed(chars)
 }

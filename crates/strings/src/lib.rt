@@ -129,7 +129,17 @@ pub fn parse_strings(script: &[u8], numbers: &[u32], words: &mut [u32], text: &m
     let file = [0u8; 0];
     let index = [0u32; 0];
     let mut rows = [0u32; 0];
-    match bodies::read_all(script, numbers, 0, 0, words, text, &mut rows, &file, &index) {
+    match bodies::read_all(
+        &script[..],
+        &numbers[..],
+        0,
+        0,
+        words,
+        text,
+        &mut rows,
+        &file,
+        &index,
+    ) {
         Reading::Refused(r) => Outcome::Refused(r),
         Reading::Done(w) => finish(numbers, w, words, text),
     }
