@@ -4,12 +4,12 @@ pub mod rows;
 
 use again::frame_again;
 use again::sink_again;
-use buffers::Record;
 use buffers::add_again;
 use buffers::add_spaces;
 use buffers::put;
-use buffers::put_record;
 use marks::conversion_of;
+use record_words::Record;
+use record_words::put_record;
 use std::num::wrapping_add_usize;
 use std::num::wrapping_sub_usize;
 use utf8::Cursor;

@@ -129,7 +129,7 @@ fn add_code(text: &mut [u8], used: usize, code: u32, kind: u32) -> usize
         buffers::put(text, used, (code % 256) as u8);
         return used + 1;
     }
-    let n = buffers::add_char(text, used, code);
+    let n = codes::add_char(text, used, code);
     used + n
 }
 

@@ -2,9 +2,9 @@
 mod otherwise;
 mod unknown;
 
-use buffers::Row;
-use buffers::put_row;
 pub use otherwise::put_otherwise;
+use row_numbers::Row;
+use row_numbers::put_row;
 use sources::lesser;
 pub use unknown::put_unknown;
 ghost use mathlib.Core.Path.{_≡_};

@@ -4,8 +4,8 @@ use mathlib.Core.List.{List}
 use mathlib.Core.Option.{some, none}
 use Prim.Native.Nat.{ℕ}
 use lib.ListN.{getD}
-use Rattle.buffers.specs.Words.{wordsOf}
-use Rattle.buffers.specs.declared.Record as b
+use Rattle.record_words.specs.Words.{wordsOf}
+use Rattle.record_words.specs.declared.Record as b
 use Rattle.view.specs.declared.Found.{Found}
 use Rattle.view.specs.declared.Found.the-variants.{Record, Nothing}
 use Rattle.view.specs.Answers.{says}

@@ -2,7 +2,7 @@
 use Prim.Native.Nat.{ℕ}
 use mathlib.Core.List.{List}
 use mathlib.Core.Option.{Option, none, some}
-use Rattle.buffers.specs.Words.{wordsOf}
+use Rattle.record_words.specs.Words.{wordsOf}
 use Rattle.view.specs.declared.Found.{Found}
 use Rattle.view.specs.declared.Found.the-variants.{Record, Nothing}
 

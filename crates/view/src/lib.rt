@@ -11,7 +11,7 @@ pub struct View<'a> {
 
 // A record, or that there is none.
 pub enum Found {
-    Record(buffers::Record),
+    Record(record_words::Record),
     Nothing,
 }
 
@@ -27,7 +27,7 @@ pub fn record_at(words: &[u32], count: u32, number: u32) -> Found
         return Found::Nothing;
     }
     let at = past - 8;
-    Found::Record(buffers::Record {
+    Found::Record(record_words::Record {
         kind: words[at],
         offset: words[at + 1],
         length: words[at + 2],

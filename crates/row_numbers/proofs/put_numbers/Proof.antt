@@ -1,8 +1,8 @@
--- `buffers::put_numbers` meets its contract. Assumes nothing.
+-- `row_numbers::put_numbers` meets its contract. Assumes nothing.
 use borrow.Author.Needs.{needs}
 use Rattle.buffers.specs.Over.{over}
-use Rattle.buffers.proofs.put_numbers.Statement.{statement}
-use Rattle.buffers.proofs.put_numbers.Tie as tie
+use Rattle.row_numbers.proofs.put_numbers.Statement.{statement}
+use Rattle.row_numbers.proofs.put_numbers.Tie as tie
 
 pub put-numbers-spec : {M : Type 1} → statement M
 unfolding over

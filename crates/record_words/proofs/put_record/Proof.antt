@@ -1,8 +1,8 @@
--- `buffers::put_record` meets its contract. Assumes nothing.
+-- `record_words::put_record` meets its contract. Assumes nothing.
 use borrow.Author.Needs.{needs}
 use Rattle.buffers.proofs.Over.{over-tail}
-use Rattle.buffers.proofs.put_record.Statement.{statement}
-use Rattle.buffers.proofs.put_record.Tie as tie
+use Rattle.record_words.proofs.put_record.Statement.{statement}
+use Rattle.record_words.proofs.put_record.Tie as tie
 
 pub put-record-spec : {M : Type 1} → statement M
 put-record-spec =

@@ -1,11 +1,11 @@
--- `buffers::put_eight` meets its contract. Assumes nothing.
+-- `record_words::put_eight` meets its contract. Assumes nothing.
 use mathlib.Core.Path.{refl}
 use native.Mathlib.Omega.{arith}
 use lib.ListN.{length-set}
 use borrow.Author.Needs.{needs}
 use Rattle.buffers.specs.Over.{over}
-use Rattle.buffers.proofs.put_eight.Statement.{statement}
-use Rattle.buffers.proofs.put_eight.Tie as tie
+use Rattle.record_words.proofs.put_eight.Statement.{statement}
+use Rattle.record_words.proofs.put_eight.Tie as tie
 
 pub put-eight-spec : {M : Type 1} → statement M
 unfolding over

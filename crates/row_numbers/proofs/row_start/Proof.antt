@@ -1,7 +1,7 @@
--- `buffers::row_start` meets its contract. Assumes nothing.
+-- `row_numbers::row_start` meets its contract. Assumes nothing.
 use borrow.Author.Needs.{needs}
-use Rattle.buffers.proofs.row_start.Statement.{statement}
-use Rattle.buffers.proofs.row_start.Tie as tie
+use Rattle.row_numbers.proofs.row_start.Statement.{statement}
+use Rattle.row_numbers.proofs.row_start.Tie as tie
 
 pub row-start-spec : {M : Type 1} → statement M
 row-start-spec =

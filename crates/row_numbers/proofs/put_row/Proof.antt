@@ -1,8 +1,8 @@
--- `buffers::put_row` meets its contract. Assumes nothing.
+-- `row_numbers::put_row` meets its contract. Assumes nothing.
 use borrow.Author.Needs.{needs}
 use Rattle.buffers.proofs.Over.{over-tail}
-use Rattle.buffers.proofs.put_row.Statement.{statement}
-use Rattle.buffers.proofs.put_row.Tie as tie
+use Rattle.row_numbers.proofs.put_row.Statement.{statement}
+use Rattle.row_numbers.proofs.put_row.Tie as tie
 
 pub put-row-spec : {M : Type 1} → statement M
 put-row-spec =

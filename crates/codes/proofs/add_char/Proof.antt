@@ -1,8 +1,8 @@
--- `buffers::add_char` meets its contract. Assumes nothing.
+-- `codes::add_char` meets its contract. Assumes nothing.
 use borrow.Author.Needs.{needs}
 use Rattle.buffers.proofs.Over.{over-tail}
-use Rattle.buffers.proofs.add_char.Statement.{statement}
-use Rattle.buffers.proofs.add_char.Tie as tie
+use Rattle.codes.proofs.add_char.Statement.{statement}
+use Rattle.codes.proofs.add_char.Tie as tie
 
 pub add-char-spec : {M : Type 1} → statement M
 add-char-spec =

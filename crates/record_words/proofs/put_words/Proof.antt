@@ -1,8 +1,8 @@
--- `buffers::put_words` meets its contract. Assumes nothing.
+-- `record_words::put_words` meets its contract. Assumes nothing.
 use borrow.Author.Needs.{needs}
 use Rattle.buffers.specs.Over.{over}
-use Rattle.buffers.proofs.put_words.Statement.{statement}
-use Rattle.buffers.proofs.put_words.Tie as tie
+use Rattle.record_words.proofs.put_words.Statement.{statement}
+use Rattle.record_words.proofs.put_words.Tie as tie
 
 pub put-words-spec : {M : Type 1} → statement M
 unfolding over

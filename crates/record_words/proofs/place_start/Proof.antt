@@ -1,7 +1,7 @@
--- `buffers::place_start` meets its contract. Assumes nothing.
+-- `record_words::place_start` meets its contract. Assumes nothing.
 use borrow.Author.Needs.{needs}
-use Rattle.buffers.proofs.place_start.Statement.{statement}
-use Rattle.buffers.proofs.place_start.Tie as tie
+use Rattle.record_words.proofs.place_start.Statement.{statement}
+use Rattle.record_words.proofs.place_start.Tie as tie
 
 pub place-start-spec : {M : Type 1} → statement M
 place-start-spec =

@@ -1,11 +1,11 @@
--- `buffers::put_char` meets its contract. Assumes nothing.
+-- `codes::put_char` meets its contract. Assumes nothing.
 use borrow.Author.Needs.{needs}
 use borrow.Author.Tests.{lt-ltb, le-ltb}
 use mathlib.Core.Path.{refl}
 use Rattle.definition.specs.Chars.{utf8}
 use Rattle.buffers.specs.Over.{over}
-use Rattle.buffers.proofs.put_char.Statement.{statement}
-use Rattle.buffers.proofs.put_char.Tie as tie
+use Rattle.codes.proofs.put_char.Statement.{statement}
+use Rattle.codes.proofs.put_char.Tie as tie
 
 pub put-char-spec : {M : Type 1} → statement M
 unfolding utf8 over
