@@ -1,14 +1,14 @@
 // The adjacent literals of a script from an offset on, and what is passed over after each. The cut of a whole script, literal by literal.
 use scans::Closing;
 use scans::NO_KIND;
-use scans::apart;
-use scans::byte_at;
 use scans::closing_from;
 use scans::comment_end;
 use scans::line_end;
 use scans::mark_from;
 use scans::opens;
 use scans::tripled;
+use words::apart;
+use words::byte_at;
 ghost use mathlib.Core.Path.{_≡_};
 ghost use mathlib.Core.List.{List};
 ghost use Prim.Native.Nat.{ℕ, _*_, _≤_};

@@ -1,4 +1,2 @@
 pub mod Openings
 pub mod Closings
-pub mod Packing
-pub mod WordBefore

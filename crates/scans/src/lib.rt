@@ -1,12 +1,11 @@
-// What is looked for in a script: what opens a literal and where it closes, the ends of lines and comments, and what stands before a prefix.
-pub mod words;
-
+// What is looked for in a script: what opens a literal and where it closes, and the ends of lines and comments.
 use searches::first_of;
+use words::byte_at;
 ghost use mathlib.Core.Path.{_≡_};
 ghost use Prim.Native.Nat.{_<_};
 ghost use lib.ListN.{length};
-ghost use Rattle.definition.specs.Chars.{_is_, byte, inside, _to_};
-ghost use Rattle.definition_scripts.specs.Opening.{isQuote, oneLetter, twoLetters, opens, tripled, quotesAt, lineEnd, isWord, apart, firstAt};
+ghost use Rattle.definition.specs.Chars.{_is_};
+ghost use Rattle.definition_scripts.specs.Opening.{isQuote, oneLetter, twoLetters, opens, tripled, quotesAt, lineEnd, firstAt};
 ghost use Rattle.definition_scripts.specs.Literals.{bodyCase, closing};
 ghost use Rattle.definition_scripts.specs.Cut.{commentEnd};
 ghost use Rattle.scans.specs.Scans.{rawKind, thirdOf, caseOf, closingOf, cutMark};
@@ -32,16 +31,6 @@ const NEWLINE_IN_LITERAL: u32 = 51;
 
 // Where no literal opens: past every kind.
 pub const NO_KIND: u32 = 7;
-
-// The byte at an index, as a number; 256 past the end.
-pub fn byte_at(s: &[u8], at: usize) -> u32
-    ensures { λ r. ⌜ r ≡ byte (now (s .entry)) at ⌝ }
-{
-    if at < s.len() {
-        return s[at] as u32;
-    }
-    256
-}
 
 fn is_quote(c: u32) -> bool
     ensures { λ r. ⌜ r ≡ isQuote c ⌝ }
@@ -240,40 +229,4 @@ pub fn mark_from(s: &[u8], from: usize) -> usize
     ensures { λ r. ⌜ r ≡ firstAt cutMark (now (s .entry)) from ⌝ }
 {
     first_of(s, from, b'\'', b'"', b'#')
-}
-
-// Whether a code lies in a range.
-fn between(c: u32, low: u32, high: u32) -> bool
-    ensures { λ r. ⌜ r ≡ inside (low to high) c ⌝ }
-{
-    if c < low {
-        return false;
-    }
-    c <= high
-}
-
-// Whether a byte is an ASCII letter, digit or underscore.
-fn is_word(c: u32) -> bool
-    ensures { λ r. ⌜ r ≡ isWord c ⌝ }
-{
-    if between(c, 48, 57) {
-        return true;
-    }
-    if between(c, 65, 90) {
-        return true;
-    }
-    if between(c, 97, 122) {
-        return true;
-    }
-    c == 95
-}
-
-// Whether none of these stands before an index.
-pub fn apart(s: &[u8], at: usize) -> bool
-    ensures { λ r. ⌜ r ≡ apart (now (s .entry)) at ⌝ }
-{
-    if at == 0 {
-        return true;
-    }
-    !is_word(byte_at(s, at - 1))
 }

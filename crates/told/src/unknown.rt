@@ -2,7 +2,6 @@
 use crate::Told;
 use crate::put_refusal;
 use literals::Literal;
-use scans::words;
 ghost use mathlib.Core.Path.{_≡_};
 ghost use Rattle.definition_scripts.specs.Keywords.{wordStart, mayStand};
 ghost use Rattle.definition_scripts.specs.Listing.{unknownRow};

@@ -1,7 +1,7 @@
 -- `told::unknown::stands` meets its contract. Assumes nothing.
 use borrow.Author.Needs.{needs}
 use mathlib.Core.Path.{sym}
-use Rattle.scans.proofs.WordBefore.{may-none}
+use Rattle.words.proofs.WordBefore.{may-none}
 use Rattle.told.proofs.unknown.stands.Statement.{statement}
 use Rattle.told.proofs.unknown.stands.Tie as tie
 
