@@ -19,7 +19,8 @@ use Rattle.definition.proofs.moves.CharLaws.{next-past}
 use Rattle.definition_cuts_laws.proofs.tokens.FormedPaths.{Formed, Head, formed-front, formed-head, formed-at, all-formed}
 use Rattle.definition_cuts_laws.proofs.tokens.TokenMarks.{token-formed}
 use Rattle.plain.specs.Plain.{plainEnd}
-use Rattle.cuts.proofs.PlainRuns.{Run, no-run, run-found, run-later, Clear, check-run, check-cut, check-not, check-tail}
+use Rattle.tokens.proofs.PlainTokens.{Run, no-run, run-found, run-later}
+use Rattle.cuts.proofs.PlainRuns.{Clear, check-run, check-cut, check-not, check-tail}
 use Rattle.cuts.specs.declared.Passing.the-variants.{At, Inside}
 use Rattle.cuts.specs.declared.Verdict.the-variants.{Passed, Refused}
 use Rattle.cuts.specs.Answers.{PassIs, VerdictIs}

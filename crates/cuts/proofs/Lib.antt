@@ -1,8 +1,6 @@
 pub mod OnePassLaw
 pub mod OnePassSteps
 pub mod PlainRuns
-pub mod Lessening
-pub mod Planning
 pub mod Checking
 pub mod Octals
 pub mod Walking

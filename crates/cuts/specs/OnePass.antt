@@ -1,4 +1,4 @@
--- The check of cuts and the plan, each in one pass over a body's tokens: what the code does, shown to be the definitions of definition_cuts.
+-- The check of cuts in one pass over a body's tokens: what the code does, shown to be the definition of definition_cuts.
 use Prim.Native.Nat.{ℕ, zero, suc, _+_}
 use mathlib.Core.Bool.{Bool, true, false, _&&_, _||_, not}
 use mathlib.Core.List.{List, [], _∷_}
@@ -8,29 +8,10 @@ use lib.ListN.{length}
 use Rattle.definition.specs.Numbers.{pieceRefused, readingsDiffer}
 use Rattle.definition.specs.Chars.{if_then_else_, atEnd, wellFormed}
 use Rattle.definition_cuts.specs.Cuts.{pieces, allShort}
-use Rattle.definition_cuts.specs.Tokens.{tokenEnd, withFirst}
+use Rattle.definition_cuts.specs.Tokens.{tokenEnd}
 use Rattle.definition_cuts_laws.specs.Standing.{octalAt}
 
--- THE PLAN: a piece began at `start`, and tokens were read up to i; n bounds the tokens
-unfoldable pub planLoop : ℕ → (s : List ℕ) (limit start i : ℕ) → Option (List ℕ)
-planLoop zero s limit start i = none
-planLoop (suc n) s limit start i =
-    elim (atEnd s i) [
-      | true ↦ some []
-      | false ↦ elim (tokenEnd s i) [
-        | none ↦ none
-        | some j ↦ elim (leb j (start + limit)) [
-          | true ↦ planLoop n s limit start j
-          | false ↦ elim (leb j (i + limit)) [ true ↦ withFirst i (planLoop n s limit i j) | false ↦ none ]
-        ]
-      ]
-    ]
-
-unfoldable pub planned : List ℕ → (limit : ℕ) → Option (List ℕ)
-planned s limit =
-    if ltb 1048576 (length s) || ltb (wellFormed s) (length s) then none else planLoop (suc (length s)) s limit 0 0
-
--- THE CHECK: the cuts that are left, and whether one stood among octal digits
+-- the cuts that are left, and whether one stood among octal digits
 pub record Cursor : Type 0 where
   pub left : List ℕ
   pub differs : Bool
@@ -63,8 +44,5 @@ unfoldable pub checkedOnce : (s cuts : List ℕ) → ℕ
 checkedOnce s cuts = numberOf s cuts (checkLoop (suc (length s)) s 0 cuts false)
 
 -- with the one number of tokens that serves every place of a body
-abbrev pub planAt : (s : List ℕ) (limit start i : ℕ) → Option (List ℕ)
-planAt s limit start i = planLoop (suc (length s)) s limit start i
-
 abbrev pub checkAt : (s : List ℕ) (i : ℕ) → List ℕ → Bool → Option Bool
 checkAt s i cs d = checkLoop (suc (length s)) s i cs d

@@ -226,5 +226,5 @@ pub extern "C" fn stumpgarret_cuts_plan(
 )
     ensures { λ _. ⌜ PlanIs (planInto (now (body .entry)) limit (now (offsets .entry))) (now (answer .exit)) (now (offsets .exit)) ⌝ }
 {
-    *answer = twelve::of_plan(cuts::plan(body, limit, offsets));
+    *answer = twelve::of_plan(plans::plan(body, limit, offsets));
 }

@@ -1,1 +1,3 @@
 pub mod TokenLaws
+pub mod PlainTokens
+pub mod Lessening

@@ -1,4 +1,4 @@
-// Where a token of a body of kind 1 ends: a character, an escape, `{{`, `}}`, a field; a backslash that stays before a brace goes with what follows.
+// Where a token of a body of kind 1 ends: a character, an escape, `{{`, `}}`, a field; a backslash that stays before a brace goes with what follows. Whether a body is well-formed.
 use bodies::FieldEnd;
 use bodies::field_end;
 use texts::EscapeEnd;
@@ -7,8 +7,9 @@ use utf8::Cursor;
 use utf8::Step;
 ghost use mathlib.Core.Path.{_≡_};
 ghost use Prim.Native.Nat.{_≤_};
+ghost use lib.Dec.{leb};
 ghost use lib.ListN.{length};
-ghost use Rattle.definition.specs.Chars.{if_then_else_, next};
+ghost use Rattle.definition.specs.Chars.{if_then_else_, next, wellFormed};
 ghost use Rattle.definition_cuts.specs.Tokens.{moveEnd, staying};
 ghost use Rattle.utf8.proofs.Steps.{Stepped};
 ghost use Rattle.tokens.specs.Tokens.{EndIs, TokenIs};
@@ -115,4 +116,12 @@ pub fn token_end(s: &[u8], at: usize) -> Token
     }
     let from = past_staying(s, Cursor { at });
     move_end(s, from)
+}
+
+// Whether a body is well-formed.
+pub fn is_formed(s: &[u8]) -> bool
+    ensures { λ r. ⌜ r ≡ leb (length (now (s .entry))) (wellFormed (now (s .entry))) ⌝ }
+{
+    let prefix = utf8::well_formed(s);
+    s.len() <= prefix.len
 }

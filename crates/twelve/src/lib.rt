@@ -1,8 +1,8 @@
 // An answer of the library in the twelve numbers of the C interface.
-use cuts::Planned;
 use listing::Fields;
 use literals::Listing;
 use names::Answer;
+use plans::Planned;
 use replay::Replay;
 use strings::Outcome;
 use written::Writing;
@@ -16,7 +16,7 @@ ghost use Rattle.listing.specs.Answers as fields;
 ghost use Rattle.replay.specs.Answers as replays;
 ghost use Rattle.revisions.specs.Answers as comparisons;
 ghost use Rattle.written.specs.Answers as writings;
-ghost use Rattle.cuts.specs.Answers as cuts;
+ghost use Rattle.plans.specs.Answers as plans;
 ghost use Rattle.twelve.specs.Twelve.{twelve, indexSays};
 
 const SCRIPT_TOO_LONG: u32 = 49;
@@ -177,7 +177,7 @@ pub fn of_check(number: u32) -> [u32; 12]
 
 // A plan's numbers, and zeros up to twelve.
 pub fn of_plan(x: Planned) -> [u32; 12]
-    ensures { λ r. ⌜ r ≡ twelve (cuts.says x) ⌝ }
+    ensures { λ r. ⌜ r ≡ twelve (plans.says x) ⌝ }
 {
     match x {
         Planned::Cuts(count) => [0, 1, count, 0, 0, 0, 0, 0, 0, 0, 0, 0],

@@ -3,8 +3,8 @@ use borrow.Author.Needs.{needs}
 use native.Mathlib.Omega.{arith}
 use Prim.Native.Nat.{_+_, _-_, _*_}
 use lib.ListN.{length}
-use Rattle.cuts.proofs.Lessening.{token-less, cut-less, found-less}
-use Rattle.cuts.proofs.PlainRuns.{found-later, tail-at}
+use Rattle.tokens.proofs.Lessening.{token-less, cut-less, found-less}
+use Rattle.tokens.proofs.PlainTokens.{found-later, tail-at}
 use Rattle.cuts.proofs.Checking.{Checking, checking, check-done, run-starts, none-left, next-behind, next-before, next-in-run, next-within, token-refused, cut-inside, next-token}
 use Rattle.cuts.proofs.check_cuts.Statement.{statement}
 use Rattle.cuts.proofs.check_cuts.Tie as tie

@@ -8,16 +8,17 @@ use native.Mathlib.Omega.{arith}
 use lib.ListN.{length, length-append}
 use Rattle.definition.specs.Chars.{wellFormed}
 use Rattle.definition_cuts.specs.Tokens.{tokenEnd, withFirst}
-use Rattle.cuts.specs.OnePass.{planAt}
-use Rattle.cuts.proofs.OnePassSteps.{plan-end, plan-refused, plan-on, plan-cut, plan-none}
+use Rattle.plans.specs.OnePass.{planAt}
+use Rattle.plans.proofs.OnePassSteps.{plan-end, plan-refused, plan-on, plan-cut, plan-none}
 use Rattle.buffers.specs.Over.{over}
 use Rattle.buffers.proofs.Over.{over-nil, over-append, length-over}
 use Rattle.definition_cuts_laws.proofs.tokens.FormedPaths.{Formed, formed-front, formed-head, formed-at, all-formed}
 use Rattle.definition_cuts_laws.proofs.tokens.TokenMarks.{token-formed}
 use Rattle.plain.specs.Plain.{plainEnd}
-use Rattle.cuts.proofs.PlainRuns.{Run, no-run, run-found, run-later, start-path, plan-run, plan-run-cut, plan-run-none}
-use Rattle.cuts.specs.declared.Made.the-variants.{Cuts, Nothing}
-use Rattle.cuts.specs.Answers.{PlanIs, StartIs}
+use Rattle.tokens.proofs.PlainTokens.{Run, no-run, run-found, run-later}
+use Rattle.plans.proofs.PlainRuns.{start-path, plan-run, plan-run-cut, plan-run-none}
+use Rattle.plans.specs.declared.Made.the-variants.{Cuts, Nothing}
+use Rattle.plans.specs.Answers.{PlanIs, StartIs}
 
 -- a plan with cuts in front
 abbrev onto : List ℕ → Option (List ℕ) → Option (List ℕ)

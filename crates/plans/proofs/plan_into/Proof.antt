@@ -1,13 +1,13 @@
--- `cuts::plan_into` meets its contract. Assumes nothing.
+-- `plans::plan_into` meets its contract. Assumes nothing.
 use borrow.Author.Needs.{needs}
 use native.Mathlib.Omega.{arith}
 use Prim.Native.Nat.{_+_, _-_, _*_}
 use lib.ListN.{length}
-use Rattle.cuts.proofs.Lessening.{token-less, cut-less, found-less}
-use Rattle.cuts.proofs.PlainRuns.{found-later}
-use Rattle.cuts.proofs.Planning.{Planning, planning, same-list, done, found, run-on, run-cut, run-none, refused, on, too-long, cut}
-use Rattle.cuts.proofs.plan_into.Statement.{statement}
-use Rattle.cuts.proofs.plan_into.Tie as tie
+use Rattle.tokens.proofs.Lessening.{token-less, cut-less, found-less}
+use Rattle.tokens.proofs.PlainTokens.{found-later}
+use Rattle.plans.proofs.Planning.{Planning, planning, same-list, done, found, run-on, run-cut, run-none, refused, on, too-long, cut}
+use Rattle.plans.proofs.plan_into.Statement.{statement}
+use Rattle.plans.proofs.plan_into.Tie as tie
 
 abbrev Inv-loop : tie.InvT-loop
 Inv-loop s limit list₀ room start₀ i₀ n₀ plain₀ list start i n plain = Planning s limit list₀ list start i n plain

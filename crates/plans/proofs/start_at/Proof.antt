@@ -1,4 +1,4 @@
--- `cuts::start_at` meets its contract. Assumes nothing.
+-- `plans::start_at` meets its contract. Assumes nothing.
 use borrow.Author.Needs.{needs}
 use borrow.Author.Tests.{eqb-true, eqb-false}
 use native.Mathlib.Omega.{arith}
@@ -9,10 +9,10 @@ use Prim.Native.Nat.{ℕ, _-_, _≤_, _<_}
 use lib.Dec.{eqb}
 use Rattle.definition.specs.Chars.{byte, _to_, inside}
 use Rattle.definition.proofs.moves.CharLaws.{cases}
-use Rattle.cuts.specs.Answers.{Tails}
-use Rattle.cuts.proofs.PlainRuns.{tail-at}
-use Rattle.cuts.proofs.start_at.Statement.{statement}
-use Rattle.cuts.proofs.start_at.Tie as tie
+use Rattle.plans.specs.Answers.{Tails}
+use Rattle.tokens.proofs.PlainTokens.{tail-at}
+use Rattle.plans.proofs.start_at.Statement.{statement}
+use Rattle.plans.proofs.start_at.Tie as tie
 
 -- one byte more
 one-more : (s : List ℕ) (i j : ℕ) → Tails s i j → inside (0x80 to 0xBF) (byte s i) ≡ true → Tails s (i - 1) j

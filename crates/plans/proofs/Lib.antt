@@ -1,0 +1,5 @@
+pub mod OnePassLaw
+pub mod OnePassSteps
+pub mod PlainRuns
+pub mod Planning
+pub mod Calls
