@@ -19,8 +19,8 @@ use Rattle.definition.specs.Reading as o
 use Rattle.definition_laws.proofs.moves.Counted.{counted-small}
 use Rattle.definition_laws.proofs.moves.Moves.{weight, Names}
 use Rattle.definition_laws.proofs.moves.Fuel.{Reading, string-reading, string-last, body-reading}
-use Rattle.utf8.specs.declared.Count.{Count}
-use Rattle.utf8.specs.Steps.{countOf}
+use Rattle.counts.specs.declared.Count.{Count}
+use Rattle.counts.specs.Counts.{countOf}
 use Rattle.buffers.specs.Over.{over}
 use Rattle.entry.specs.Answers.{described}
 use Rattle.entry.specs.Literals.{literalAt, literals}

@@ -184,7 +184,7 @@ fn chars_before(script: &[u8], numbers: &[u32], count: u32) -> u32
         let l = entry::literal_at(numbers, i);
         let from = l.offset as usize;
         let to = from + l.size as usize;
-        chars += utf8::heads(&script[from..to]) as u32;
+        chars += counts::heads(&script[from..to]) as u32;
         i += 1;
     }
     chars
@@ -197,7 +197,7 @@ fn refusal_in(script: &[u8], numbers: &[u32], i: u32, l: Descriptor, x: Refusal)
 {
     let from = l.offset as usize;
     let to = from + l.size as usize;
-    let k = utf8::count_before(&script[from..to], x.taken);
+    let k = counts::count_before(&script[from..to], x.taken);
     entry::Refusal {
         number: x.number,
         literal: i,

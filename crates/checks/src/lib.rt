@@ -42,10 +42,10 @@ fn pass_one(script: &[u8], previous: u32, left: u32, l: Descriptor) -> Passing
     }
     let from = l.offset as usize;
     let to = from + l.size as usize;
-    if utf8::all_ascii(&script[from..to]) {
+    if ascii::all_ascii(&script[from..to]) {
         return Passing::Chars(l.size);
     }
-    let formed = utf8::well_formed(&script[from..to]);
+    let formed = prefixes::well_formed(&script[from..to]);
     if formed.len < to - from {
         return Passing::Not;
     }

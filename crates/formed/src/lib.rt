@@ -137,7 +137,7 @@ fn is_utf8(text: &[u8], offset: u32, size: u32) -> bool
     let at = offset as usize;
     let start = least(at, text.len());
     let end = least(at + size as usize, text.len());
-    let formed = utf8::well_formed(&text[start..end]);
+    let formed = prefixes::well_formed(&text[start..end]);
     end - start <= formed.len
 }
 

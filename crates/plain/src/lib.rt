@@ -1,9 +1,9 @@
 // Where a run of plain bytes ends: by blocks where the first eight are plain, else byte by byte. Nothing is written here.
+use ascii::greater;
+use ascii::is_ascii;
 use escapes::is_any_bytes;
 use marks::is_special;
 use searches::is_byte;
-use utf8::greater;
-use utf8::greatest;
 ghost use mathlib.Core.Path.{_≡_};
 ghost use mathlib.Core.Bool.{_&&_, not, true};
 ghost use Prim.Native.Nat.{_≤_, _<_};
@@ -48,7 +48,7 @@ fn is_plain(s: &[u8], from: usize, to: usize, kind: u32) -> bool
         return false;
     }
     if is_any_bytes(kind) {
-        return greatest(&s[from..to]) < 0x80;
+        return is_ascii(&s[from..to]);
     }
     true
 }

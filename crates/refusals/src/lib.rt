@@ -73,7 +73,7 @@ fn all_utf8(script: &[u8], numbers: &[u32], count: u32) -> Checked
         let l = literal_at(numbers, i);
         let from = l.offset as usize;
         let to = from + l.size as usize;
-        let formed = utf8::well_formed(&script[from..to]);
+        let formed = prefixes::well_formed(&script[from..to]);
         if formed.len < to - from {
             return refuse(NOT_UTF8, i, place(l, formed.len as u32) as u32);
         }

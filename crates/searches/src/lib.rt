@@ -1,5 +1,5 @@
 // Where the first of three bytes stands in a text: by blocks of eight, then byte by byte. Nothing is written here.
-use utf8::greater;
+use ascii::greater;
 ghost use mathlib.Core.Path.{_≡_};
 ghost use mathlib.Core.Bool.{true};
 ghost use Prim.Native.Nat.{_≤_};

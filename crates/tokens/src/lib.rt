@@ -122,6 +122,6 @@ pub fn token_end(s: &[u8], at: usize) -> Token
 pub fn is_formed(s: &[u8]) -> bool
     ensures { λ r. ⌜ r ≡ leb (length (now (s .entry))) (wellFormed (now (s .entry))) ⌝ }
 {
-    let prefix = utf8::well_formed(s);
+    let prefix = prefixes::well_formed(s);
     s.len() <= prefix.len
 }

@@ -68,10 +68,10 @@ fn try_one(sort: u8, kind: u8, at: usize, s: &[u8]) {
         }
         b'c' => {
             put(b"formed");
-            let formed = utf8::well_formed(s);
+            let formed = prefixes::well_formed(s);
             put_number(formed.len);
             put_number(formed.chars);
-            put_number(utf8::heads(s));
+            put_number(counts::heads(s));
             put_chars(s);
         }
         _ => {

@@ -1,4 +1,4 @@
--- What the two cases of a step tell of the definition's character, and of the count.
+-- What the two cases of a step tell of the definition's character.
 -- Assumes nothing.
 use mathlib.Core.Path.{_≡_, ap}
 use mathlib.Core.List.{List}
@@ -7,12 +7,10 @@ use native.Mathlib.Omega.{arith}
 use borrow.Author.Tests.{leb-true, leb-false}
 use lib.ListN.{length}
 use Rattle.definition.specs.Chars.{atEnd, code, next}
-use Rattle.definition.specs.Counts.{Count, more}
 use Rattle.utf8.specs.declared.Cursor.{Cursor}
 use Rattle.utf8.specs.declared.Step.the-variants.{Char, End}
 use Rattle.utf8.specs.Steps.{stepAt}
 use Rattle.definition.proofs.moves.CharLaws.{cases}
-use Rattle.definition_laws.proofs.moves.Counted.{Counting, count-goes}
 
 -- a character of the code c stands at i, and k is after it
 pub record Stepped (s : List ℕ) (i c : ℕ) (k : Cursor) : Type 0 where
@@ -34,9 +32,3 @@ unfolding stepAt
 step-end s i e =
     cases (atEnd s i) (λ t. leb-true _ _ t)
     (λ t. let h = rw t at e in let z : _≡_ {A = ℕ} 0 1 = cc in absurd (omega arith))
-
--- the character is counted
-pub step-counts : (s : List ℕ) (taken i c : ℕ) (k : Cursor) (n : Count) → Counting s taken i n → i < taken → stepAt s i ≡ Char c k → Counting s taken (k .at) (more c n)
-step-counts s taken i c k n K h e =
-    let S = step-char s i c k e in
-    rw (← S .code-is, ← S .next-is) (count-goes s taken i n K h (S .there))

@@ -1,4 +1,2 @@
 pub mod Classes
 pub mod Steps
-pub mod Runs
-pub mod Fits

@@ -8,7 +8,7 @@ use lib.ListN.{length}
 use Rattle.definition.specs.Counts.{counted}
 use Rattle.definition.specs.Entry.{body}
 use Rattle.definition.specs.Reading.{allChars}
-use Rattle.utf8.proofs.FirstBytes.{whole-chars}
+use Rattle.prefixes.proofs.FirstBytes.{whole-chars}
 use Rattle.entry.specs.Answers.{described}
 use Rattle.entry.specs.Literals.{literalAt, literals}
 use Rattle.entry.proofs.Literals.{chars-turn, chars-none, chars-most}

@@ -11,7 +11,7 @@ use Rattle.definition.specs.Chars.{wellFormed}
 use Rattle.definition.specs.Counts.{counted}
 use Rattle.definition.specs.Entry.{Literal, body, bad, formed, illFormed}
 use Rattle.definition_laws.proofs.moves.Counted.{counted-small, counted-end}
-use Rattle.utf8.proofs.FirstBytes.{ascii-whole}
+use Rattle.prefixes.proofs.FirstBytes.{ascii-whole}
 use Rattle.entry.specs.Answers.{described}
 use Rattle.checks.specs.Passing.{Passes}
 use Rattle.entry.proofs.Passed.{Good, not-bad, length-body}

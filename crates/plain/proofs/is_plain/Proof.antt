@@ -10,7 +10,7 @@ use lib.Dec.{ltb, leb, eqb}
 use Rattle.definition.specs.Numbers.{isBytes}
 use Rattle.definition.specs.Chars.{if_then_else_, byte}
 use Rattle.definition.proofs.moves.CharLaws.{cases, byte-is}
-use Rattle.utf8.proofs.Runs.{greatest-below}
+use Rattle.ascii.proofs.Runs.{all-part}
 use Rattle.marks.specs.Marks.{special}
 use Rattle.plain.proofs.is_plain.Statement.{statement}
 use Rattle.plain.proofs.is_plain.Tie as tie
@@ -91,15 +91,14 @@ is-plain-spec =
     (λ c κs. search needs)  -- greater-requires-5
     (λ c e. absurd (false≢true e))  -- returns
     (λ c κs. search needs)  -- is-any-bytes-requires
-    (λ c. search needs)  -- sub-greatest
-    (λ c. search needs)  -- part-greatest-start
-    (λ c. search needs)  -- part-greatest-end
-    (λ c κs. search needs)  -- greatest-requires
+    (λ c. search needs)  -- sub-is-ascii
+    (λ c. search needs)  -- part-is-ascii-start
+    (λ c. search needs)  -- part-is-ascii-end
+    (λ c κs. search needs)  -- is-ascii-requires
     (λ c e k h l.
     let a = c .before .before .before .before .before .before .before .before .before .before .args in
     let p = c .before .before .before .before .before .before .before .before .before .before .pre in
-    let z = ltb-true (c .greatest .result) 0x80 e in
-    let g = greatest-below (a .s .now) 0x80 (a .from) (a .to) (p .0) (p .1) (rw (c .greatest .ensures) at z) k h l in
+    let g = all-part (a .s .now) (a .from) (sym (c .is-ascii .ensures) ∙ e) (p .0) (p .1) k h l in
     let t = sym (c .before .before .before .is-any-bytes .ensures) ∙ c .before .before .if2 .taken in
     not-special (a .kind) (byte (a .s .now) k) (unmarked (c .before .before .before .before) k h l) (rw (t, lt-leb 0x80 (byte (a .s .now) k) g)))  -- returns-2
     (λ c e k h l.

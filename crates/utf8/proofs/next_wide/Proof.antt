@@ -18,9 +18,9 @@ unfolding ascii stepAt code next
 next-wide-spec =
     tie.close
     (tie.spec
-    (λ c κs. (search needs, refl))  -- char-len-requires
-    (λ c κs. let a = c .before .before .before .args in rw (c .char-len .ensures) (step-in (a .s .now) (a .at) (c .before .before .before .pre)))  -- decode-requires
+    (λ c κs. (search needs, refl))  -- len-in-requires
+    (λ c κs. let a = c .before .before .before .args in rw (c .len-in .ensures) (step-in (a .s .now) (a .at) (c .before .before .before .pre)))  -- decode-requires
     (λ c. search needs)  -- add-t
-    (λ c. rw (lt-leb _ _ (c .before .before .before .before .before .pre), c .before .decode .ensures, ← c .before .before .char-len .ensures, c .if1 .taken))  -- returns
-    (λ c. let a = c .before .before .before .before .before .args in omega (arith, rw (← c .before .before .char-len .ensures) at (step-in (a .s .now) (a .at) (c .before .before .before .before .before .pre))))  -- add-t-2
-    (λ c. rw (lt-leb _ _ (c .before .before .before .before .before .pre), c .before .decode .ensures, ← c .before .before .char-len .ensures, one _ (c .if1 .left))))  -- returns-2
+    (λ c. rw (lt-leb _ _ (c .before .before .before .before .before .pre), c .before .decode .ensures, ← c .before .before .len-in .ensures, c .if1 .taken))  -- returns
+    (λ c. let a = c .before .before .before .before .before .args in omega (arith, rw (← c .before .before .len-in .ensures) at (step-in (a .s .now) (a .at) (c .before .before .before .before .before .pre))))  -- add-t-2
+    (λ c. rw (lt-leb _ _ (c .before .before .before .before .before .pre), c .before .decode .ensures, ← c .before .before .len-in .ensures, one _ (c .if1 .left))))  -- returns-2

@@ -1,0 +1,4 @@
+pub mod Formed
+pub mod FirstBytes
+pub mod Common
+pub mod Fitting
