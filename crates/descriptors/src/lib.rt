@@ -1,6 +1,6 @@
 // An entry over a lent list of descriptors: it gives what the entry over their numbers gives.
+use answers::Outcome;
 use entry::Descriptor;
-use strings::Outcome;
 use strings::parse_strings;
 ghost use mathlib.Core.Path.{_≡_};
 ghost use mathlib.Core.List.{map};

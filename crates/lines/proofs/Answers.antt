@@ -15,9 +15,9 @@ use Rattle.definition_laws.proofs.outcomes.Outcomes.{Sane, read-sane}
 use Rattle.definition_laws.proofs.outcomes.Lent.{read-needs, numbers-lent}
 use Rattle.entry.specs.declared.Refusal.{Refusal as Why}
 use Rattle.entry.proofs.Checks.{clash}
-use Rattle.strings.specs.declared.Answer.{Answer as Given}
-use Rattle.strings.specs.declared.Outcome.{Outcome as Said}
-use Rattle.strings.specs.declared.Outcome.the-variants.{Accepted, Refused}
+use Rattle.answers.specs.declared.Answer.{Answer as Given}
+use Rattle.answers.specs.declared.Outcome.{Outcome as Said}
+use Rattle.answers.specs.declared.Outcome.the-variants.{Accepted, Refused}
 use Rattle.strings.specs.Strings.{CallIs}
 use Rattle.definition_lines.specs.Lines.{refusalLine, recordLines, outcomeLines, oneLiteral, bodyLines}
 use Rattle.lines.specs.Written.{Adds, placeLines, Lie, longest, Lists, Room}

@@ -27,9 +27,9 @@ use Rattle.definition_laws.proofs.outcomes.Outcomes.{Sane, read-sane, sizes}
 use Rattle.definition_laws.proofs.outcomes.Lent.{read-needs}
 use Rattle.entry.specs.declared.Refusal.{Refusal as Why}
 use Rattle.entry.proofs.Checks.{clash}
-use Rattle.strings.specs.declared.Answer.{Answer as Given}
-use Rattle.strings.specs.declared.Outcome.{Outcome as Said}
-use Rattle.strings.specs.declared.Outcome.the-variants.{Accepted, Refused}
+use Rattle.answers.specs.declared.Answer.{Answer as Given}
+use Rattle.answers.specs.declared.Outcome.{Outcome as Said}
+use Rattle.answers.specs.declared.Outcome.the-variants.{Accepted, Refused}
 use Rattle.strings.specs.Strings.{CallIs, SignsIs}
 use Rattle.lines.specs.Written.{Adds, Fits, longest, Room}
 use Rattle.lines.specs.Whys.{isField, fieldsAfter, fieldsIn, whyPlace, whyPlaces, Lies, Explains}

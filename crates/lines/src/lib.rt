@@ -1,7 +1,7 @@
 // The lines of a body, written: RFC 8259 objects for its records, or for its refusal.
 pub mod why;
 
-use strings::Outcome;
+use answers::Outcome;
 use strings::parse_strings;
 ghost use mathlib.Core.Path.{_≡_};
 ghost use mathlib.Core.List.{[], _∷_, _++_};

@@ -6,7 +6,7 @@ use crate::write_numbered;
 use crate::write_refusal;
 use crate::write_run;
 use crate::write_text;
-use strings::Outcome;
+use answers::Outcome;
 use strings::parse_signs;
 use strings::parse_strings;
 ghost use mathlib.Core.Path.{_≡_};

@@ -17,9 +17,9 @@ use Rattle.definition_scripts.specs.Listing.{ListRow, ofField, ofRefusal, tenOf
 use Rattle.entry.specs.declared.Refusal as why
 use Rattle.literals.specs.declared.Literal.{Literal}
 use Rattle.literals.specs.Answers.{literalOf, numbersOf}
-use Rattle.strings.specs.declared.Answer.{Answer}
-use Rattle.strings.specs.declared.Outcome.{Outcome}
-use Rattle.strings.specs.declared.Outcome.the-variants.{Accepted, Refused}
+use Rattle.answers.specs.declared.Answer.{Answer}
+use Rattle.answers.specs.declared.Outcome.{Outcome}
+use Rattle.answers.specs.declared.Outcome.the-variants.{Accepted, Refused}
 use Rattle.strings.specs.Strings.{SignsIs}
 use Rattle.strings.specs.Window.{windowAfter, windowInto, windowNumbers}
 use Rattle.listing.specs.Put.{Reads}

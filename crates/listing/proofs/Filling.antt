@@ -23,8 +23,8 @@ use Rattle.buffers.specs.Over.{over}
 use Rattle.buffers.proofs.Over.{over-front}
 use Rattle.sources.specs.declared.Field.{Field}
 use Rattle.listing.specs.declared.rows.Part.{Part}
-use Rattle.listing.specs.declared.List as list
-use Rattle.listing.specs.declared.Fields.the-variants.{Listed, TooLong, Short}
+use Rattle.answers.specs.declared.List as list
+use Rattle.answers.specs.declared.Fields.the-variants.{Listed, TooLong, Short}
 use Rattle.sources.specs.Source.{signsOf, rowOf, Source}
 use Rattle.told.specs.Rows.{Wrote, toldOtherwise, rowAt, rowsIn, fieldOf}
 use Rattle.told.proofs.Rows.{otherwise-told, otherwise-most, row-back, rows-back, refusals-most}

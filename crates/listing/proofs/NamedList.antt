@@ -13,7 +13,7 @@ use Rattle.definition_names.proofs.NamedShown.{named-fields}
 use Rattle.names.specs.declared.Answer.the-variants.{Entries, Refused}
 use Rattle.names.specs.Answers.{answerOf}
 use Rattle.names.proofs.Answers.{answer-refused, answer-indexed}
-use Rattle.listing.specs.declared.Fields.the-variants.{TooLong, WrongNames}
+use Rattle.answers.specs.declared.Fields.the-variants.{TooLong, WrongNames}
 use Rattle.listing.specs.Answers.{CallIs}
 
 module _ (file index s rows : List ℕ) where

@@ -3,13 +3,12 @@ use Prim.Native.Nat.{ℕ, suc, _+_, _*_, _≤_, _<_}
 use mathlib.Core.Path.{_≡_}
 use mathlib.Core.List.{List, [], _∷_}
 use lib.ListN.{length}
-use Rattle.definition.specs.Numbers.{scriptTooLong, tooLittleListRoom}
 use Rattle.definition.specs.Escapes.{Naming}
 use Rattle.definition_scripts.specs.Cut.{cut}
 use Rattle.definition_scripts.specs.Listing.{tens, reached, rowsOf, FieldsCall, fieldsNumbers}
 use Rattle.buffers.specs.Over.{over}
-use Rattle.listing.specs.declared.Fields.{Fields}
-use Rattle.listing.specs.declared.Fields.the-variants.{Listed, TooLong, WrongNames, Short}
+use Rattle.answers.specs.declared.Fields.{Fields}
+use Rattle.answers.specs.Twelve.{fieldsSays}
 use Rattle.listing.specs.declared.rows.Part.{Part}
 
 -- the rows of a script, written as long as there is room, with the literals of its cut and how far it went
@@ -20,14 +19,7 @@ pub record Filled (look : Naming) (s rows rows′ : List ℕ) (r : Part) : Type 
   pub literals : r .literals ≡ length (cut s .literals)
   pub to : r .to ≡ reached (length s) (cut s .ending)
 
--- the paper's numbers of an answer
-abbrev pub says : Fields → List ℕ
-says (Listed x) = 0 ∷ x .rows ∷ x .refusals ∷ x .literals ∷ x .to ∷ []
-says TooLong = scriptTooLong ∷ []
-says (WrongNames n) = n ∷ []
-says (Short n) = tooLittleListRoom ∷ 0 ∷ 0 ∷ 0 ∷ 0 ∷ 0 ∷ 0 ∷ 0 ∷ 0 ∷ n ∷ []
-
 -- a call of the definition: what is answered, and the row buffer afterwards
 pub record CallIs (call : FieldsCall) (rows′ : List ℕ) (r : Fields) : Type 0 where
-  pub answer : says r ≡ fieldsNumbers (call .listed)
+  pub answer : fieldsSays r ≡ fieldsNumbers (call .listed)
   pub rows : rows′ ≡ call .rows

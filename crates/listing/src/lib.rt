@@ -2,6 +2,8 @@
 mod count;
 mod rows;
 
+use answers::Fields;
+use answers::List;
 use buffers::fill_words;
 use count::count_part;
 use rows::Part;
@@ -17,22 +19,6 @@ ghost use Rattle.definition_names.specs.Names.{searched};
 ghost use Rattle.definition_names.specs.NamedReading.{fieldsNamedInto};
 ghost use Rattle.escapes.specs.Answers.{namesBy};
 ghost use Rattle.listing.specs.Answers.{Filled, CallIs};
-
-// A list: its rows, how many of them are refusals, the literals of the script, and how far it was cut.
-pub struct List {
-    pub rows: u32,
-    pub refusals: u32,
-    pub literals: u32,
-    pub to: u32,
-}
-
-// A list; or that the script is too long, the number of what is wrong with a file of names or its index, or how many rows a buffer does not hold.
-pub enum Fields {
-    Listed(List),
-    TooLong,
-    WrongNames(u32),
-    Short(u32),
-}
 
 // The rows of the script's cut and then those of the source of each row, as long as there is room.
 fn fill(script: &[u8], rows: &mut [u32], file: &[u8], index: &[u32]) -> Part

@@ -1,10 +1,10 @@
 // The rows of a literal, of a cut and of a row's source, written behind those before as long as there is room.
+use answers::Outcome;
 use literals::Literal;
 use literals::Next;
 use literals::next_literal;
 use sources::Field;
 use sources::source_end;
-use strings::Outcome;
 use strings::parse_window;
 use told::Told;
 use told::put_otherwise;

@@ -17,7 +17,7 @@ use Rattle.plans.proofs.OnePassLaw.{planned-is}
 use Rattle.buffers.specs.Over.{over}
 use Rattle.buffers.proofs.Over.{over-front, length-over}
 use Rattle.plans.specs.declared.Made.the-variants.{Cuts, Nothing}
-use Rattle.plans.specs.declared.Planned.the-variants as made
+use Rattle.answers.specs.declared.Planned.the-variants as made
 use Rattle.plans.specs.Answers.{PlanIs, PlannedIs}
 
 -- THE PLAN

@@ -5,23 +5,17 @@ use mathlib.Core.Bool.{true, false}
 use mathlib.Core.List.{List, [], _∷_, _++_}
 use mathlib.Core.Option.{Option, none, some}
 use lib.ListN.{length, replicate}
-use Rattle.definition.specs.Numbers.{tooLittleCutRoom}
 use Rattle.definition.specs.Chars.{byte, _to_, inside}
 use Rattle.definition_cuts.specs.Plan.{PlanCall, planNumbers}
 use Rattle.buffers.specs.Over.{over}
-use Rattle.plans.specs.declared.Planned.{Planned}
-use Rattle.plans.specs.declared.Planned.the-variants as planned
+use Rattle.answers.specs.declared.Planned.{Planned}
+use Rattle.answers.specs.Twelve.{planSays}
 use Rattle.plans.specs.declared.Made.{Made}
 use Rattle.plans.specs.declared.Made.the-variants.{Cuts, Nothing}
 
 -- a planner's call: its numbers, and the list afterwards
-abbrev pub says : Planned → List ℕ
-says (planned.Cuts n) = 0 ∷ 1 ∷ n ∷ []
-says planned.Nothing = 0 ∷ 0 ∷ []
-says (planned.Short n) = tooLittleCutRoom ∷ replicate 8 0 ++ (n ∷ [])
-
 abbrev pub PlannedIs : PlanCall → List ℕ → Planned → Type 0
-PlannedIs call list′ r = (says r ≡ planNumbers (call .result)) × (list′ ≡ call .list)
+PlannedIs call list′ r = (planSays r ≡ planNumbers (call .result)) × (list′ ≡ call .list)
 
 -- the bytes after i and up to j are of 80 to BF, with which no character begins
 abbrev pub Tails : List ℕ → ℕ → ℕ → Type 0

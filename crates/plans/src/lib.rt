@@ -1,4 +1,5 @@
 // Long templates broken over lines: the planner of cuts in a body of kind 1.
+use answers::Planned;
 use buffers::fill_words;
 use buffers::put_word;
 use offsets::is_tail;
@@ -98,13 +99,6 @@ fn plan_into(s: &[u8], limit: u32, list: &mut [u32]) -> Made
         }
     }
     Made::Cuts(n)
-}
-
-// A plan: how many cuts it has; there is none; or the list is short, and how many there are.
-pub enum Planned {
-    Cuts(u32),
-    Nothing,
-    Short(u32),
 }
 
 // The plan of cuts for a body of kind 1, written from the front of a list; zeros throughout if there is none, or too little room.

@@ -25,14 +25,15 @@ use Rattle.definition_replay_laws.proofs.spec.SpecLaws.{both-true}
 use Rattle.buffers.specs.Over.{over}
 use Rattle.buffers.proofs.Over.{over-front}
 use Rattle.entry.specs.declared.Refusal.{Refusal as Why}
-use Rattle.strings.specs.declared.Answer.{Answer as Read}
-use Rattle.strings.specs.declared.Outcome.the-variants.{Accepted, Refused}
+use Rattle.answers.specs.declared.Answer.{Answer as Read}
+use Rattle.answers.specs.declared.Outcome.the-variants.{Accepted, Refused}
 use Rattle.strings.specs.Strings.{CallIs}
-use Rattle.replay.specs.declared.Replay.{Replay}
-use Rattle.replay.specs.declared.Replay.the-variants as variants
+use Rattle.answers.specs.declared.Replay.{Replay}
+use Rattle.answers.specs.declared.Replay.the-variants as variants
 use Rattle.replay.specs.Walk.{Stand, fieldsMade, saysCount}
 use Rattle.replay.specs.Lines.{AllAre, LinesAre}
-use Rattle.replay.specs.Answers.{readNumbers, says, ReplayIs, Holds, replayOf, Cleared}
+use Rattle.answers.specs.Twelve.{readNumbers, replaySays as says}
+use Rattle.replay.specs.Answers.{ReplayIs, Holds, replayOf, Cleared}
 use Rattle.replay.proofs.Walking.{stand-whole}
 use Rattle.replay.proofs.Lining.{both-made}
 use Rattle.replay.proofs.AllLines.{row-fine}

@@ -8,23 +8,13 @@ use Rattle.definition.specs.Reading.{accepts, zeros, numbers}
 use Rattle.definition.specs.Words.{recordsFrom}
 use Rattle.definition_replay.specs.Replay.{ReplayCall, replayCall, replayNumbersOf}
 use Rattle.definition_laws.proofs.outcomes.Outcomes.{Gapless}
-use Rattle.strings.specs.declared.Answer.{Answer as Read}
-use Rattle.replay.specs.declared.Replay.{Replay}
-use Rattle.replay.specs.declared.Replay.the-variants.{Replayed, Unread, Stopped}
-
--- the numbers of a reading
-abbrev pub readNumbers : Read → List ℕ
-readNumbers x = 0 ∷ x .sort ∷ x .mark ∷ x .start ∷ x .end ∷ x .records ∷ x .text ∷ 0 ∷ x .chars ∷ []
-
--- the numbers of an answer
-abbrev pub says : Replay → List ℕ
-says (Replayed l) = readNumbers (l .reading) ++ (l .rows ∷ l .bytes ∷ [])
-says (Unread r) = r .number ∷ r .literal ∷ r .place ∷ r .a ∷ r .b ∷ r .opened ∷ r .line ∷ r .column ∷ r .chars ∷ []
-says (Stopped s) = s .number ∷ replicate 8 0 ++ (s .told ∷ [])
+use Rattle.answers.specs.declared.Answer.{Answer as Read}
+use Rattle.answers.specs.declared.Replay.{Replay}
+use Rattle.answers.specs.Twelve.{readNumbers, replaySays}
 
 -- a call of the definition: what is answered, and the three buffers afterwards
 pub record ReplayIs (call : ReplayCall) (words′ text′ output′ : List ℕ) (r : Replay) : Type 0 where
-  pub answer : says r ≡ replayNumbersOf (call .result)
+  pub answer : replaySays r ≡ replayNumbersOf (call .result)
   pub words : words′ ≡ call .words
   pub text : text′ ≡ call .text
   pub output : output′ ≡ call .output

@@ -1,5 +1,8 @@
 // A recorded trace replayed through a template: for each row the line that Python would write, then byte 10.
-use strings::Outcome;
+use answers::Lines;
+use answers::Outcome;
+use answers::Replay;
+use answers::Stop;
 use strings::parse_strings;
 use traces::number_of;
 ghost use mathlib.Core.Path.{_≡_};
@@ -14,7 +17,7 @@ ghost use Rattle.definition.specs.Records.{Record, Answer};
 ghost use Rattle.definition_replay.specs.Replay.{itemsFrom, partsFrom, replayNumbers};
 ghost use Rattle.formats.specs.Parts.{FormIs};
 ghost use Rattle.buffers.specs.Over.{over};
-ghost use Rattle.replay.specs.declared.Replay.the-variants.{Stopped};
+ghost use Rattle.answers.specs.declared.Replay.the-variants.{Stopped};
 ghost use Rattle.replay.specs.Answers.{ReplayIs, Holds, replayOf, Cleared};
 ghost use Rattle.replay.specs.Lines.{Writes, FieldIs, LineIs, LinesAre};
 ghost use Rattle.replay.specs.Walk.{Sized, Stand, BelowIs, PlaceIs, StepIs, stepNumbers, heldStep, Held, fieldPart, numberIn, fieldsMade, saysCount};
@@ -28,26 +31,6 @@ const TOO_LITTLE_LINE_ROOM: u32 = 73;
 const MOST_BYTES: usize = 0xFFFFFFFF;
 
 const HELD_STEPS: usize = 32;
-
-// The lines that were written: the template's reading, how many rows there are, and how many bytes their lines have.
-pub struct Lines {
-    pub reading: strings::Answer,
-    pub rows: u32,
-    pub bytes: u32,
-}
-
-// A refusal of 68 to 73, and what is told of it: the field or the row, from 0, or the bytes that are needed; at most 4,294,967,295.
-pub struct Stop {
-    pub number: u32,
-    pub told: u32,
-}
-
-// A replay: the lines; the template's own refusal; or one of 68 to 73.
-pub enum Replay {
-    Replayed(Lines),
-    Unread(entry::Refusal),
-    Stopped(Stop),
-}
 
 // The records that stand below one: whether a field is among them, the number of the record behind them, and where their texts end.
 pub(crate) struct Below {
@@ -581,7 +564,7 @@ fn refuse(number: u32, told: usize, words: &mut [u32], text: &mut [u8], output: 
 
 // Replays a trace through the template that lies in words and text.
 fn replay_read(
-    x: strings::Answer,
+    x: answers::Answer,
     trace: &[u8],
     words: &mut [u32],
     text: &mut [u8],

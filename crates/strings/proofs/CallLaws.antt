@@ -23,10 +23,11 @@ use Rattle.entry.proofs.Checks.{room-enough}
 use Rattle.entry.proofs.Passed.{passed-reads}
 use Rattle.bodies.specs.declared.Written.{Written}
 use Rattle.bodies.specs.Lists.{readFlat, answerFor, Landed, DoneIs, RefusedIs}
-use Rattle.strings.specs.declared.Outcome.{Outcome}
-use Rattle.strings.specs.declared.Outcome.the-variants.{Accepted, Refused}
+use Rattle.answers.specs.declared.Outcome.{Outcome}
+use Rattle.answers.specs.declared.Outcome.the-variants.{Accepted, Refused}
 use Rattle.strings.specs.Strings as made
-use Rattle.strings.specs.Strings.{listed, Few, says, isAccepted, CallIs}
+use Rattle.answers.specs.Twelve.{readingSays as says}
+use Rattle.strings.specs.Strings.{listed, Few, isAccepted, CallIs}
 
 -- the sort of literals, by what they have
 pub sort-joined : (ls : List Literal) → anyOf isFString ls ≡ true → sortNumber (sortOf ls) ≡ 1

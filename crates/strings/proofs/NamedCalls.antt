@@ -16,7 +16,7 @@ use Rattle.entry.proofs.Passed.{passed}
 use Rattle.names.specs.declared.Answer.the-variants.{Entries, Refused}
 use Rattle.names.specs.Answers.{answerOf}
 use Rattle.names.proofs.Answers.{answer-refused, answer-indexed}
-use Rattle.strings.specs.declared.Outcome.{Outcome}
+use Rattle.answers.specs.declared.Outcome.{Outcome}
 use Rattle.strings.specs.Strings.{CallIs}
 
 -- a call by one lookup is the call by another that is the same

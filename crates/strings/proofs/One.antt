@@ -7,10 +7,11 @@ use lib.ListN.{getD}
 use Rattle.definition.specs.Reading.{Call}
 use Rattle.definition.specs.Rows.{SignsCall}
 use Rattle.entry.specs.declared.Refusal.{Refusal}
-use Rattle.strings.specs.declared.Answer.{Answer}
-use Rattle.strings.specs.declared.Outcome.{Outcome}
-use Rattle.strings.specs.declared.Outcome.the-variants.{Accepted, Refused}
-use Rattle.strings.specs.Strings.{says, isAccepted, CallIs, SignsIs}
+use Rattle.answers.specs.declared.Answer.{Answer}
+use Rattle.answers.specs.declared.Outcome.{Outcome}
+use Rattle.answers.specs.declared.Outcome.the-variants.{Accepted, Refused}
+use Rattle.answers.specs.Twelve.{readingSays as says}
+use Rattle.strings.specs.Strings.{isAccepted, CallIs, SignsIs}
 
 answer-one : (x y : Answer) → says (Accepted x) ≡ says (Accepted y) → x ≡ y
 answer-one x y e =

@@ -20,9 +20,9 @@ use Rattle.buffers.specs.Over.{over}
 use Rattle.entry.specs.Answers.{refusalOf}
 use Rattle.entry.specs.declared.Refusal as why
 use Rattle.entry.proofs.Checks.{room-enough}
-use Rattle.strings.specs.declared.Answer.{Answer}
-use Rattle.strings.specs.declared.Outcome.{Outcome}
-use Rattle.strings.specs.declared.Outcome.the-variants.{Accepted, Refused}
+use Rattle.answers.specs.declared.Answer.{Answer}
+use Rattle.answers.specs.declared.Outcome.{Outcome}
+use Rattle.answers.specs.declared.Outcome.the-variants.{Accepted, Refused}
 use Rattle.strings.specs.Window.{windowAfter, windowInto, windowNumbers}
 use Rattle.strings.specs.Strings as made
 use Rattle.strings.specs.Strings.{listed, SignsIs}

@@ -12,14 +12,10 @@ use Rattle.entry.specs.Literals.{literals}
 use Rattle.bodies.specs.declared.Written.{Written}
 use Rattle.bodies.specs.Emit as e
 use Rattle.bodies.specs.Lists.{wholeFor}
-use Rattle.strings.specs.declared.Answer.{Answer}
-use Rattle.strings.specs.declared.Outcome.{Outcome}
-use Rattle.strings.specs.declared.Outcome.the-variants.{Accepted, Refused}
-
--- the numbers of an answer (RULES 5.1, 5.6)
-abbrev pub says : Outcome → List ℕ
-says (Accepted x) = 0 ∷ x .sort ∷ x .mark ∷ x .start ∷ x .end ∷ x .records ∷ x .text ∷ 0 ∷ x .chars ∷ []
-says (Refused r) = r .number ∷ r .literal ∷ r .place ∷ r .a ∷ r .b ∷ r .opened ∷ r .line ∷ r .column ∷ r .chars ∷ []
+use Rattle.answers.specs.declared.Answer.{Answer}
+use Rattle.answers.specs.declared.Outcome.{Outcome}
+use Rattle.answers.specs.declared.Outcome.the-variants.{Accepted, Refused}
+use Rattle.answers.specs.Twelve.{readingSays}
 
 -- whether an answer is an acceptance, and whether an outcome is one
 abbrev pub isAccepted : Outcome → Bool
@@ -47,12 +43,12 @@ answerOf ls records text chars =
 -- a call of the definition: what is answered, and both buffers afterwards
 pub record CallIs (call : Call) (words′ text′ : List ℕ) (r : Outcome) : Type 0 where
   pub accepted : isAccepted r ≡ isAcceptance (call .outcome)
-  pub answer : says r ≡ numbers (call .outcome)
+  pub answer : readingSays r ≡ numbers (call .outcome)
   pub words : words′ ≡ call .words
   pub text : text′ ≡ call .text
 
 -- a call of the definition for rows: what is answered, and the row buffer afterwards
 pub record SignsIs (call : SignsCall) (rows′ : List ℕ) (r : Outcome) : Type 0 where
   pub accepted : isAccepted r ≡ isAcceptance (call .outcome)
-  pub answer : says r ≡ rowedNumbers (call .outcome)
+  pub answer : readingSays r ≡ rowedNumbers (call .outcome)
   pub rows : rows′ ≡ call .rows

@@ -1,4 +1,6 @@
 // String literals read to records and one text: the first refusal, or all records in order.
+use answers::Answer;
+use answers::Outcome;
 use bodies::Reading;
 use bodies::Written;
 use entry::Checked;
@@ -18,26 +20,9 @@ ghost use Rattle.definition_names.specs.NamedReading.{namedNumbers};
 ghost use Rattle.escapes.specs.Answers.{namesBy};
 ghost use Rattle.entry.specs.Answers.{refusalOf};
 ghost use Rattle.bodies.specs.Lists.{DoneIs};
-ghost use Rattle.strings.specs.declared.Outcome.the-variants.{Refused};
+ghost use Rattle.answers.specs.declared.Outcome.the-variants.{Refused};
 ghost use Rattle.strings.specs.Strings.{listed, Few, answerOf, CallIs, SignsIs};
 ghost use Rattle.strings.specs.Window.{windowNumbers};
-
-// An acceptance: its sort (0 plain, 1 joined, 2 bytes), u mark, first start, last end, how many records and text bytes it has, and how many
-// characters were read.
-pub struct Answer {
-    pub sort: u32,
-    pub mark: u32,
-    pub start: u32,
-    pub end: u32,
-    pub records: u32,
-    pub text: u32,
-    pub chars: u32,
-}
-
-pub enum Outcome {
-    Accepted(Answer),
-    Refused(entry::Refusal),
-}
 
 // A refusal: both buffers are filled with zeros.
 fn refuse(words: &mut [u32], text: &mut [u8], r: entry::Refusal) -> Outcome

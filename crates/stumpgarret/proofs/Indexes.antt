@@ -5,7 +5,7 @@ use Prim.Native.Nat.{ℕ}
 use Rattle.definition.specs.Reading.{Outcome, accepts, refuses}
 use Rattle.definition_names.specs.Names.{indexNumbers}
 use Rattle.names.specs.Answers.{answerOf}
-use Rattle.twelve.specs.Twelve.{indexSays}
+use Rattle.twelve.specs.Index.{indexSays}
 
 pub index-says : (o : Outcome (List ℕ)) → indexSays (answerOf o) ≡ indexNumbers o
 unfolding indexNumbers

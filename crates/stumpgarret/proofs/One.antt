@@ -20,7 +20,7 @@ use Rattle.definition_replay_laws.proofs.replay.ReplayOne.{replay-one}
 use Rattle.definition_formed.specs.Formed.{Lent}
 use Rattle.definition_revisions.specs.Revisions.{compareInto, compareNumbers}
 use Rattle.definition_revisions.proofs.laws.Told.{compare-one}
-use Rattle.twelve.specs.Twelve.{twelve}
+use Rattle.answers.specs.Twelve.{twelve}
 use Rattle.stumpgarret.specs.Calls.{CallIs, ListIs, FieldsIs, ReplayIs, CompareIs}
 
 zeros-word : (n k : ℕ) → word (replicate n 0) k ≡ 0

@@ -11,7 +11,7 @@ use Rattle.definition_replay.specs.Replay.{ReplayCall, replayNumbersOf}
 use Rattle.definition_revisions.specs.Revisions.{CompareCall, compareNumbers}
 use Rattle.definition_written.specs.Written.{WrittenCall, writtenNumbers}
 use Rattle.definition_cuts.specs.Plan.{PlanCall, planNumbers}
-use Rattle.twelve.specs.Twelve.{twelve}
+use Rattle.answers.specs.Twelve.{twelve}
 
 -- a call of the definition: the twelve numbers, and both buffers afterwards
 pub record CallIs (call : Call) (answer words text : List ℕ) : Type 0 where

@@ -26,7 +26,7 @@ ghost use Rattle.definition_revisions.specs.Revisions.{compareInto};
 ghost use Rattle.definition_written.specs.Written.{writtenInto};
 ghost use Rattle.definition_cuts.specs.Cuts.{checked};
 ghost use Rattle.definition_cuts.specs.Plan.{planInto};
-ghost use Rattle.twelve.specs.Twelve.{twelve};
+ghost use Rattle.answers.specs.Twelve.{twelve};
 ghost use Rattle.stumpgarret.specs.Calls.{CallIs, SignsIs, ListIs, FieldsIs, IndexIs, ReplayIs, CompareIs, WriteIs, PlanIs};
 
 // Reads the literals whose numbers are listed, six for each, from a script into both buffers, and answers in twelve numbers.
@@ -40,7 +40,7 @@ pub extern "C" fn stumpgarret_read(
 )
     ensures { λ _. ⌜ CallIs (readNumbers heldNames (now (script .entry)) (now (literals .entry)) (now (words .entry)) (now (text .entry))) (now (answer .exit)) (now (words .exit)) (now (text .exit)) ⌝ }
 {
-    *answer = twelve::of_reading(parse_strings(script, literals, words, text));
+    *answer = answers::of_reading(parse_strings(script, literals, words, text));
 }
 
 // Reads the literals as `stumpgarret_read` does, writes the row of each field, ten numbers for each, and answers in twelve numbers.
@@ -53,7 +53,7 @@ pub extern "C" fn stumpgarret_signs(
 )
     ensures { λ _. ⌜ SignsIs (signsNumbers heldNames (now (script .entry)) (now (literals .entry)) (now (rows .entry))) (now (answer .exit)) (now (rows .exit)) ⌝ }
 {
-    *answer = twelve::of_reading(parse_signs(script, literals, rows));
+    *answer = answers::of_reading(parse_signs(script, literals, rows));
 }
 
 // Lists the adjacent literals of a script from an offset on, six numbers for each, and answers in twelve numbers.
@@ -82,7 +82,7 @@ pub extern "C" fn stumpgarret_cut(script: &[u8], numbers: &mut [u32], answer: &m
 pub extern "C" fn stumpgarret_fields(script: &[u8], rows: &mut [u32], answer: &mut [u32; 12])
     ensures { λ _. ⌜ FieldsIs (fieldsInto heldNames (now (script .entry)) (now (rows .entry))) (now (answer .exit)) (now (rows .exit)) ⌝ }
 {
-    *answer = twelve::of_fields(list_fields(script, rows));
+    *answer = answers::of_fields(list_fields(script, rows));
 }
 
 // Lists them as `stumpgarret_fields` does, with the names of a file, which is checked with its index once.
@@ -96,7 +96,7 @@ pub extern "C" fn stumpgarret_fields_named(
 )
     ensures { λ _. ⌜ FieldsIs (fieldsNamedInto (now (file .entry)) (now (index .entry)) (now (script .entry)) (now (rows .entry))) (now (answer .exit)) (now (rows .exit)) ⌝ }
 {
-    *answer = twelve::of_fields(list_named(script, file, index, rows));
+    *answer = answers::of_fields(list_named(script, file, index, rows));
 }
 
 // Builds the index of a file of names at the front of a list, and answers in twelve numbers.
@@ -128,7 +128,7 @@ pub extern "C" fn stumpgarret_read_named(
 )
     ensures { λ _. ⌜ CallIs (namedNumbers (now (file .entry)) (now (index .entry)) (now (script .entry)) (now (literals .entry)) (now (words .entry)) (now (text .entry))) (now (answer .exit)) (now (words .exit)) (now (text .exit)) ⌝ }
 {
-    *answer = twelve::of_reading(parse_named(script, literals, file, index, words, text));
+    *answer = answers::of_reading(parse_named(script, literals, file, index, words, text));
 }
 
 // Reads the literals as `stumpgarret_read` does, with names searched in a file by whatever index is lent.
@@ -144,7 +144,7 @@ pub extern "C" fn stumpgarret_read_searched(
 )
     ensures { λ _. ⌜ CallIs (readNumbers (searched (now (file .entry)) (now (index .entry))) (now (script .entry)) (now (literals .entry)) (now (words .entry)) (now (text .entry))) (now (answer .exit)) (now (words .exit)) (now (text .exit)) ⌝ }
 {
-    *answer = twelve::of_reading(parse_searched(script, literals, file, index, words, text));
+    *answer = answers::of_reading(parse_searched(script, literals, file, index, words, text));
 }
 
 // Replays a trace through the template that the literals are, reading it into words and text, a line for each row, and answers in twelve numbers.
@@ -160,7 +160,7 @@ pub extern "C" fn stumpgarret_replay(
 )
     ensures { λ _. ⌜ ReplayIs (replayNumbers heldNames (now (script .entry)) (now (literals .entry)) (now (trace .entry)) (now (words .entry)) (now (text .entry)) (now (output .entry))) (now (answer .exit)) (now (words .exit)) (now (text .exit)) (now (output .exit)) ⌝ }
 {
-    *answer = twelve::of_replay(replay_trace(script, literals, trace, words, text, output));
+    *answer = answers::of_replay(replay_trace(script, literals, trace, words, text, output));
 }
 
 // Tells the parts of a format specification in twelve numbers.
@@ -200,7 +200,7 @@ pub extern "C" fn stumpgarret_write(
 )
     ensures { λ _. ⌜ WriteIs (writtenInto heldNames (lent (now (reading .entry)) (now (words .entry)) (now (text .entry))) (now (body .entry))) (now (answer .exit)) (now (body .exit)) ⌝ }
 {
-    *answer = twelve::of_writing(written::write(reading, words, text, body));
+    *answer = answers::of_writing(written::write(reading, words, text, body));
 }
 
 // Checks cut offsets in a body of kind 1 whose pieces may have so many bytes, and answers in twelve numbers.
@@ -226,5 +226,5 @@ pub extern "C" fn stumpgarret_cuts_plan(
 )
     ensures { λ _. ⌜ PlanIs (planInto (now (body .entry)) limit (now (offsets .entry))) (now (answer .exit)) (now (offsets .exit)) ⌝ }
 {
-    *answer = twelve::of_plan(plans::plan(body, limit, offsets));
+    *answer = answers::of_plan(plans::plan(body, limit, offsets));
 }

@@ -20,7 +20,7 @@ use Rattle.definition_written_laws.proofs.passes.WrittenLaw.{writable-parts, en
 use Rattle.buffers.proofs.Over.{over-front}
 use Rattle.formed.specs.Good.{recordsAt}
 use Rattle.formed.proofs.Goods.{formed-lies}
-use Rattle.written.specs.declared.Writing.the-variants.{Wrote, Stopped}
+use Rattle.answers.specs.declared.Writing.the-variants.{Wrote, Stopped}
 use Rattle.written.specs.Going.{Rules, Spells}
 use Rattle.written.specs.Answers.{WrittenIs}
 

@@ -4,15 +4,10 @@ use mathlib.Core.Path.{_≡_}
 use mathlib.Core.List.{List, [], _∷_, _++_}
 use lib.ListN.{replicate}
 use Rattle.definition_written.specs.Written.{WrittenCall, writtenNumbers}
-use Rattle.written.specs.declared.Writing.{Writing}
-use Rattle.written.specs.declared.Writing.the-variants.{Wrote, Stopped}
-
--- the numbers of an answer
-abbrev pub says : Writing → List ℕ
-says (Wrote n) = 0 ∷ n ∷ []
-says (Stopped s) = s .number ∷ replicate 8 0 ++ (s .needed ∷ [])
+use Rattle.answers.specs.declared.Writing.{Writing}
+use Rattle.answers.specs.Twelve.{writingSays}
 
 -- a call of the definition: what is answered, and the body afterwards
 pub record WrittenIs (call : WrittenCall) (body′ : List ℕ) (r : Writing) : Type 0 where
-  pub answer : says r ≡ writtenNumbers (call .result)
+  pub answer : writingSays r ≡ writtenNumbers (call .result)
   pub body : body′ ≡ call .body

@@ -2,6 +2,8 @@
 mod spell;
 mod turns;
 
+use answers::Unwritten;
+use answers::Writing;
 use buffers::fill;
 use formed::is_formed;
 use formed::number_at;
@@ -19,21 +21,9 @@ ghost use Rattle.definition.specs.Reading.{zeros};
 ghost use Rattle.definition_formed.specs.Formed.{lent};
 ghost use Rattle.definition_written.specs.Written.{writtenInto};
 ghost use Rattle.formed.specs.Good.{recordsAt};
-ghost use Rattle.written.specs.declared.Writing.the-variants.{Stopped};
+ghost use Rattle.answers.specs.declared.Writing.the-variants.{Stopped};
 ghost use Rattle.written.specs.Going.{Rules, Spells};
 ghost use Rattle.written.specs.Answers.{WrittenIs};
-
-// A refusal's number, and how many bytes are needed, 0 for none told.
-pub struct Stop {
-    pub number: u32,
-    pub needed: u32,
-}
-
-// How many bytes were written, or a refusal.
-pub enum Writing {
-    Wrote(u32),
-    Stopped(Stop),
-}
 
 const MOST_BYTES: usize = 1048576;
 
@@ -73,7 +63,7 @@ fn refuse(number: u32, needed: u32, body: &mut [u8]) -> Writing
     ensures { λ r. ⌜ (r ≡ Stopped (record { number = number; needed = needed })) × (now (body .exit) ≡ zeros (now (body .entry))) ⌝ }
 {
     fill(body, 0);
-    Writing::Stopped(Stop { number, needed })
+    Writing::Stopped(Unwritten { number, needed })
 }
 
 // Writes the body of a joined answer that is lent: its numbers, words and text.

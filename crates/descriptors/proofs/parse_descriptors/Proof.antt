@@ -60,9 +60,9 @@ use Rattle.entry.specs.declared.Descriptor.{Descriptor}
 use Rattle.entry.proofs.Descriptor as T
 use Rattle.entry.proofs.Descriptor.Laws as T′
 use Rattle.strings.specs.Strings.{CallIs}
-use Rattle.strings.specs.declared.Outcome.{Outcome}
-use Rattle.strings.proofs.Outcome as S
-use Rattle.strings.proofs.Outcome.Laws as S′
+use Rattle.answers.specs.declared.Outcome.{Outcome}
+use Rattle.answers.proofs.Outcome as S
+use Rattle.answers.proofs.Outcome.Laws as S′
 use Rattle.descriptors.specs.Descriptors.{six}
 use Rattle.descriptors.proofs.Flattened.{counted, copied, copied-none, copied-more, read-copied}
 use Rattle.descriptors.proofs.taken as taken

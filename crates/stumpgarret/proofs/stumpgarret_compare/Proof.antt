@@ -2,7 +2,7 @@
 use borrow.Author.Needs.{needs}
 use mathlib.Core.Path.{_∙_, ap}
 use Rattle.definition_revisions.specs.Revisions.{compareNumbers}
-use Rattle.twelve.specs.Twelve.{twelve}
+use Rattle.answers.specs.Twelve.{twelve}
 use Rattle.stumpgarret.proofs.stumpgarret_compare.Statement.{statement}
 use Rattle.stumpgarret.proofs.stumpgarret_compare.Tie as tie
 

@@ -2,7 +2,7 @@
 use borrow.Author.Needs.{needs}
 use mathlib.Core.Path.{_∙_, ap}
 use mathlib.Core.List.{[], _∷_}
-use Rattle.twelve.specs.Twelve.{twelve}
+use Rattle.answers.specs.Twelve.{twelve}
 use Rattle.stumpgarret.proofs.stumpgarret_cuts_check.Statement.{statement}
 use Rattle.stumpgarret.proofs.stumpgarret_cuts_check.Tie as tie
 

@@ -1,6 +1,6 @@
 -- `twelve::of_check` meets its contract. Assumes nothing.
 use mathlib.Core.Path.{refl}
-use Rattle.twelve.specs.Twelve.{twelve}
+use Rattle.answers.specs.Twelve.{twelve}
 use Rattle.twelve.proofs.of_check.Statement.{statement}
 use Rattle.twelve.proofs.of_check.Tie as tie
 

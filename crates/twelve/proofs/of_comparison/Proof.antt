@@ -3,7 +3,7 @@ use borrow.Author.Needs.{needs}
 use mathlib.Core.Path.{refl}
 use Rattle.definition_revisions.specs.Revisions.{compareNumbers, middle}
 use Rattle.definition_revisions.proofs.laws.Told.{counting-length}
-use Rattle.twelve.specs.Twelve.{twelve}
+use Rattle.answers.specs.Twelve.{twelve}
 use Rattle.twelve.proofs.of_comparison.Statement.{statement}
 use Rattle.twelve.proofs.of_comparison.Tie as tie
 

@@ -1,7 +1,7 @@
 -- `twelve::of_literals` meets its contract. Assumes nothing.
 use borrow.Author.Needs.{needs}
 use mathlib.Core.Path.{refl}
-use Rattle.twelve.specs.Twelve.{twelve}
+use Rattle.answers.specs.Twelve.{twelve}
 use Rattle.twelve.proofs.of_literals.Statement.{statement}
 use Rattle.twelve.proofs.of_literals.Tie as tie
 

@@ -1,9 +1,9 @@
--- `twelve::of_reading` meets its contract. Assumes nothing.
+-- `answers::of_reading` meets its contract. Assumes nothing.
 use borrow.Author.Needs.{needs}
 use mathlib.Core.Path.{refl}
-use Rattle.twelve.specs.Twelve.{twelve}
-use Rattle.twelve.proofs.of_reading.Statement.{statement}
-use Rattle.twelve.proofs.of_reading.Tie as tie
+use Rattle.answers.specs.Twelve.{twelve}
+use Rattle.answers.proofs.of_reading.Statement.{statement}
+use Rattle.answers.proofs.of_reading.Tie as tie
 
 pub of-reading-spec : {M : Type 1} → statement M
 unfolding twelve

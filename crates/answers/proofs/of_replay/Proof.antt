@@ -1,9 +1,9 @@
--- `twelve::of_replay` meets its contract. Assumes nothing.
+-- `answers::of_replay` meets its contract. Assumes nothing.
 use borrow.Author.Needs.{needs}
 use mathlib.Core.Path.{refl, _∙_}
-use Rattle.twelve.specs.Twelve.{twelve}
-use Rattle.twelve.proofs.of_replay.Statement.{statement}
-use Rattle.twelve.proofs.of_replay.Tie as tie
+use Rattle.answers.specs.Twelve.{twelve}
+use Rattle.answers.proofs.of_replay.Statement.{statement}
+use Rattle.answers.proofs.of_replay.Tie as tie
 
 pub of-replay-spec : {M : Type 1} → statement M
 unfolding twelve

@@ -1,9 +1,9 @@
--- `twelve::of_writing` meets its contract. Assumes nothing.
+-- `answers::of_writing` meets its contract. Assumes nothing.
 use borrow.Author.Needs.{needs}
 use mathlib.Core.Path.{refl}
-use Rattle.twelve.specs.Twelve.{twelve}
-use Rattle.twelve.proofs.of_writing.Statement.{statement}
-use Rattle.twelve.proofs.of_writing.Tie as tie
+use Rattle.answers.specs.Twelve.{twelve}
+use Rattle.answers.proofs.of_writing.Statement.{statement}
+use Rattle.answers.proofs.of_writing.Tie as tie
 
 pub of-writing-spec : {M : Type 1} → statement M
 unfolding twelve
