@@ -3,15 +3,13 @@ use Prim.Native.Nat.{ℕ, _≤_, _<_}
 use mathlib.Core.Path.{_≡_}
 use mathlib.Core.List.{List, [], _∷_}
 use lib.ListN.{length}
-use mathlib.Core.Bool.{true, false}
-use Rattle.definition.specs.Chars.{byte}
 use Rattle.definition.specs.Numbers.{tooLittleListRoom}
 use Rattle.definition.specs.Entry as d
 use Rattle.definition.specs.Entry.{refusal}
 use Rattle.definition.specs.Reading.{Outcome, accepts, refuses}
-use Rattle.definition_scripts.specs.Opening.{opens, isSign}
+use Rattle.definition_scripts.specs.Opening.{opens}
 use Rattle.definition_scripts.specs.IsCut.{reachesEnd, breaksOff}
-use Rattle.definition_scripts.specs.Cut.{begins, cutFrom, firstCut}
+use Rattle.definition_scripts.specs.Cut.{cutFrom, firstCut}
 use Rattle.definition_scripts.specs.Literals as s
 use Rattle.definition_scripts.specs.Literals.{flat, fitting, ListCall, listNumbers}
 use Rattle.buffers.specs.Over.{over}
@@ -80,16 +78,6 @@ says (Short needed) = tooLittleListRoom ∷ 0 ∷ 0 ∷ 0 ∷ 0 ∷ 0 ∷ 0 ∷ 
 pub record CallIs (call : ListCall) (list : List ℕ) (r : Listing) : Type 0 where
   pub answer : says r ≡ listNumbers (call .listing)
   pub left : list ≡ call .list
-
--- a place from which the cut goes on as from an earlier one
-pub record Skips (s : List ℕ) (at j : ℕ) : Type 0 where
-  pub ahead : at ≤ j
-  pub same : cutFrom s at ≡ cutFrom s j
-
--- such a place that is the end, a comment's or a literal's
-pub record Reaches (s : List ℕ) (at j : ℕ) : Type 0 where
-  pub skips : Skips s at j
-  pub stands : j < length s → isSign (byte s j) ≡ false → begins s j ≡ true
 
 -- what the cut from a place on has next, in a script that is not too long
 abbrev pub NextIs : List ℕ → ℕ → Next → Type 0

@@ -1,28 +1,25 @@
 // The adjacent literals of a script from an offset on, and what is passed over after each. The cut of a whole script, literal by literal.
+use gaps::near;
 use scans::Closing;
 use scans::NO_KIND;
 use scans::closing_from;
 use scans::comment_end;
 use scans::line_end;
-use scans::mark_from;
 use scans::opens;
 use scans::tripled;
-use words::apart;
 use words::byte_at;
 ghost use mathlib.Core.Path.{_≡_};
 ghost use mathlib.Core.List.{List};
 ghost use Prim.Native.Nat.{ℕ, _*_, _≤_};
 ghost use lib.ListN.{length};
 ghost use Rattle.definition.specs.Numbers.{prefix};
-ghost use Rattle.definition_scripts.specs.Opening.{quotes, firstAt};
+ghost use Rattle.definition_scripts.specs.Opening.{quotes};
 ghost use Rattle.definition.specs.Reading.{zeros};
 ghost use Rattle.definition_scripts.specs.Literals as s;
 ghost use Rattle.definition_scripts.specs.Literals.{literalAt, blankCase, passed, run, listed, listInto, literalsInto};
-ghost use Rattle.definition_scripts.specs.Cut.{begins};
 ghost use Rattle.definition_scripts.specs.CutList.{cutListed, cutInto};
 ghost use Rattle.buffers.specs.Over.{over};
-ghost use Rattle.scans.specs.Scans.{cutMark};
-ghost use Rattle.literals.specs.Answers.{Within, foundOf, blankOf, numbersOf, Wrote, RanIs, Few, CallIs, Skips, Reaches, NextIs};
+ghost use Rattle.literals.specs.Answers.{Within, foundOf, blankOf, numbersOf, Wrote, RanIs, Few, CallIs, NextIs};
 
 // A literal: six numbers.
 pub struct Literal {
@@ -270,52 +267,6 @@ pub fn list_literals(script: &[u8], offset: u32, numbers: &mut [u32]) -> Listing
     }
     let r = list_run(script, from, numbers);
     finish(numbers, r)
-}
-
-// Whether a literal begins at an index of a script that is cut.
-fn begins(s: &[u8], at: usize) -> bool
-    ensures { λ r. ⌜ r ≡ begins (now (s .entry)) at ⌝ }
-{
-    let kind = opens(s, at);
-    if NO_KIND <= kind {
-        return false;
-    }
-    if kind == 0 {
-        return true;
-    }
-    apart(s, at)
-}
-
-// Where a cut that has come to an index may go on: at the first quote or `#` or the end, or two bytes before a mark that a word ends at, for a prefix.
-fn prefix_from(s: &[u8], at: usize, to: usize) -> usize
-    requires { ⌜ to ≡ firstAt cutMark (now s) at ⌝ }
-    ensures { λ r. ⌜ (r ≤ to) × Skips (now (s .entry)) at r ⌝ }
-{
-    if s.len() <= to {
-        return to;
-    }
-    if apart(s, to) {
-        return to;
-    }
-    if to - at <= 2 {
-        return at;
-    }
-    to - 2
-}
-
-// Where a cut that has come to an index goes on: at the next literal or `#`, or the end.
-fn near(s: &[u8], at: usize) -> usize
-    ensures { λ r. ⌜ Reaches (now (s .entry)) at r ⌝ }
-{
-    let to = mark_from(s, at);
-    let mut i = prefix_from(s, at, to);
-    while i < to {
-        if begins(s, i) {
-            return i;
-        }
-        i += 1;
-    }
-    i
 }
 
 // The next literal of a script's cut from an index on.

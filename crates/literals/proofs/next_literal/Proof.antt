@@ -3,8 +3,9 @@ use borrow.Author.Needs.{needs}
 use native.Mathlib.Omega.{arith}
 use Prim.Native.Nat.{_-_}
 use lib.ListN.{length}
-use Rattle.literals.specs.Answers.{Skips}
-use Rattle.literals.proofs.Cuts.{stays, cutting-over, cutting-comment, cutting-known, cutting-breaks, cutting-goes}
+use Rattle.gaps.specs.Gaps.{Skips}
+use Rattle.gaps.proofs.Gaps.{stays}
+use Rattle.literals.proofs.Cuts.{cutting-over, cutting-comment, cutting-known, cutting-breaks, cutting-goes}
 use Rattle.literals.proofs.next_literal.Statement.{statement}
 use Rattle.literals.proofs.next_literal.Tie as tie
 

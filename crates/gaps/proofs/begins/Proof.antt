@@ -1,9 +1,9 @@
--- `literals::begins` meets its contract. Assumes nothing.
+-- `gaps::begins` meets its contract. Assumes nothing.
 use borrow.Author.Needs.{needs}
 use borrow.Author.Tests.{le-leb, lt-leb, eq-eqb, ne-eqb}
 use Rattle.definition_scripts.specs.Cut.{begins}
-use Rattle.literals.proofs.begins.Statement.{statement}
-use Rattle.literals.proofs.begins.Tie as tie
+use Rattle.gaps.proofs.begins.Statement.{statement}
+use Rattle.gaps.proofs.begins.Tie as tie
 
 pub begins-spec : {M : Type 1} → statement M
 unfolding begins

@@ -1,10 +1,10 @@
--- `literals::prefix_from` meets its contract. Assumes nothing.
+-- `gaps::prefix_from` meets its contract. Assumes nothing.
 use borrow.Author.Needs.{needs}
 use native.Mathlib.Omega.{arith}
 use mathlib.Core.Path.{sym, _∙_}
-use Rattle.literals.proofs.Cuts.{stays, near-starts, near-past, near-apart}
-use Rattle.literals.proofs.prefix_from.Statement.{statement}
-use Rattle.literals.proofs.prefix_from.Tie as tie
+use Rattle.gaps.proofs.Gaps.{stays, near-starts, near-past, near-apart}
+use Rattle.gaps.proofs.prefix_from.Statement.{statement}
+use Rattle.gaps.proofs.prefix_from.Tie as tie
 
 pub prefix-from-spec : {M : Type 1} → statement M
 prefix-from-spec =

@@ -1,12 +1,12 @@
--- `literals::near` meets its contract. Assumes nothing.
+-- `gaps::near` meets its contract. Assumes nothing.
 use borrow.Author.Needs.{needs}
 use native.Mathlib.Omega.{arith}
 use mathlib.Core.Path.{sym, _∙_}
 use Prim.Native.Nat.{_-_, _≤_}
-use Rattle.literals.specs.Answers.{Skips}
-use Rattle.literals.proofs.Cuts.{near-goes, near-ends}
-use Rattle.literals.proofs.near.Statement.{statement}
-use Rattle.literals.proofs.near.Tie as tie
+use Rattle.gaps.specs.Gaps.{Skips}
+use Rattle.gaps.proofs.Gaps.{near-goes, near-ends}
+use Rattle.gaps.proofs.near.Statement.{statement}
+use Rattle.gaps.proofs.near.Tie as tie
 
 abbrev Inv-loop : tie.InvT-loop
 Inv-loop s at to i₀ i = (i ≤ to) × Skips s at i
