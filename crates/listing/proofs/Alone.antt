@@ -15,8 +15,8 @@ use Rattle.definition.specs.Reading as reading
 use Rattle.definition.specs.Rows.{Row, rowNumbers, literalRows, allRows, allNumbers, rowed, rowedNumbers}
 use Rattle.definition_scripts.specs.Listing.{ListRow, ofField, ofRefusal, tenOf, tens, readRows, refusalsIn}
 use Rattle.entry.specs.declared.Refusal as why
-use Rattle.literals.specs.declared.Literal.{Literal}
-use Rattle.literals.specs.Answers.{literalOf, numbersOf}
+use Rattle.found.specs.declared.Literal.{Literal}
+use Rattle.found.specs.Found.{literalOf, numbersOf}
 use Rattle.answers.specs.declared.Answer.{Answer}
 use Rattle.answers.specs.declared.Outcome.{Outcome}
 use Rattle.answers.specs.declared.Outcome.the-variants.{Accepted, Refused}

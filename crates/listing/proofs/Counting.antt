@@ -25,8 +25,8 @@ use Rattle.definition_scripts_laws.proofs.listing.SourceLaws.{Fits, AllFit, fit
 use Rattle.definition_scripts_laws.proofs.listing.ListingSteps.{ten, tens-length}
 use Rattle.definition_scripts_laws.proofs.listing.RowCount.{countRows, count-none, count-append, count-enough, count-whole}
 use Rattle.definition_scripts_laws.proofs.listing.FewRows.{part-few, literal-few}
-use Rattle.literals.specs.declared.Literal.{Literal}
-use Rattle.literals.specs.Answers.{literalOf}
+use Rattle.found.specs.declared.Literal.{Literal}
+use Rattle.found.specs.Found.{literalOf}
 use Rattle.sources.specs.declared.Field.{Field}
 use Rattle.told.specs.declared.Told.{Told}
 use Rattle.told.specs.Rows.{refusalRow, fieldOf, rowAt, rowsIn}

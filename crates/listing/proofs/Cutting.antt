@@ -14,8 +14,8 @@ use Rattle.definition_scripts_laws.proofs.cut.PartLaws.{part-cut-is, InPart, in
 use Rattle.definition_scripts_laws.proofs.listing.RowCount.{countRows}
 use Rattle.definition_scripts_laws.proofs.listing.FewRows.{own-few}
 use Rattle.buffers.specs.Over.{over}
-use Rattle.literals.specs.declared.Literal.{Literal}
-use Rattle.literals.specs.Answers.{literalOf}
+use Rattle.found.specs.declared.Literal.{Literal}
+use Rattle.found.specs.Found.{literalOf}
 use Rattle.listing.specs.declared.rows.Part.{Part}
 use Rattle.listing.specs.Put.{Puts, Bounded, PartIs}
 use Rattle.listing.proofs.Written.{puts-none, puts-one, puts-append}

@@ -1,8 +1,8 @@
 // The rows of a literal, of a cut and of a row's source, written behind those before as long as there is room.
 use answers::Outcome;
-use literals::Literal;
-use literals::Next;
-use literals::next_literal;
+use found::Literal;
+use found::Next;
+use found::next_literal;
 use sources::Field;
 use sources::source_end;
 use strings::parse_window;
@@ -18,7 +18,7 @@ ghost use lib.ListN.{length};
 ghost use Rattle.definition.specs.Numbers.{isFString};
 ghost use Rattle.definition_scripts.specs.Listing.{readRows, ownRows, sourceRows};
 ghost use Rattle.escapes.specs.Answers.{namesBy};
-ghost use Rattle.literals.specs.Answers.{literalOf};
+ghost use Rattle.found.specs.Found.{literalOf};
 ghost use Rattle.told.specs.Rows.{rowAt, fieldOf};
 ghost use Rattle.listing.specs.Put.{AloneIs, Puts, PartIs, Lies, Bounded};
 

@@ -26,10 +26,11 @@ use Rattle.definition_scripts_laws.proofs.cut.CutListLaws.{cut-short}
 use Rattle.buffers.specs.Over.{over}
 use Rattle.buffers.proofs.Over.{over-nil, over-append, length-over, over-front}
 use Rattle.literals.specs.declared.Listed as code
-use Rattle.literals.specs.declared.Refusal as code-refusal
+use Rattle.found.specs.declared.Refusal as code-refusal
+use Rattle.found.specs.Found.{refusalOf}
 use Rattle.literals.specs.declared.Listing as code-listing
 use Rattle.literals.specs.declared.Listing.the-variants.{Lists, Refused, Short}
-use Rattle.literals.specs.Answers.{Within, refusalOf, Wrote, CallIs}
+use Rattle.literals.specs.Answers.{Wrote, CallIs}
 
 -- six numbers, written one by one
 pub six-over : (l : List ℕ) (p a b c d e f : ℕ)
@@ -98,9 +99,6 @@ module _ (s : List ℕ) (from : ℕ) (buffer buffer′ : List ℕ) (count end at
 
   -- at a literal
   module _ (kind : ℕ) (e : kind ≡ opens s at) (h : kind ≤ 6) where
-    pub opens-here : Within s at kind
-    opens-here = record { not-long = short; is-kind = e; known = h }
-
     known : opens s at ≤ 6
     known = subst (λ (n : ℕ). n ≤ 6) e h
 

@@ -1,47 +1,30 @@
-// The adjacent literals of a script from an offset on, and what is passed over after each. The cut of a whole script, literal by literal.
-use gaps::near;
-use scans::Closing;
+// The adjacent literals of a script from an offset on, and what is passed over after each; every literal of a script: each as a list.
+use found::Literal;
+use found::Next;
+use found::Refusal;
+use found::literal_here;
+use found::next_literal;
 use scans::NO_KIND;
-use scans::closing_from;
-use scans::comment_end;
 use scans::line_end;
 use scans::opens;
-use scans::tripled;
 use words::byte_at;
 ghost use mathlib.Core.Path.{_≡_};
 ghost use mathlib.Core.List.{List};
 ghost use Prim.Native.Nat.{ℕ, _*_, _≤_};
 ghost use lib.ListN.{length};
-ghost use Rattle.definition.specs.Numbers.{prefix};
-ghost use Rattle.definition_scripts.specs.Opening.{quotes};
 ghost use Rattle.definition.specs.Reading.{zeros};
 ghost use Rattle.definition_scripts.specs.Literals as s;
-ghost use Rattle.definition_scripts.specs.Literals.{literalAt, blankCase, passed, run, listed, listInto, literalsInto};
+ghost use Rattle.definition_scripts.specs.Literals.{blankCase, passed, run, listed, listInto, literalsInto};
 ghost use Rattle.definition_scripts.specs.CutList.{cutListed, cutInto};
 ghost use Rattle.buffers.specs.Over.{over};
-ghost use Rattle.literals.specs.Answers.{Within, foundOf, blankOf, numbersOf, Wrote, RanIs, Few, CallIs, NextIs};
-
-// A literal: six numbers.
-pub struct Literal {
-    pub kind: u32,
-    pub triple: u32,
-    pub offset: u32,
-    pub size: u32,
-    pub start: u32,
-    pub end: u32,
-}
+ghost use Rattle.found.specs.Found.{numbersOf};
+ghost use Rattle.literals.specs.Answers.{blankOf, Wrote, RanIs, Few, CallIs};
 
 // Literals that are listed: how many, and two numbers more: of a run the end of the last one and where it stopped, of a cut how far it went and the number it ended with.
 pub struct Listed {
     pub count: u32,
     pub to: u32,
     pub more: u32,
-}
-
-// A refusal: its number and place.
-pub struct Refusal {
-    pub number: u32,
-    pub place: u32,
 }
 
 // What a call gives: literals; why there are none; or how many numbers their list needs that are not lent.
@@ -51,25 +34,11 @@ pub enum Listing {
     Short(u32),
 }
 
-// The literal that opens at a place, or why it never closes.
-pub(crate) enum Found {
-    Literal(Literal),
-    Refused(Refusal),
-}
-
 // What stands between literals at an index: a space, tab or newline; a comment; or something else.
 pub(crate) enum BlankCase {
     Space,
     Comment,
     Other,
-}
-
-// What a cut has next: a literal, one that never closes, nothing more; or the script is too long.
-pub enum Next {
-    Literal(Literal),
-    Broken(Refusal),
-    End,
-    TooLong,
 }
 
 // Literals whose list is written as far as there is room, or the first refusal.
@@ -81,56 +50,6 @@ pub(crate) enum Ran {
 const SCRIPT_TOO_LONG: u32 = 49;
 
 const NO_LITERAL: u32 = 52;
-
-// The length of a kind's prefix.
-fn prefix(kind: u32) -> u32
-    ensures { λ r. ⌜ r ≡ prefix kind ⌝ }
-{
-    match kind {
-        1 => 1,
-        2 => 1,
-        3 => 1,
-        4 => 2,
-        5 => 2,
-        6 => 1,
-        _ => 0,
-    }
-}
-
-// How many quotes a flag stands for.
-fn quotes(triple: u32) -> u32
-    ensures { λ r. ⌜ r ≡ quotes triple ⌝ }
-{
-    if triple == 1 {
-        return 3;
-    }
-    1
-}
-
-// The literal of a kind that opens at an index.
-fn literal_at(s: &[u8], at: usize, kind: u32) -> Found
-    requires { ⌜ Within (now s) at kind ⌝ }
-    ensures { λ r. ⌜ foundOf r ≡ literalAt (now (s .entry)) at ⌝ }
-{
-    let from = at + prefix(kind) as usize;
-    let triple = tripled(s, from as u32);
-    let size = quotes(triple);
-    let body = from + size as usize;
-    match closing_from(s, s[from], triple, body) {
-        Closing::Fails(number) => Found::Refused(Refusal {
-            number,
-            place: at as u32,
-        }),
-        Closing::Closed(to) => Found::Literal(Literal {
-            kind,
-            triple,
-            offset: body as u32,
-            size: (to - body) as u32,
-            start: at as u32,
-            end: to as u32 + size,
-        }),
-    }
-}
 
 // What stands between literals at an index.
 fn blank_case(s: &[u8], at: usize) -> BlankCase
@@ -188,19 +107,24 @@ fn list_run(s: &[u8], from: usize, numbers: &mut [u32]) -> Ran
     let mut end: u32 = 0;
     let mut at = from;
     loop {
-        let kind = opens(s, at);
-        if NO_KIND <= kind {
-            return Ran::Done(Listed {
-                count,
-                to: end,
-                more: at as u32,
-            });
-        }
-        match literal_at(s, at, kind) {
-            Found::Refused(r) => {
+        match literal_here(s, at) {
+            Next::TooLong => {
+                return Ran::Refused(Refusal {
+                    number: SCRIPT_TOO_LONG,
+                    place: 0,
+                });
+            }
+            Next::Broken(r) => {
                 return Ran::Refused(r);
             }
-            Found::Literal(l) => {
+            Next::End => {
+                return Ran::Done(Listed {
+                    count,
+                    to: end,
+                    more: at as u32,
+                });
+            }
+            Next::Literal(l) => {
                 put_literal(numbers, count, l);
                 count += 1;
                 end = l.end;
@@ -267,36 +191,6 @@ pub fn list_literals(script: &[u8], offset: u32, numbers: &mut [u32]) -> Listing
     }
     let r = list_run(script, from, numbers);
     finish(numbers, r)
-}
-
-// The next literal of a script's cut from an index on.
-pub fn next_literal(script: &[u8], from: usize) -> Next
-    ensures { λ r. ⌜ NextIs (now (script .entry)) from r ⌝ }
-{
-    let len = script.len();
-    if 1048576 < len {
-        return Next::TooLong;
-    }
-    let mut at = from;
-    loop {
-        let here = near(script, at);
-        if len <= here {
-            return Next::End;
-        }
-        if script[here] == b'#' {
-            at = comment_end(script, here);
-        } else {
-            let kind = opens(script, here);
-            match literal_at(script, here, kind) {
-                Found::Refused(r) => {
-                    return Next::Broken(r);
-                }
-                Found::Literal(l) => {
-                    return Next::Literal(l);
-                }
-            }
-        }
-    }
 }
 
 // The cut of a script, its list written as far as there is room.

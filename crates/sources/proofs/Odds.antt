@@ -17,9 +17,9 @@ use Rattle.definition.proofs.moves.CharLaws.{cases, byte-is, before-here, befor
 use Rattle.definition_scripts_laws.proofs.literals.OpeningLaws.{opens-in}
 use Rattle.definition_scripts_laws.proofs.literals.LiteralFound.{literal-lies}
 use Rattle.definition_scripts_laws.proofs.cut.CutLaws.{cut-is}
-use Rattle.literals.specs.declared.Literal.{Literal}
-use Rattle.literals.specs.declared.Refusal.{Refusal}
-use Rattle.literals.specs.Answers.{literalOf}
+use Rattle.found.specs.declared.Literal.{Literal}
+use Rattle.found.specs.declared.Refusal.{Refusal}
+use Rattle.found.specs.Found.{literalOf}
 use Rattle.sources.specs.declared.Field.{Field}
 use Rattle.sources.specs.Source.{capped, Inside, oddFrom, oddOf, signsOf, rowOf, Source, otherwiseOf}
 

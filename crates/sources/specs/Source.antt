@@ -10,7 +10,7 @@ use Rattle.definition_scripts.specs.Cut.{Cut, cutFrom, cutPart}
 use Rattle.definition_scripts.specs.Listing.{reached, sourceEnd, firstOdd, otherwise}
 use Rattle.definition.specs.Body.{Signs}
 use Rattle.definition.specs.Rows.{Row}
-use Rattle.literals.specs.declared.Literal.{Literal}
+use Rattle.found.specs.declared.Literal.{Literal}
 use Rattle.sources.specs.declared.Field.{Field}
 
 -- the first place from i up to j whose byte passes a test, or j

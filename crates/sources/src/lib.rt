@@ -1,7 +1,7 @@
 // A field's source: where it ends, and where Python reads it or the spec otherwise, 75.
-use literals::Literal;
-use literals::Next;
-use literals::next_literal;
+use found::Literal;
+use found::Next;
+use found::next_literal;
 use scans::opens;
 use searches::first_of;
 ghost use mathlib.Core.Path.{_≡_};
@@ -12,7 +12,7 @@ ghost use lib.ListN.{length};
 ghost use Rattle.definition.specs.Chars.{_is_, if_then_else_};
 ghost use Rattle.definition_scripts.specs.Cut.{cutPart};
 ghost use Rattle.definition_scripts.specs.Listing.{sourceEnd, quotedInside, moreAfter, specBackslash, least, otherwise};
-ghost use Rattle.literals.specs.Answers.{literalOf};
+ghost use Rattle.found.specs.Found.{literalOf};
 ghost use Rattle.sources.specs.Source.{capped, Inside, oddOf, signsOf, rowOf, Source, otherwiseOf};
 
 // A field as its row has it: its literal's start, its place, and its signs.

@@ -1,11 +1,11 @@
 // The row of 76: a word before a literal that may not stand there.
 use crate::Told;
 use crate::put_refusal;
-use literals::Literal;
+use found::Literal;
 ghost use mathlib.Core.Path.{_≡_};
 ghost use Rattle.definition_scripts.specs.Keywords.{wordStart, mayStand};
 ghost use Rattle.definition_scripts.specs.Listing.{unknownRow};
-ghost use Rattle.literals.specs.Answers.{literalOf};
+ghost use Rattle.found.specs.Found.{literalOf};
 ghost use Rattle.told.specs.Rows.{Wrote};
 
 const UNKNOWN_PREFIX: u32 = 76;

@@ -6,7 +6,7 @@ use Prim.Native.Nat.{_+_, _-_, _*_}
 use lib.ListN.{length, length-take, length-replicate}
 use Rattle.definition_scripts.specs.Cut.{cutPart}
 use Rattle.definition_scripts.specs.Listing.{readRows, cutRows}
-use Rattle.literals.specs.Answers.{literalOf}
+use Rattle.found.specs.Found.{literalOf}
 use Rattle.escapes.specs.Answers.{namesBy}
 use Rattle.told.specs.Rows.{rowsIn}
 use Rattle.listing.specs.Count.{total}
@@ -34,7 +34,7 @@ use Rattle.sources.proofs.source_end.Reads as source-end-reads
 use Rattle.listing.proofs.rows.field_at.Reads as field-at-reads
 use Rattle.listing.proofs.rows.is_fstring.Reads as is-fstring-reads
 use Rattle.listing.proofs.rows.read_alone.Reads as read-alone-reads
-use Rattle.literals.proofs.next_literal.Reads as next-literal-reads
+use Rattle.found.proofs.next_literal.Reads as next-literal-reads
 use Rattle.listing.proofs.count.+count_block+count_literal+count_part+count_window.{
   statement,
 }

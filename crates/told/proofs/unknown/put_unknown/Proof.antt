@@ -4,7 +4,7 @@ use native.Mathlib.Omega.{arith}
 use mathlib.Core.Path.{sym, _∙_}
 use Rattle.definition_scripts.specs.Listing.{unknownRow}
 use Rattle.definition_scripts_laws.proofs.listing.WordLaws.{word-ahead}
-use Rattle.literals.specs.Answers.{literalOf}
+use Rattle.found.specs.Found.{literalOf}
 use Rattle.told.proofs.Rows.{wrote-none, wrote-unknown}
 use Rattle.told.proofs.unknown.put_unknown.Statement.{statement}
 use Rattle.told.proofs.unknown.put_unknown.Tie as tie

@@ -1,13 +1,13 @@
--- `literals::next_literal` meets its contract. Assumes nothing.
+-- `found::next_literal` meets its contract. Assumes nothing.
 use borrow.Author.Needs.{needs}
 use native.Mathlib.Omega.{arith}
 use Prim.Native.Nat.{_-_}
 use lib.ListN.{length}
 use Rattle.gaps.specs.Gaps.{Skips}
 use Rattle.gaps.proofs.Gaps.{stays}
-use Rattle.literals.proofs.Cuts.{cutting-over, cutting-comment, cutting-known, cutting-breaks, cutting-goes}
-use Rattle.literals.proofs.next_literal.Statement.{statement}
-use Rattle.literals.proofs.next_literal.Tie as tie
+use Rattle.found.proofs.Cuts.{cutting-over, cutting-comment, cutting-known, cutting-breaks, cutting-goes}
+use Rattle.found.proofs.next_literal.Statement.{statement}
+use Rattle.found.proofs.next_literal.Tie as tie
 
 abbrev Inv-loop : tie.InvT-loop
 Inv-loop script from len at₀ at = Skips script from at

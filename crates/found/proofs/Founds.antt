@@ -16,7 +16,7 @@ use Rattle.definition.proofs.moves.CharLaws.{byte-is, byte-in}
 use Rattle.definition_scripts_laws.proofs.literals.OpeningLaws.{quote-within, quote-of, opens-in}
 use Rattle.definition_scripts_laws.proofs.literals.LiteralLaws.{quotes-in}
 use Rattle.definition_scripts_laws.proofs.literals.LiteralFound.{literal-at, literal-lies}
-use Rattle.literals.specs.Answers.{Within}
+use Rattle.found.specs.Found.{Within}
 
 -- the quotes that a flag counts stand there
 quotes-open : (s : List ℕ) (q : ℕ) → quotesAt s (byte s q) (tripled s q) q ≡ true

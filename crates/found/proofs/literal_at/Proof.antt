@@ -1,11 +1,11 @@
--- `literals::literal_at` meets its contract. Assumes nothing.
+-- `found::literal_at` meets its contract. Assumes nothing.
 use borrow.Author.Needs.{needs}
 use native.Mathlib.Omega.{arith}
 use mathlib.Core.Path.{refl}
 use Rattle.definition_scripts.specs.Literals.{closedAt}
-use Rattle.literals.proofs.Founds.{starts-in, quote-in, body-in, found-is, found-closed, closed-in}
-use Rattle.literals.proofs.literal_at.Statement.{statement}
-use Rattle.literals.proofs.literal_at.Tie as tie
+use Rattle.found.proofs.Founds.{starts-in, quote-in, body-in, found-is, found-closed, closed-in}
+use Rattle.found.proofs.literal_at.Statement.{statement}
+use Rattle.found.proofs.literal_at.Tie as tie
 
 pub literal-at-spec : {M : Type 1} → statement M
 unfolding closedAt

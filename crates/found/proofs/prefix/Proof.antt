@@ -1,8 +1,8 @@
--- `literals::prefix` meets its contract. Assumes nothing.
+-- `found::prefix` meets its contract. Assumes nothing.
 use Rattle.definition.specs.Numbers.{prefix}
-use Rattle.literals.proofs.Prefixes.{prefix-none}
-use Rattle.literals.proofs.prefix.Statement.{statement}
-use Rattle.literals.proofs.prefix.Tie as tie
+use Rattle.found.proofs.Prefixes.{prefix-none}
+use Rattle.found.proofs.prefix.Statement.{statement}
+use Rattle.found.proofs.prefix.Tie as tie
 
 pub prefix-spec : {M : Type 1} → statement M
 unfolding prefix

@@ -1,7 +1,7 @@
--- `literals::quotes` meets its contract. Assumes nothing.
+-- `found::quotes` meets its contract. Assumes nothing.
 use borrow.Author.Tests.{eq-eqb, ne-eqb}
-use Rattle.literals.proofs.quotes.Statement.{statement}
-use Rattle.literals.proofs.quotes.Tie as tie
+use Rattle.found.proofs.quotes.Statement.{statement}
+use Rattle.found.proofs.quotes.Tie as tie
 
 pub quotes-spec : {M : Type 1} → statement M
 quotes-spec =

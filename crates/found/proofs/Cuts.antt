@@ -18,9 +18,9 @@ use Rattle.definition_scripts_laws.proofs.cut.CutLaws.{comment-past, begins-kno
 use Rattle.definition_scripts_laws.proofs.cut.CutSteps.{cut-over, cut-comment, cut-breaks, cut-goes}
 use Rattle.gaps.specs.Gaps.{Skips, Reaches}
 use Rattle.gaps.proofs.Gaps.{case-over, case-comment, case-literal}
-use Rattle.literals.specs.declared.Literal.{Literal}
-use Rattle.literals.specs.declared.Refusal.{Refusal}
-use Rattle.literals.specs.Answers.{literalOf, refusalOf}
+use Rattle.found.specs.declared.Literal.{Literal}
+use Rattle.found.specs.declared.Refusal.{Refusal}
+use Rattle.found.specs.Found.{literalOf, refusalOf}
 
 -- A cut that has come from `from` to `at`, and goes on at `here`
 module _ (s : List ℕ) (from at here : ℕ) (p : Skips s from at) (q : Reaches s at here) where

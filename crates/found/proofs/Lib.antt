@@ -1,0 +1,4 @@
+pub mod Prefixes
+pub mod Founds
+pub mod Cuts
+pub mod One
