@@ -4,8 +4,6 @@ use mathlib.Core.List.{List, [], _∷_}
 use Prim.Native.Nat.{ℕ, _+_, _/_, _≤_, _<_}
 use native.Mathlib.Omega.{arith}
 use lib.ListN.{length}
-use Rattle.definition.specs.Numbers.{isBytes, isUnicode}
-use Rattle.definition.specs.Chars.{if_then_else_}
 use Rattle.definition.specs.Escapes.{Naming}
 use Rattle.definition.specs.Body.{readBody}
 use Rattle.definition.specs.Entry.{body, total}
@@ -18,21 +16,20 @@ use Rattle.entry.proofs.Passed.{Passed}
 use Rattle.utf8.specs.declared.Cursor.{Cursor}
 use Rattle.marks.specs.declared.Refusal.{Refusal}
 use Rattle.marks.specs.Marks.{faultOf}
-use Rattle.records.specs.Counts.{plus}
 use Rattle.records.specs.Written.{written, literal, held}
 use Rattle.records.specs.declared.Whole.{Whole}
 use Rattle.records.specs.declared.Frame.{Frame}
 use Rattle.records.specs.declared.Sink.{Sink}
 use Rattle.bodies.specs.declared.fstring.Read.the-variants.{Done, Refused}
-use Rattle.bodies.specs.Emit as e
 use Rattle.bodies.specs.Sinks.{wholeOf}
 use Rattle.bodies.specs.Fstring.{ReadIs, SignedIs}
-use Rattle.bodies.specs.Lists.{wholeFor, nothing, noRows, Room, Stands, First, refusedAt, frameOf, All, Rowed, readFlat}
+use Rattle.bodies.specs.Lists.{wholeFor, noRows, Room, Stands, First, refusedAt, frameOf, All, Rowed, readFlat}
+use Rattle.wholes.specs.Wholes.{nothing, wholeBetween}
 use Rattle.bodies.proofs.ListLaws.{Listing, before-all, after-all, room, stands, refuses-all, next-literal, G}
 use Rattle.bodies.proofs.RowLaws.{read-signed, few-on}
 use Rattle.bodies.proofs.RowCalls.{none-rowed, all-rowed, next-rowed}
 use Rattle.bodies.proofs.CallLaws.{refused-list}
-use Rattle.bodies.proofs.TopLaws.{first-bytes, whole-made}
+use Rattle.bodies.proofs.TopLaws.{whole-made}
 
 -- a buffer for no rows holds none
 pub no-rows : (rows : List ℕ) → length rows ≡ 0 → rows ≡ []
@@ -40,8 +37,8 @@ no-rows [] h = refl
 no-rows (n ∷ rows) h = absurd (omega arith)
 
 -- the text of a string is held
-pub held-alone : (fr : Frame) (to : ℕ) (words : List ℕ) → written words (record { count = 0; used = to; held = 1; from = 0; parts = 1 }) ≡ literal fr to 0 (written words nothing)
-unfolding literal held plus
+pub held-alone : (fr : Frame) (to : ℕ) (words : List ℕ) → written words (held to nothing) ≡ literal fr to 0 (written words nothing)
+unfolding literal
 held-alone fr to words = refl
 
 -- no literal stands before it
@@ -91,10 +88,5 @@ module _ (look : Naming) (script : List ℕ) (l : Descriptor) (w : Whole) (words
         (omega arith)
 
 -- what its top-level records carry
-pub alone-whole : (script : List ℕ) (l : Descriptor) (kind mark : ℕ) → Passed script (six l) 1 → kind ≡ (if isBytes (l .kind) then 4 else 1) → mark ≡ (if isUnicode (l .kind) then 1 else 0)
-    → _≡_ {A = e.Whole} (record { kind = kind; start = l .start; end = l .end; mark = mark }) (wholeFor (literals (six l) 0 1))
-unfolding described
-alone-whole script l kind mark P k m =
-    let some : 0 < 1 = omega arith in
-    whole-made (six l) 1 (described l) (described l) kind mark some (is-first l) (is-first l)
-    (k ∙ ap (λ b. if b then 4 else 1) (first-bytes (six l) 1 (described l) some (is-first l) (P .unmixed))) m
+pub alone-whole : (script : List ℕ) (l : Descriptor) → Passed script (six l) 1 → wholeOf (wholeBetween (described l) (described l)) ≡ wholeFor (literals (six l) 0 1)
+alone-whole script l P = whole-made (six l) 1 (described l) (described l) (omega arith) (is-first l) (is-first l) (P .unmixed)

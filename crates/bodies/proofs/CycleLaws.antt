@@ -20,7 +20,7 @@ use Rattle.records.specs.declared.Frame.{Frame}
 use Rattle.records.specs.declared.Sink.{Sink}
 use Rattle.records.specs.declared.Head.{Head}
 use Rattle.bodies.specs.declared.fstring.Read.the-variants.{Done, Refused}
-use Rattle.bodies.specs.declared.fstring.End.the-variants as end
+use Rattle.edges.specs.declared.End.the-variants as end
 use Rattle.records.specs.Written.{written, ended, specText, specified, documentedText}
 use Rattle.records.specs.Written as w
 use Rattle.records.specs.Rows.{windowed}
@@ -31,7 +31,8 @@ use Rattle.marks.specs.Marks.{faultOf}
 use Rattle.texts.specs.Text.{StopsBy, OpensBefore}
 use Rattle.texts.proofs.Laws.{text-bounds, opens-shallow}
 use Rattle.heads.specs.FieldTurns.{HeadIs, EndedIs, endOf}
-use Rattle.bodies.specs.Fstring.{Room, ReadIs, SpecIs, SignedBy, fieldEnd}
+use Rattle.bodies.specs.Fstring.{Room, ReadIs, SpecIs, SignedBy}
+use Rattle.edges.specs.Edges.{fieldEnd}
 use Rattle.bodies.specs.Rows.{Signed}
 use Rattle.bodies.proofs.RecordLaws.{Placed, ended-written, spec-text-ended, specified-filled, field-written, row-written}
 use Rattle.bodies.proofs.FstringLaws.{before-spec, signsOf, one-part, gave, refuses, to-refuse, fits, small-head, run-ended, Gave, Sofar, SpecRoom, Kept, spec-room, closed-field, closed-reads, unformatted-field, spec-unended, spec-ended, specified-field, room-text, field-refused, field-further, spec-fits, spec-braced, braced-reads}

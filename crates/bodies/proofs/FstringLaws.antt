@@ -20,13 +20,14 @@ use Rattle.records.specs.declared.Sink.{Sink}
 use Rattle.records.specs.declared.Head.{Head}
 use Rattle.bodies.specs.declared.fstring.Read.{Read}
 use Rattle.bodies.specs.declared.fstring.Read.the-variants.{Done, Refused}
-use Rattle.bodies.specs.declared.fstring.End.{End}
-use Rattle.bodies.specs.declared.fstring.End.the-variants as end
+use Rattle.edges.specs.declared.End.{End}
+use Rattle.edges.specs.declared.End.the-variants as end
 use Rattle.bodies.specs.Emit as E
 use Rattle.bodies.specs.Emit.{bit, emits, reserved, filledIn}
 use Rattle.bodies.specs.Sinks.{wholeOf, outOf, isHeld, loadOf, Fits, Emits, specWords}
 use Rattle.marks.specs.Marks.{converted, refusal, faultOf}
-use Rattle.bodies.specs.Fstring.{Room, Written, ReadIs, SpecIs, fieldEnd}
+use Rattle.bodies.specs.Fstring.{Room, Written, ReadIs, SpecIs}
+use Rattle.edges.specs.Edges.{fieldEnd}
 use Rattle.bodies.proofs.Emitted.{spec-last, emits-append, put-free}
 use Rattle.definition_laws.proofs.moves.Moves.{weight, fieldSize, filled-light, part-short}
 use Rattle.definition.proofs.moves.CharLaws.{next-past, next-in, next-from}

@@ -8,13 +8,14 @@ use native.Mathlib.Omega.{arith}
 use lib.Dec.{eqb}
 use lib.ListN.{length, drop, length-take}
 use Rattle.definition.specs.Numbers.{isFString, mismatchedDelimiter}
+use Rattle.definition.specs.Chars.{if_then_else_}
 use Rattle.definition.specs.Counts.{counted}
 use Rattle.definition.specs.Escapes.{Naming, Fault, got, refused}
 use Rattle.definition.specs.Escapes as d
 use Rattle.definition.specs.Body.{literal, textN, stringN, enough, alone, readBody}
 use Rattle.definition.specs.Records.{Item, itemOf}
-use Rattle.definition.specs.Entry.{opening, placeOf, body, total}
-use Rattle.definition.specs.Reading.{accepts, refuses, andThen, refusalIn, readLiteral, readFrom, answered}
+use Rattle.definition.specs.Entry.{opening, placeOf, body, moved, total}
+use Rattle.definition.specs.Reading.{accepts, refuses, andThen, allChars, openedAt, refusalIn, readLiteral, readFrom, answered}
 use Rattle.definition.specs.Reading as o
 use Rattle.definition_laws.proofs.moves.Counted.{counted-small}
 use Rattle.definition_laws.proofs.moves.Moves.{weight, Names}
@@ -25,7 +26,7 @@ use Rattle.buffers.specs.Over.{over}
 use Rattle.entry.specs.Answers.{described}
 use Rattle.entry.specs.Literals.{literalAt, literals}
 use Rattle.entry.specs.declared.Descriptor.{Descriptor}
-use Rattle.entry.proofs.Literals.{total-turn, take-literals, total-first}
+use Rattle.entry.proofs.Literals.{total-turn, take-literals, total-first, chars-most}
 use Rattle.entry.proofs.Checks.{clash}
 use Rattle.entry.proofs.Passed.{Passed, Good, length-body, read-turn, read-end}
 use Rattle.marks.specs.declared.Refusal.{Refusal}
@@ -44,6 +45,8 @@ use Rattle.marks.specs.Marks.{refusal, faultOf}
 use Rattle.texts.specs.Text.{StringBy}
 use Rattle.bodies.specs.Fstring.{ReadIs}
 use Rattle.bodies.specs.Lists.{Room, Stands, First, refusedAt, frameOf, empty, All}
+use Rattle.wholes.specs.Wholes.{refusedIn}
+use Rattle.wholes.proofs.RefusalLaws.{refused-small}
 use Rattle.bodies.proofs.Emitted.{emits-append}
 use Rattle.bodies.proofs.SinkLaws.{grown}
 use Rattle.bodies.proofs.FstringLaws.{Gave, gave, refuses as written-refuses}
@@ -107,6 +110,29 @@ count-fits script l taken k e =
     let n = length-take (l .offset + l .size - l .offset) (drop (l .offset) script) in
     let h = rw (← e) at (counted-small s taken) in
     (omega arith, omega arith, omega arith)
+
+-- a refusal that stands in a literal, after good ones, is told as it is
+pub refused-told : (script ns : List ℕ) (i : ℕ) (l : Descriptor) (x : Refusal) (k : Count) (before : ℕ) → Stands script l (x .taken) (x .opened) → First script ns i
+    → countOf k ≡ counted (body script (described l)) (x .taken) → before ≡ allChars script (literals ns 0 i)
+    → refusedIn (described l) i (faultOf x) (countOf k) before ≡ refusedAt script ns i (described l) (faultOf x)
+unfolding refusalIn moved openedAt
+refused-told script ns i l x k before S F e q =
+    let f = count-fits script l (x .taken) k e in
+    refused-small (described l) i (faultOf x) (countOf k) before (
+    record {
+      taken = omega (arith, S .within, S .small);
+      place = S .place;
+      bracket = named (eqb (x .number) mismatchedDelimiter);
+      line = omega (arith, f .1, S .small);
+      column = omega (arith, f .2, S .small);
+      chars = omega (arith, f .0, S .small, q, chars-most script (literals ns 0 i), F .short);
+    }
+    )
+    ∙ rw (e, q) refl
+  where
+    named : (t : Bool) → (if t then placeOf (described l) (x .opened) else 0) < 4294967296
+    named true = S .bracket
+    named false = omega arith
 
 -- THE LIST: what is read and written before literal i
 pub record Listing (look : Naming) (script ns : List ℕ) (n : ℕ) (w : e.Whole) (words text words′ text′ : List ℕ) (i : ℕ) (k : Sink) : Type 0 where

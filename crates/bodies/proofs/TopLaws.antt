@@ -1,5 +1,5 @@
 -- The top-level items of literals that are read are all as the literals' whole has them. Assumes nothing.
-use mathlib.Core.Path.{_≡_, refl, subst}
+use mathlib.Core.Path.{_≡_, refl, ap, subst}
 use mathlib.Core.Bool.{Bool, true, false, not, false≢true}
 use mathlib.Core.List.{List, [], _∷_, _++_, map}
 use mathlib.Core.Option.{none}
@@ -17,7 +17,9 @@ use Rattle.entry.proofs.Checks.{clash}
 use Rattle.entry.proofs.Passed.{both}
 use Rattle.bodies.specs.Emit as e
 use Rattle.bodies.specs.Emit.{Top, Tops}
+use Rattle.bodies.specs.Sinks.{wholeOf}
 use Rattle.bodies.specs.Lists.{wholeFor, roleFor}
+use Rattle.wholes.specs.Wholes.{wholeBetween}
 
 -- whether all literals are of bytes, or all are not
 abbrev Alike : Bool → List Literal → Type 0
@@ -49,7 +51,7 @@ alike ls e = go (anyOf isBytes ls) (anyOf (λ kind. not (isBytes kind)) ls) refl
     go false o p q = rw p (no-bytes ls p)
 
 -- so whether any are bytes is told by the first
-pub first-bytes : (ns : List ℕ) (n : ℕ) (first : Literal) → 0 < n → first ≡ literalAt ns 0 → notMixed (literals ns 0 n) ≡ none → isBytes (first .kind) ≡ anyOf isBytes (literals ns 0 n)
+first-bytes : (ns : List ℕ) (n : ℕ) (first : Literal) → 0 < n → first ≡ literalAt ns 0 → notMixed (literals ns 0 n) ≡ none → isBytes (first .kind) ≡ anyOf isBytes (literals ns 0 n)
 first-bytes ns n first h f m = rw f (subst (Alike (anyOf isBytes (literals ns 0 n))) (first-is ns n h) (alike (literals ns 0 n) m) .0)
 
 -- the top-level item of a literal piece
@@ -117,17 +119,19 @@ covers-role ls = go (anyOf isBytes ls)
     go false = refl
 
 -- the whole of literals, by their first and last one
-pub whole-made : (ns : List ℕ) (n : ℕ) (first last : Literal) (kind mark : ℕ) → 0 < n → first ≡ literalAt ns 0 → last ≡ literalAt ns (n - 1)
-    → kind ≡ (if anyOf isBytes (literals ns 0 n) then 4 else 1) → mark ≡ (if isUnicode (first .kind) then 1 else 0)
-    → _≡_ {A = e.Whole} (record { kind = kind; start = first .start; end = last .end; mark = mark }) (wholeFor (literals ns 0 n))
-unfolding firstStart uMark
-whole-made ns n first last kind mark h f l k m = λ i. record { kind = k i; start = start i; end = end i; mark = marked i }
+pub whole-made : (ns : List ℕ) (n : ℕ) (first last : Literal) → 0 < n → first ≡ literalAt ns 0 → last ≡ literalAt ns (n - 1) → notMixed (literals ns 0 n) ≡ none
+    → wholeOf (wholeBetween first last) ≡ wholeFor (literals ns 0 n)
+unfolding firstStart uMark wholeBetween
+whole-made ns n first last h f l m = λ i. record { kind = kind i; start = start i; end = end i; mark = marked i }
   where
+    kind : _≡_ {A = ℕ} (if isBytes (first .kind) then 4 else 1) (if anyOf isBytes (literals ns 0 n) then 4 else 1)
+    kind = ap (λ b. if b then 4 else 1) (first-bytes ns n first h f m)
+
     start : first .start ≡ firstStart (literals ns 0 n)
     start = rw (first-is ns n h, f)
 
     end : last .end ≡ lastEnd 0 (literals ns 0 n)
     end = rw (last-end ns n h, l)
 
-    marked : mark ≡ uMark (literals ns 0 n)
-    marked = rw (first-is ns n h, m, f)
+    marked : _≡_ {A = ℕ} (if isUnicode (first .kind) then 1 else 0) (uMark (literals ns 0 n))
+    marked = rw (first-is ns n h, f)

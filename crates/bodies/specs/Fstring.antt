@@ -2,19 +2,14 @@
 use Prim.Native.Nat.{ℕ, suc, _+_, _-_, _*_, _≤_, _<_}
 use mathlib.Core.Path.{_≡_}
 use mathlib.Core.List.{List, _∷_}
-use mathlib.Core.Bool.{Bool}
 use lib.ListN.{length}
-use Rattle.definition.specs.Chars.{if_then_else_, atEnd, next}
-use Rattle.definition.specs.Numbers.{unclosedLbrace, emptyExpression, inField}
-use Rattle.definition.specs.Escapes.{fault, detail, got, refused}
+use Rattle.definition.specs.Escapes.{got, refused}
 use Rattle.definition.specs.Escapes as d
 use Rattle.definition.specs.Body.{Piece, spec, direct}
 use Rattle.records.specs.declared.Frame.{Frame}
 use Rattle.records.specs.declared.Sink.{Sink}
 use Rattle.bodies.specs.declared.fstring.Read.{Read}
 use Rattle.bodies.specs.declared.fstring.Read.the-variants.{Done, Refused}
-use Rattle.bodies.specs.declared.fstring.End.{End}
-use Rattle.bodies.specs.declared.fstring.End.the-variants as end
 use Rattle.marks.specs.Marks.{refusal}
 use Rattle.bodies.specs.Rows.{Signed}
 use Rattle.bodies.specs.Sinks.{loadOf, Emits}
@@ -54,9 +49,3 @@ SignedBy (refused y) fr rows rows′ fields n = Unit {0}
 abbrev pub SignedIs : Read → d.Read (List Piece) → Frame → List ℕ → List ℕ → ℕ → Type 0
 SignedIs (Done at r n) read fr rows rows′ fields = SignedBy read fr rows rows′ fields n
 SignedIs (Refused x) read fr rows rows′ fields = Unit {0}
-
--- the end of a field after its spec
-abbrev pub fieldEnd : List ℕ → ℕ → Bool → End
-fieldEnd s j blank =
-    if atEnd s j then end.Refused (refusal (detail unclosedLbrace j inField)) else
-    if blank then end.Refused (refusal (fault emptyExpression (next s j))) else end.At (record { at = next s j })

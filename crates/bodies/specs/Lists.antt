@@ -45,10 +45,6 @@ roleFor ls = if anyOf isBytes ls then raw else top
 abbrev pub empty : List ℕ → List ℕ → Out
 empty words text = record { words = words; text = text; count = 0; used = 0; held = false; from = 0 }
 
--- and counted
-abbrev pub nothing : Sink
-nothing = record { count = 0; used = 0; held = 0; from = 0; parts = 0 }
-
 -- the window of a call without rows
 abbrev pub noRows : Window
 noRows = record { within = 0; skip = 0 }

@@ -1,12 +1,11 @@
 // F-strings: text, fields and specs, which call for one another.
 use buffers::put;
-use heads::EMPTY_EXPRESSION;
+use edges::End;
+use edges::end_field;
 use heads::Opened;
 use heads::read_head;
 use marks::Refusal;
-use marks::Unclosed;
 use marks::is_brace;
-use marks::unclosed_brace;
 use records::Frame;
 use records::Sink;
 use records::again::frame_again;
@@ -20,30 +19,21 @@ use records::spec_text;
 use texts::Run;
 use texts::text_run;
 use utf8::Cursor;
-use utf8::Step;
 ghost use mathlib.Core.Path.{_≡_};
 ghost use mathlib.Core.Bool.{true, false};
 ghost use mathlib.Core.List.{[]};
 ghost use Prim.Native.Nat.{_+_, _-_, _*_, _<_, _≤_};
 ghost use lib.ListN.{length};
 ghost use Rattle.definition.specs.Chars.{part, next};
-ghost use Rattle.definition.specs.Escapes.{fault};
 ghost use Rattle.definition.specs.Body.{calls, textMove, firstEnd, textN, fieldN, fresh, specN, enough};
 ghost use Rattle.escapes.specs.Answers.{namesBy};
 ghost use Rattle.buffers.specs.Over.{over};
 ghost use Rattle.bodies.specs.Sinks.{isHeld, loadOf};
-ghost use Rattle.marks.specs.Marks.{refusal};
-ghost use Rattle.bodies.specs.Fstring.{Room, ReadIs, SpecIs, SignedIs, EndsAs, fieldEnd};
+ghost use Rattle.bodies.specs.Fstring.{Room, ReadIs, SpecIs, SignedIs, EndsAs};
 
 // A text, field or spec that was read up to a cursor and written, with the count of fields so far; or a refusal.
 pub(crate) enum Read {
     Done(Cursor, Sink, usize),
-    Refused(Refusal),
-}
-
-// Where a field ends, after its `}`; or why it is refused there.
-enum End {
-    At(Cursor),
     Refused(Refusal),
 }
 
@@ -75,31 +65,6 @@ fn read_first(s: &[u8], from: Cursor, text: &mut [u8], used: usize) -> Raw
     Raw {
         at: Cursor { at: i },
         used: to,
-    }
-}
-
-// A field whose spec has ended at a cursor, at its `}` or at the body's end.
-fn end_field(s: &[u8], at: Cursor, blank: bool) -> End
-    ensures { λ r. ⌜ r ≡ fieldEnd (now (s .entry)) (at .at) blank ⌝ }
-{
-    let Step::Char(_, after) = at.next_char(s) else {
-        return End::Refused(unclosed_brace(Unclosed::InField, at.at));
-    };
-    if blank {
-        return End::Refused(refuse(EMPTY_EXPRESSION, after.at));
-    }
-    End::At(after)
-}
-
-fn refuse(number: u32, taken: usize) -> Refusal
-    ensures { λ r. ⌜ r ≡ refusal (fault number taken) ⌝ }
-{
-    Refusal {
-        number,
-        opened: 0,
-        taken,
-        a: 0,
-        b: 0,
     }
 }
 

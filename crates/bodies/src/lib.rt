@@ -1,12 +1,12 @@
 // Bodies of literals read to records, one text and rows: the first refusal, or all in order.
 mod fstring;
 
+use edges::opens_field;
 use entry::Checked;
 use entry::Class;
 use entry::Descriptor;
 use fstring::Read;
 use fstring::parse_fstring;
-use heads::MISMATCHED_DELIMITER;
 use marks::Refusal;
 use records::Frame;
 use records::Sink;
@@ -19,17 +19,17 @@ use texts::Text;
 use texts::parse_alone;
 use texts::parse_string;
 use utf8::Cursor;
-use utf8::Step;
+use wholes::refused_in;
+use wholes::text_alone;
+use wholes::whole_between;
 ghost use mathlib.Core.Path.{_≡_};
 ghost use mathlib.Core.Option.{none};
 ghost use mathlib.Core.List.{[]};
 ghost use Prim.Native.Nat.{_<_, _≤_};
-ghost use Rattle.definition.specs.Numbers.{isBytes, isUnicode};
-ghost use Rattle.definition.specs.Chars.{if_then_else_};
 ghost use Rattle.definition.specs.Escapes.{heldNames};
-ghost use Rattle.definition.specs.Entry.{placeOf, body, notMixed};
+ghost use Rattle.definition.specs.Entry.{body, notMixed};
 ghost use Rattle.definition.specs.Body.{readBody};
-ghost use Rattle.definition.specs.Reading.{allChars, openedAt, zeros};
+ghost use Rattle.definition.specs.Reading.{allChars, zeros};
 ghost use Rattle.escapes.specs.Answers.{namesBy};
 ghost use Rattle.entry.specs.Answers.{described, six, refusalOf};
 ghost use Rattle.entry.specs.Literals.{literals};
@@ -38,9 +38,10 @@ ghost use Rattle.marks.specs.Marks.{faultOf};
 ghost use Rattle.bodies.specs.declared.Reading.the-variants.{Refused};
 ghost use Rattle.bodies.specs.Sinks.{wholeOf, Fits};
 ghost use Rattle.bodies.specs.Fstring.{Room as BodyRoom, ReadIs, SignedIs};
-ghost use Rattle.bodies.specs.Lists.{wholeFor, nothing, noRows, Room, Stands, First, refusedAt, frameOf, ListIs, RowsAre, ClosedAs, ReadingIs};
-ghost use Rattle.bodies.specs.FieldEnds.{Opens, EndIs};
-ghost use Rattle.texts.specs.Text.{Whether};
+ghost use Rattle.bodies.specs.Lists.{wholeFor, noRows, Room, Stands, First, refusedAt, frameOf, ListIs, RowsAre, ClosedAs, ReadingIs};
+ghost use Rattle.bodies.specs.FieldEnds.{EndIs};
+ghost use Rattle.edges.specs.Edges.{Opens};
+ghost use Rattle.wholes.specs.Wholes.{nothing};
 ghost use lib.ListN.{length};
 
 // A list that was checked, read and written: what its top-level records carry, and how many records, text bytes, fields and characters it has.
@@ -162,17 +163,6 @@ fn read_literal(
     )
 }
 
-// The place just after the bracket that a body's refusal names; 0 if it names none.
-fn opened_at(l: Descriptor, x: Refusal) -> u32
-    requires { ⌜ placeOf (described l) (x .opened) < 4294967296 ⌝ }
-    ensures { λ r. ⌜ r ≡ openedAt (described l) (faultOf x) ⌝ }
-{
-    if x.number == MISMATCHED_DELIMITER {
-        return entry::place(l, x.opened) as u32;
-    }
-    0
-}
-
 // How many characters the first literals have, which passed the checks.
 fn chars_before(script: &[u8], numbers: &[u32], count: u32) -> u32
     requires { ⌜ First (now script) (now numbers) count ⌝ }
@@ -198,17 +188,7 @@ fn refusal_in(script: &[u8], numbers: &[u32], i: u32, l: Descriptor, x: Refusal)
     let from = l.offset as usize;
     let to = from + l.size as usize;
     let k = counts::count_before(&script[from..to], x.taken);
-    entry::Refusal {
-        number: x.number,
-        literal: i,
-        place: entry::place(l, x.taken as u32) as u32,
-        a: x.a,
-        b: x.b,
-        opened: opened_at(l, x),
-        line: k.line as u32,
-        column: k.column as u32,
-        chars: chars_before(script, numbers, i) + k.chars as u32,
-    }
+    refused_in(l, i, x, k, chars_before(script, numbers, i))
 }
 
 // All literals in order, read and written: the first refusal ends it.
@@ -264,26 +244,6 @@ fn read_list(
     Listed::Done(sink, fields)
 }
 
-// The kind of a top-level record, by the first literal's: 4 in bytes, else 1.
-fn kind_of(kind: u32) -> u32
-    ensures { λ r. ⌜ r ≡ (if isBytes kind then 4 else 1) ⌝ }
-{
-    if entry::is_of(Class::Bytes, kind) {
-        return 4;
-    }
-    1
-}
-
-// The u mark of a first kind.
-fn u_mark(kind: u32) -> u32
-    ensures { λ r. ⌜ r ≡ (if isUnicode kind then 1 else 0) ⌝ }
-{
-    if kind == 6 {
-        return 1;
-    }
-    0
-}
-
 // What every top-level record of the literals carries.
 fn whole_of(numbers: &[u32], count: u32) -> Whole
     requires { ⌜ (0 < count) × (notMixed (literals (now numbers) 0 count) ≡ none) ⌝ }
@@ -291,12 +251,7 @@ fn whole_of(numbers: &[u32], count: u32) -> Whole
 {
     let first = entry::literal_at(numbers, 0);
     let last = entry::literal_at(numbers, count - 1);
-    Whole {
-        kind: kind_of(first.kind),
-        start: first.start,
-        end: last.end,
-        mark: u_mark(first.kind),
-    }
+    whole_between(first, last)
 }
 
 // A refusal: all three buffers are filled with zeros.
@@ -402,16 +357,7 @@ fn body_alone(s: &[u8], fr: Frame, words: &mut [u32], text: &mut [u8]) -> Read
     }
     match parse_alone(s, fr.kind, text) {
         Text::Refused(r) => Read::Refused(r),
-        Text::Done(used) => {
-            let k = Sink {
-                count: 0,
-                used,
-                held: 1,
-                from: 0,
-                parts: 1,
-            };
-            Read::Done(Cursor { at: s.len() }, k, 0)
-        }
+        Text::Done(used) => { Read::Done(Cursor { at: s.len() }, text_alone(used), 0) }
     }
 }
 
@@ -450,12 +396,7 @@ pub fn read_one(script: &[u8], l: Descriptor, words: &mut [u32], text: &mut [u8]
     match checks::check_one(script, l) {
         Checked::Refused(r) => refuse(words, text, &mut rows, r),
         Checked::Passed(chars) => {
-            let whole = Whole {
-                kind: kind_of(l.kind),
-                start: l.start,
-                end: l.end,
-                mark: u_mark(l.kind),
-            };
+            let whole = whole_between(l, l);
             match literal_alone(script, l, whole, words, text) {
                 Read::Refused(x) => {
                     refuse(words, text, &mut rows, refusal_in(script, &none, 0, l, x))
@@ -466,25 +407,6 @@ pub fn read_one(script: &[u8], l: Descriptor, words: &mut [u32], text: &mut [u8]
             }
         }
     }
-}
-
-// Whether a field opens at a place of a body, at depth 0: a `{` that is neither doubled nor the last character.
-fn opens_field(s: &[u8], at: Cursor) -> bool
-    ensures { λ r. ⌜ Whether r ((at .at < length (now (s .entry))) × Opens (now (s .entry)) (at .at)) (Opens (now (s .entry)) (at .at) → ⊥) ⌝ }
-{
-    let Step::Char(c, after) = at.next_char(s) else {
-        return false;
-    };
-    if c != 0x7B {
-        return false;
-    }
-    let Step::Char(d, _) = after.next_char(s) else {
-        return false;
-    };
-    if d == 0x7B {
-        return false;
-    }
-    true
 }
 
 // Where a field ends that opens at a place.

@@ -66,7 +66,7 @@ pub struct Head {
 }
 
 // A number as a word.
-pub(crate) fn word(n: usize) -> u32
+pub fn word(n: usize) -> u32
     ensures { λ r. ⌜ r ≡ wordOf n ⌝ }
 {
     (n % 4294967296) as u32

@@ -16,7 +16,8 @@ use Rattle.definition_cuts_laws.proofs.tokens.TokenMarks.{token-on, no-some}
 use Rattle.utf8.specs.declared.Cursor.{Cursor}
 use Rattle.utf8.proofs.Steps.{Stepped}
 use Rattle.texts.specs.EscapeEnds.{escapeAfter}
-use Rattle.bodies.specs.FieldEnds.{fieldFrom, Opens}
+use Rattle.bodies.specs.FieldEnds.{fieldFrom}
+use Rattle.edges.specs.Edges.{Opens}
 use Rattle.tokens.specs.declared.Token.{Token}
 use Rattle.tokens.specs.declared.Token.the-variants.{Ends, Refused, TooLong}
 use Rattle.tokens.specs.Tokens.{EndIs, TokenIs}

@@ -4,7 +4,7 @@ use native.Mathlib.Omega.{arith}
 use mathlib.Core.Path.{refl, sym, _∙_}
 use mathlib.Core.List.{[]}
 use Rattle.escapes.proofs.Lent.{names-none}
-use Rattle.bodies.specs.Lists.{nothing}
+use Rattle.wholes.specs.Wholes.{nothing}
 use Rattle.bodies.proofs.ListLaws.{fstring-body, content-of, not-read, string-refuses, string-body}
 use Rattle.bodies.proofs.RowCalls.{fstring-rows, string-rows}
 use Rattle.bodies.proofs.RecordLaws.{literal-written}
@@ -35,6 +35,7 @@ body-alone-spec =
     (λ c κs. search needs)  -- parse-alone-requires
     (λ c. search needs)  -- enum-known-r
     (λ c. search needs)  -- enum-known-used
+    (λ c κs. search needs)  -- text-alone-requires
     (λ c. search needs)  -- same-length-3
     (λ c.
     let a = c .before .before .before .before .before .before .before .before .before .before .before .before .args in
@@ -45,13 +46,13 @@ body-alone-spec =
     ))  -- returns-2
     (λ c. search needs)  -- same-length-4
     (λ c.
-    let a = c .before .before .before .before .before .before .before .before .before .before .before .before .args in
-    let R = c .before .before .before .before .before .before .before .before .before .before .before .before .pre in
-    let P = c .before .before .before .before .before .parse-alone in
-    let to = c .before .used .given .0 .0 in
-    let f = sym (c .before .before .before .before .before .before .before .before .is-of .ensures) ∙ c .before .before .before .before .before .before .before .if1 .left in
-    let C = content-of _ (a .fr .kind) (a .s .now) 0 (a .text .now) (P .last .1 .1 .0) to (rw (c .before .used .given .1, readable _ _ _ _ R) at (P .ensures)) in (
-      string-body _ (a .fr) (a .s .now) (a .words .now) (a .text .now) (a .words .now) (P .last .1 .1 .0) nothing (record { count = 0; used = to; held = 1; from = 0; parts = 1 }) to 0 f C
-          (literal-written (a .fr) to nothing (a .words .now) (fits _ _ _ _ R) (omega arith) (omega (arith, C .up, C .short, R .load, R .small)) 0 _ _ (held-alone (a .fr) to (a .words .now)) (C .content) (a .text .now) (C .up)),
+    let a = c .before .before .before .before .before .before .before .before .before .before .before .before .before .args in
+    let R = c .before .before .before .before .before .before .before .before .before .before .before .before .before .pre in
+    let P = c .before .before .before .before .before .before .parse-alone in
+    let to = c .before .before .used .given .0 .0 in
+    let f = sym (c .before .before .before .before .before .before .before .before .before .is-of .ensures) ∙ c .before .before .before .before .before .before .before .before .if1 .left in
+    let C = content-of _ (a .fr .kind) (a .s .now) 0 (a .text .now) (P .last .1 .1 .0) to (rw (c .before .before .used .given .1, readable _ _ _ _ R) at (P .ensures)) in (
+      string-body _ (a .fr) (a .s .now) (a .words .now) (a .text .now) (a .words .now) (P .last .1 .1 .0) nothing (c .text-alone .result) to 0 f C
+          (literal-written (a .fr) to nothing (a .words .now) (fits _ _ _ _ R) (omega arith) (omega (arith, C .up, C .short, R .load, R .small)) 0 _ _ (rw (c .text-alone .ensures) (held-alone (a .fr) to (a .words .now))) (C .content) (a .text .now) (C .up)),
       string-rows _ (a .fr) (a .s .now) [] 0 _ _ _ _ f C,
     )))  -- returns-3

@@ -33,19 +33,18 @@ read-one-spec =
     (λ c. search needs)  -- slice-aggregate-refuse
     (λ c κs. search needs)  -- refuse-requires
     (λ c. search needs)  -- enum-known-chars
-    (λ c κs. search needs)  -- kind-of-requires
-    (λ c κs. search needs)  -- u-mark-requires
-    (λ c κs. alone-room heldNames _ _ (record { kind = 0; start = 0; end = 0; mark = 0 }) [] [] (pass (c .before .before .before .before .before) .0) (fits (c .before .before .before .before .before)))  -- literal-alone-requires
+    (λ c κs. search needs)  -- whole-between-requires
+    (λ c κs. alone-room heldNames _ _ (record { kind = 0; start = 0; end = 0; mark = 0 }) [] [] (pass (c .before .before .before .before) .0) (fits (c .before .before .before .before)))  -- literal-alone-requires
     (λ c. search needs)  -- enum-known-x
     (λ c. search needs)  -- slice-aggregate-refuse-2
     (λ c. search needs)  -- slice-aggregate-refusal-in
-    (λ c κs. let Q = rw (c .before .before .before .before .before .x .given .1) at (c .before .before .before .before .before .before .before .before .before .before .before .literal-alone .ensures) in (alone-stands heldNames _ _ _ _ _ (pass (c .before .before .before .before .before .before .before .before .before .before .before .before .before .before .before .before .before) .0) (fits (c .before .before .before .before .before .before .before .before .before .before .before .before .before .before .before .before .before)) _ _ (c .before .before .before .before .before .x .given .0 .0) (Q .0), none-before _))  -- refusal-in-requires
+    (λ c κs. let Q = rw (c .before .before .before .before .before .x .given .1) at (c .before .before .before .before .before .before .before .before .before .before .before .literal-alone .ensures) in (alone-stands heldNames _ _ _ _ _ (pass (c .before .before .before .before .before .before .before .before .before .before .before .before .before .before .before .before) .0) (fits (c .before .before .before .before .before .before .before .before .before .before .before .before .before .before .before .before)) _ _ (c .before .before .before .before .before .x .given .0 .0) (Q .0), none-before _))  -- refusal-in-requires
     (λ c κs. search needs)  -- refuse-requires-2
     (λ c. search needs)  -- enum-known-sink
     (λ c κs.
     let R = rw (c .before .before .sink .given .1) at (c .before .before .before .before .before .before .before .before .literal-alone .ensures) in (
-      alone-all heldNames _ _ _ _ _ (pass (c .before .before .before .before .before .before .before .before .before .before .before .before .before .before) .0) (fits (c .before .before .before .before .before .before .before .before .before .before .before .before .before .before)) _ _ (c .before .before .sink .given .0 .0) (c .before .before .sink .given .0 .1 .0) (c .before .before .sink .given .0 .1 .1 .0) (R .0) .wrote .fits,
-      alone-rowed heldNames _ _ _ _ _ (pass (c .before .before .before .before .before .before .before .before .before .before .before .before .before .before) .0) (fits (c .before .before .before .before .before .before .before .before .before .before .before .before .before .before)) _ _ (c .before .before .sink .given .0 .0) (c .before .before .sink .given .0 .1 .0) (c .before .before .sink .given .0 .1 .1 .0) (R .0) (R .1) .few,
+      alone-all heldNames _ _ _ _ _ (pass (c .before .before .before .before .before .before .before .before .before .before .before .before .before) .0) (fits (c .before .before .before .before .before .before .before .before .before .before .before .before .before)) _ _ (c .before .before .sink .given .0 .0) (c .before .before .sink .given .0 .1 .0) (c .before .before .sink .given .0 .1 .1 .0) (R .0) .wrote .fits,
+      alone-rowed heldNames _ _ _ _ _ (pass (c .before .before .before .before .before .before .before .before .before .before .before .before .before) .0) (fits (c .before .before .before .before .before .before .before .before .before .before .before .before .before)) _ _ (c .before .before .sink .given .0 .0) (c .before .before .sink .given .0 .1 .0) (c .before .before .sink .given .0 .1 .1 .0) (R .0) (R .1) .few,
     ))  -- written-of-requires
     (λ c. search needs)  -- same-length
     (λ c. search needs)  -- same-length-2
@@ -58,18 +57,18 @@ read-one-spec =
     (λ c. search needs)  -- same-length-3
     (λ c. search needs)  -- same-length-4
     (λ c.
-    let a = (c .before .before .before .before .before .before .before .before .before .before .before .before .before .before .before .before .before .before .before .before .before .before .before .before .before .before .before .before .before .before .args) in
+    let a = (c .before .before .before .before .before .before .before .before .before .before .before .before .before .before .before .before .before .before .before .before .before .before .before .before .before .before .before .before .before .args) in
     let x = (c .before .before .before .before .before .before .refusal-in .result) in
     let Q = rw (c .before .before .before .before .before .before .before .before .before .before .before .before .x .given .1) at (c .before .before .before .before .before .before .before .before .before .before .before .before .before .before .before .before .before .before .literal-alone .ensures) in
     let E = (c .before .before .before .before .before .refuse2 .ensures) in
     refused-all heldNames 0 0 (a .script .now) (six (a .l)) (a .words .now) (a .text .now) [] (c .before .before .before .before .before .before .before .before .before .before .before .before .before .before .before .before .before .before .literal-alone .last .1 .1 .1 .0) (c .before .before .before .before .before .before .before .before .before .before .before .before .before .before .before .before .before .before .literal-alone .last .1 .1 .1 .1 .0) [] (c .before .before .before .before .before .refuse2 .last .0) (c .before .before .before .before .before .refuse2 .last .1 .0) [] x (c .before .before .before .before .before .refuse2 .result)
-    (alone-refused heldNames _ _ _ _ _ (pass (c .before .before .before .before .before .before .before .before .before .before .before .before .before .before .before .before .before .before .before .before .before .before .before .before) .0) (fits (c .before .before .before .before .before .before .before .before .before .before .before .before .before .before .before .before .before .before .before .before .before .before .before .before)) _ _ (c .before .before .before .before .before .before .before .before .before .before .before .before .x .given .0 .0) (Q .0) (refusalOf x) (c .before .before .before .before .before .before .refusal-in .ensures)) (c .before .before .before .before .before .before .before .before .before .before .before .before .before .before .before .before .before .before .literal-alone .kept .1 .1 .1 .0) (c .before .before .before .before .before .before .before .before .before .before .before .before .before .before .before .before .before .before .literal-alone .kept .1 .1 .1 .1 .0) refl (E .0, E .1, E .2, refl))  -- returns-2
+    (alone-refused heldNames _ _ _ _ _ (pass (c .before .before .before .before .before .before .before .before .before .before .before .before .before .before .before .before .before .before .before .before .before .before .before) .0) (fits (c .before .before .before .before .before .before .before .before .before .before .before .before .before .before .before .before .before .before .before .before .before .before .before)) _ _ (c .before .before .before .before .before .before .before .before .before .before .before .before .x .given .0 .0) (Q .0) (refusalOf x) (c .before .before .before .before .before .before .refusal-in .ensures)) (c .before .before .before .before .before .before .before .before .before .before .before .before .before .before .before .before .before .before .literal-alone .kept .1 .1 .1 .0) (c .before .before .before .before .before .before .before .before .before .before .before .before .before .before .before .before .before .before .literal-alone .kept .1 .1 .1 .1 .0) refl (E .0, E .1, E .2, refl))  -- returns-2
     (λ c. search needs)  -- same-length-5
     (λ c. search needs)  -- same-length-6
     (λ c.
-    let a = (c .before .before .before .before .before .before .before .before .before .before .before .before .before .before .before .before .before .before .before .before .before .before .before .args) in
+    let a = (c .before .before .before .before .before .before .before .before .before .before .before .before .before .before .before .before .before .before .before .before .before .before .args) in
     let R = rw (c .before .before .before .before .before .sink .given .1) at (c .before .before .before .before .before .before .before .before .before .before .before .literal-alone .ensures) in
-    let A = alone-all heldNames _ _ _ _ _ (pass (c .before .before .before .before .before .before .before .before .before .before .before .before .before .before .before .before .before) .0) (fits (c .before .before .before .before .before .before .before .before .before .before .before .before .before .before .before .before .before)) _ _ (c .before .before .before .before .before .sink .given .0 .0) (c .before .before .before .before .before .sink .given .0 .1 .0) (c .before .before .before .before .before .sink .given .0 .1 .1 .0) (R .0) in
-    let W = alone-rowed heldNames _ _ _ _ _ (pass (c .before .before .before .before .before .before .before .before .before .before .before .before .before .before .before .before .before) .0) (fits (c .before .before .before .before .before .before .before .before .before .before .before .before .before .before .before .before .before)) _ _ (c .before .before .before .before .before .sink .given .0 .0) (c .before .before .before .before .before .sink .given .0 .1 .0) (c .before .before .before .before .before .sink .given .0 .1 .1 .0) (R .0) (R .1) in
-    done-all heldNames 0 0 (a .script .now) (six (a .l)) (a .words .now) (a .text .now) [] _ _ [] _ _ (c .before .before .before .before .before .sink .given .0 .1 .0) (c .before .before .before .before .before .sink .given .0 .1 .1 .0) (c .before .before .before .before .before .before .before .before .before .before .before .before .before .before .before .before .before .chars .given .0 .0) (c .before .before .written-of .result) (pass (c .before .before .before .before .before .before .before .before .before .before .before .before .before .before .before .before .before))
-    (alone-whole (a .script .now) (a .l) _ _ (pass (c .before .before .before .before .before .before .before .before .before .before .before .before .before .before .before .before .before) .0) (c .before .before .before .before .before .before .before .before .before .before .before .before .before .before .before .kind-of .ensures) (c .before .before .before .before .before .before .before .before .before .before .before .before .before .before .u-mark .ensures)) A W (c .before .before .written-of .ensures)))  -- returns-3
+    let A = alone-all heldNames _ _ _ _ _ (pass (c .before .before .before .before .before .before .before .before .before .before .before .before .before .before .before .before) .0) (fits (c .before .before .before .before .before .before .before .before .before .before .before .before .before .before .before .before)) _ _ (c .before .before .before .before .before .sink .given .0 .0) (c .before .before .before .before .before .sink .given .0 .1 .0) (c .before .before .before .before .before .sink .given .0 .1 .1 .0) (R .0) in
+    let W = alone-rowed heldNames _ _ _ _ _ (pass (c .before .before .before .before .before .before .before .before .before .before .before .before .before .before .before .before) .0) (fits (c .before .before .before .before .before .before .before .before .before .before .before .before .before .before .before .before)) _ _ (c .before .before .before .before .before .sink .given .0 .0) (c .before .before .before .before .before .sink .given .0 .1 .0) (c .before .before .before .before .before .sink .given .0 .1 .1 .0) (R .0) (R .1) in
+    done-all heldNames 0 0 (a .script .now) (six (a .l)) (a .words .now) (a .text .now) [] _ _ [] _ (c .before .before .before .before .before .before .before .before .before .before .before .before .before .before .whole-between .result) (c .before .before .before .before .before .sink .given .0 .1 .0) (c .before .before .before .before .before .sink .given .0 .1 .1 .0) (c .before .before .before .before .before .before .before .before .before .before .before .before .before .before .before .before .chars .given .0 .0) (c .before .before .written-of .result) (pass (c .before .before .before .before .before .before .before .before .before .before .before .before .before .before .before .before))
+    (rw (c .before .before .before .before .before .before .before .before .before .before .before .before .before .before .whole-between .ensures) (alone-whole (a .script .now) (a .l) (pass (c .before .before .before .before .before .before .before .before .before .before .before .before .before .before .before .before) .0))) A W (c .before .before .written-of .ensures)))  -- returns-3

@@ -35,7 +35,7 @@ use Rattle.records.proofs.reserve.Reads as reserve-reads
 use Rattle.records.proofs.again.sink_again.Reads as sink-again-reads
 use Rattle.records.proofs.spec_text.Reads as spec-text-reads
 use Rattle.heads.proofs.read_head.Reads as read-head-reads
-use Rattle.bodies.proofs.fstring.end_field.Reads as end-field-reads
+use Rattle.edges.proofs.end_field.Reads as end-field-reads
 use Rattle.bodies.proofs.fstring.read_first.Reads as read-first-reads
 use Rattle.records.proofs.rows.put_signs.Reads as put-signs-reads
 use Rattle.texts.proofs.text_run.Reads as text-run-reads

@@ -1,7 +1,7 @@
--- `bodies::u_mark` meets its contract. Assumes nothing.
+-- `wholes::u_mark` meets its contract. Assumes nothing.
 use borrow.Author.Tests.{eq-eqb, ne-eqb}
-use Rattle.bodies.proofs.u_mark.Statement.{statement}
-use Rattle.bodies.proofs.u_mark.Tie as tie
+use Rattle.wholes.proofs.u_mark.Statement.{statement}
+use Rattle.wholes.proofs.u_mark.Tie as tie
 
 pub u-mark-spec : {M : Type 1} → statement M
 u-mark-spec =

@@ -1,10 +1,10 @@
--- `bodies::opens_field` meets its contract. Assumes nothing.
+-- `edges::opens_field` meets its contract. Assumes nothing.
 use borrow.Author.Needs.{needs}
 use mathlib.Core.Path.{sym, _∙_}
 use Rattle.utf8.proofs.Steps.{step-char, step-end}
-use Rattle.bodies.proofs.FieldEndLaws.{past-end, no-brace, last-brace, doubled-brace, brace-opens}
-use Rattle.bodies.proofs.opens_field.Statement.{statement}
-use Rattle.bodies.proofs.opens_field.Tie as tie
+use Rattle.edges.proofs.OpenLaws.{past-end, no-brace, last-brace, doubled-brace, brace-opens}
+use Rattle.edges.proofs.opens_field.Statement.{statement}
+use Rattle.edges.proofs.opens_field.Tie as tie
 
 pub opens-field-spec : {M : Type 1} → statement M
 opens-field-spec =

@@ -1,10 +1,10 @@
--- `bodies::fstring::end_field` meets its contract. Assumes nothing.
+-- `edges::end_field` meets its contract. Assumes nothing.
 use borrow.Author.Needs.{needs}
 use borrow.Author.Tests.{le-leb, lt-leb}
 use mathlib.Core.Path.{sym, _∙_}
 use Rattle.utf8.proofs.Steps.{step-char, step-end}
-use Rattle.bodies.proofs.fstring.end_field.Statement.{statement}
-use Rattle.bodies.proofs.fstring.end_field.Tie as tie
+use Rattle.edges.proofs.end_field.Statement.{statement}
+use Rattle.edges.proofs.end_field.Tie as tie
 
 pub end-field-spec : {M : Type 1} → statement M
 end-field-spec =

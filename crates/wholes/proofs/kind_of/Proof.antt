@@ -1,8 +1,8 @@
--- `bodies::kind_of` meets its contract. Assumes nothing.
+-- `wholes::kind_of` meets its contract. Assumes nothing.
 use borrow.Author.Needs.{needs}
 use mathlib.Core.Path.{sym, _∙_}
-use Rattle.bodies.proofs.kind_of.Statement.{statement}
-use Rattle.bodies.proofs.kind_of.Tie as tie
+use Rattle.wholes.proofs.kind_of.Statement.{statement}
+use Rattle.wholes.proofs.kind_of.Tie as tie
 
 pub kind-of-spec : {M : Type 1} → statement M
 kind-of-spec =
