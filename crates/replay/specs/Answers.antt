@@ -4,7 +4,7 @@ use mathlib.Core.Path.{_≡_}
 use mathlib.Core.List.{List, [], _∷_, _++_}
 use lib.ListN.{length, take, replicate}
 use Rattle.definition.specs.Records.{Answer}
-use Rattle.definition.specs.Reading.{accepts, zeros, numbers}
+use Rattle.definition.specs.Reading.{accepts, numbers}
 use Rattle.definition.specs.Words.{recordsFrom}
 use Rattle.definition_replay.specs.Replay.{ReplayCall, replayCall, replayNumbersOf}
 use Rattle.definition_laws.proofs.outcomes.Outcomes.{Gapless}
@@ -29,7 +29,3 @@ pub record Holds (a : Answer) (x : Read) (words text : List ℕ) : Type 0 where
 -- the call that replays a trace through it
 abbrev pub replayOf : Answer → (trace words text output : List ℕ) → ReplayCall
 replayOf a trace words text output = replayCall (record { outcome = accepts a; words = words; text = text }) trace output
-
--- all three buffers hold zeros
-abbrev pub Cleared : (words text output words′ text′ output′ : List ℕ) → Type 0
-Cleared words text output words′ text′ output′ = (words′ ≡ zeros words) × (text′ ≡ zeros text) × (output′ ≡ zeros output)

@@ -1,4 +1,5 @@
 // What is told of a whole list of literals beside their bodies: what its top-level records carry, one text that is held, and the refusal of a body.
+use counts::Count;
 use entry::Class;
 use entry::Descriptor;
 use heads::MISMATCHED_DELIMITER;
@@ -7,7 +8,6 @@ use records::Sink;
 use records::Whole;
 use records::word;
 use std::num::wrapping_add_usize;
-use counts::Count;
 ghost use mathlib.Core.Path.{_≡_};
 ghost use Rattle.definition.specs.Numbers.{isBytes, isUnicode};
 ghost use Rattle.definition.specs.Chars.{if_then_else_};

@@ -9,8 +9,6 @@ clear-spec =
     (tie.spec
     (λ c κs. search needs)  -- fill-words-requires
     (λ c κs. search needs)  -- fill-requires
-    (λ c κs. search needs)  -- fill-requires-2
     (λ c. search needs)  -- same-length
     (λ c. search needs)  -- same-length-2
-    (λ c. search needs)  -- same-length-3
-    (λ c. ((c .before .before .before .before .before .before .before .before .before .before .fill-words .ensures), (c .before .before .before .before .before .before .fill .ensures), (c .before .before .fill2 .ensures))))  -- returns
+    (λ c. search needs))  -- returns

@@ -12,12 +12,13 @@ replay-trace-spec =
     (λ c κs. search needs)  -- parse-strings-requires
     (λ c. search needs)  -- enum-known-r
     (λ c κs. search needs)  -- clear-requires
+    (λ c κs. search needs)  -- fill-requires
     (λ c. search needs)  -- enum-known-x
     (λ c κs. trace-room heldNames (c .before .before .before .before .before .before .before .before .before .before .before .before .before .before .before .before .before .before .before .args .script .now) (c .before .before .before .before .before .before .before .before .before .before .before .before .before .before .before .before .before .before .before .args .numbers .now) (c .before .before .before .before .before .before .before .before .before .before .before .before .before .before .before .before .before .before .before .args .trace .now) (c .before .before .before .before .before .before .before .before .before .before .before .before .before .before .before .before .before .before .before .args .words .now) (c .before .before .before .before .before .before .before .before .before .before .before .before .before .before .before .before .before .before .before .args .text .now) (c .before .before .before .before .before .before .before .before .before .before .before .before .before .before .before .before .before .before .before .args .output .now) _ _ _ (rw (c .before .before .before .before .x .given .1) at (c .before .before .before .before .before .before .before .before .before .before .parse-strings .ensures)))  -- replay-read-requires
     (λ c. search needs)  -- same-length
     (λ c. search needs)  -- same-length-2
     (λ c. search needs)  -- same-length-3
-    (λ c. trace-refused heldNames (c .before .before .before .before .before .before .before .before .before .before .before .before .before .before .before .before .before .before .before .before .before .before .before .before .before .before .args .script .now) (c .before .before .before .before .before .before .before .before .before .before .before .before .before .before .before .before .before .before .before .before .before .before .before .before .before .before .args .numbers .now) (c .before .before .before .before .before .before .before .before .before .before .before .before .before .before .before .before .before .before .before .before .before .before .before .before .before .before .args .trace .now) (c .before .before .before .before .before .before .before .before .before .before .before .before .before .before .before .before .before .before .before .before .before .before .before .before .before .before .args .words .now) (c .before .before .before .before .before .before .before .before .before .before .before .before .before .before .before .before .before .before .before .before .before .before .before .before .before .before .args .text .now) (c .before .before .before .before .before .before .before .before .before .before .before .before .before .before .before .before .before .before .before .before .before .before .before .before .before .before .args .output .now) _ _ _ (rw (c .before .before .before .before .before .before .before .before .before .before .before .r .given .1) at (c .before .before .before .before .before .before .before .before .before .before .before .before .before .before .before .before .before .parse-strings .ensures)) (c .before .before .before .before .before .before .clear .ensures))  -- returns
+    (λ c. trace-refused heldNames (c .before .before .before .before .before .before .before .before .before .before .before .before .before .before .before .before .before .before .before .before .before .before .before .before .before .before .before .args .script .now) (c .before .before .before .before .before .before .before .before .before .before .before .before .before .before .before .before .before .before .before .before .before .before .before .before .before .before .before .args .numbers .now) (c .before .before .before .before .before .before .before .before .before .before .before .before .before .before .before .before .before .before .before .before .before .before .before .before .before .before .before .args .trace .now) (c .before .before .before .before .before .before .before .before .before .before .before .before .before .before .before .before .before .before .before .before .before .before .before .before .before .before .before .args .words .now) (c .before .before .before .before .before .before .before .before .before .before .before .before .before .before .before .before .before .before .before .before .before .before .before .before .before .before .before .args .text .now) (c .before .before .before .before .before .before .before .before .before .before .before .before .before .before .before .before .before .before .before .before .before .before .before .before .before .before .before .args .output .now) _ _ _ (rw (c .before .before .before .before .before .before .before .before .before .before .before .before .r .given .1) at (c .before .before .before .before .before .before .before .before .before .before .before .before .before .before .before .before .before .before .parse-strings .ensures)) ((c .before .before .before .before .before .before .before .before .clear .ensures .0), (c .before .before .before .before .before .before .before .before .clear .ensures .1), (c .before .before .fill .ensures)))  -- returns
     (λ c. search needs)  -- same-length-4
     (λ c. search needs)  -- same-length-5
     (λ c. search needs)  -- same-length-6

@@ -1,0 +1,5 @@
+pub mod Holding
+pub mod Scanned
+pub mod Lining
+pub mod AllLines
+pub mod Telling
