@@ -20,8 +20,10 @@ use Rattle.answers.specs.declared.Outcome.{Outcome as Said}
 use Rattle.answers.specs.declared.Outcome.the-variants.{Accepted, Refused}
 use Rattle.strings.specs.Strings.{CallIs}
 use Rattle.definition_lines.specs.Lines.{refusalLine, recordLines, outcomeLines, oneLiteral, bodyLines}
-use Rattle.lines.specs.Written.{Adds, placeLines, Lie, longest, Lists, Room}
-use Rattle.lines.proofs.Places.{Small, all-places, gapless-inside, places-inside, lines-short}
+use Rattle.objects.specs.Written.{Adds}
+use Rattle.objects.proofs.Short.{Small}
+use Rattle.lines.specs.Written.{placeLines, Lie, longest, Lists, Room}
+use Rattle.lines.proofs.Places.{all-places, gapless-inside, places-inside, lines-short}
 
 -- a body that is too long
 pub long-lines : (s : List ℕ) → 1024 < length s → bodyLines s ≡ refusalLine bodiesTooLong 0 0 0

@@ -1,4 +1,3 @@
-pub mod Texts
 pub mod Places
 pub mod Answers
 pub mod WhyLaws

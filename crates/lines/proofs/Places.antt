@@ -2,9 +2,10 @@
 use mathlib.Core.Path.{_≡_, refl, sym, _∙_, ap, ap₂}
 use mathlib.Core.Bool.{Bool, true, false}
 use mathlib.Core.List.{List, [], _∷_, _++_, append-assoc, append-nil}
-use Prim.Native.Nat.{ℕ, zero, suc, _+_, _*_, _≤_, _<_}
+use Prim.Native.Nat.{ℕ, zero, suc, _+_, _-_, _*_, _≤_, _<_, min}
 use native.Mathlib.Numerals.{add-one}
 use native.Mathlib.Omega.{arith}
+use borrow.Rule.Slice.PartMut.{putMid, midOf}
 use borrow.Author.Tests.{eqb-true, eqb-false}
 use lib.Dec.{eqb}
 use lib.ListN.{length, getD, length-append}
@@ -15,8 +16,27 @@ use Rattle.definition.specs.Reading.{allWords}
 use Rattle.definition_laws.proofs.moves.Moves.{part-short}
 use Rattle.definition_laws.proofs.outcomes.Outcomes.{Gapless, sizes, gapless-sum}
 use Rattle.definition_lines.specs.Lines.{literalLine, fieldLine, specLine, refusalLine, lineOf, recordLine, recordLines}
-use Rattle.lines.specs.Written.{Adds, Fits, placeLine, placeLines}
-use Rattle.lines.proofs.Texts.{decimal-short, escaped-short}
+use Rattle.buffers.proofs.Over.{over-tail}
+use Rattle.objects.specs.Written.{Adds, Fits, Puts, ofText}
+use Rattle.objects.proofs.Short.{Small, line-short, short-text}
+use Rattle.lines.specs.Written.{placeLine, placeLines}
+
+-- LINES from the front of a buffer on, and of its part behind the used length
+pub all-front : {xs b b′ : List ℕ} {r : ℕ} → Puts xs b b′ r → Adds xs b 0 b′ r
+all-front p = let n = p .0 in record { wrote = p .1; up = omega arith }
+
+pub tail-adds : (b : List ℕ) (u q : ℕ) (xs : List ℕ) {last : List ℕ} {n : ℕ} → q ≡ min u (length b) → Puts xs (midOf q (length b - q) b) last n → Adds xs b u (putMid q (length b - q) b last) (u + n)
+tail-adds b u q xs e p = record { wrote = over-tail b u q xs e (p .1); up = ap (λ m. u + m) (p .0) }
+
+-- a record's line
+pub place-put : (W text : List ℕ) (i : ℕ) (b : List ℕ) (u q : ℕ) {last : List ℕ} {n : ℕ} → getD W (i * 8 + 2) 0 ≤ 0xFFFFFFFF → q ≡ min u (length b)
+    → let t = part text (getD W (i * 8 + 1) 0) (getD W (i * 8 + 1) 0 + getD W (i * 8 + 2) 0) in
+    Puts (ofText t (lineOf (getD W (i * 8) 0) t (getD W (i * 8 + 5) 0) (getD W (i * 8 + 6) 0) (getD W (i * 8 + 7) 0))) (midOf q (length b - q) b) last n
+    → Adds (placeLine W text i) b u (putMid q (length b - q) b last) (u + n)
+unfolding placeLine
+place-put W text i b u q h e p =
+    let l = part-short text (getD W (i * 8 + 1) 0) (getD W (i * 8 + 1) 0 + getD W (i * 8 + 2) 0) in
+    tail-adds b u q _ e (rw (short-text (part text (getD W (i * 8 + 1) 0) (getD W (i * 8 + 1) 0 + getD W (i * 8 + 2) 0)) _ (omega arith)) at p)
 
 -- a word behind a record's eight
 behind : (r : Record) (W : List ℕ) (j k : ℕ) → j ≡ 8 + k → getD (wordsOf r ++ W) j 0 ≡ getD W k 0
@@ -92,23 +112,6 @@ place-fits W text n i f h p =
 pub one-more : (W text : List ℕ) (i : ℕ) → placeLines W text (i + 1) ≡ placeLines W text i ++ placeLine W text i
 unfolding placeLines
 one-more W text i = rw (add-one i)
-
--- HOW LONG LINES ARE, where numbers are of 32 bits: at most 70 bytes, and six for each byte of text
-abbrev pub Small : ℕ → Type 0
-Small n = n < 4294967296
-
-pub refusal-short : (number place a b : ℕ) → Small number → Small place → Small a → Small b → length (refusalLine number place a b) ≤ 70
-unfolding refusalLine ascii
-refusal-short n p a b hn hp ha hb = simp length-append (omega (arith, decimal-short n hn, decimal-short p hp, decimal-short a ha, decimal-short b hb))
-
-line-short : (kind : ℕ) (text : List ℕ) (mode parts place : ℕ) → Small mode → Small parts → Small place → length (lineOf kind text mode parts place) ≤ 70 + 6 * length text
-unfolding lineOf literalLine fieldLine specLine ascii
-line-short kind text mode parts place hm hp hl = go (eqb kind 2) (eqb kind 3)
-  where
-    go : (x y : Bool) → length (if x then fieldLine text mode place else if y then specLine parts else literalLine text) ≤ 70 + 6 * length text
-    go true y = simp length-append (omega (arith, escaped-short text, decimal-short mode hm, decimal-short place hl))
-    go false true = simp length-append (omega (arith, decimal-short parts hp))
-    go false false = simp length-append (omega (arith, escaped-short text))
 
 pub lines-short : (text : List ℕ) (rs : List Record) (rest : List ℕ) → ((i : ℕ) → Small (getD (allWords rs ++ rest) i 0)) → length (recordLines text rs) ≤ 70 * length rs + 6 * sizes rs
 unfolding recordLines recordLine allWords wordsOf

@@ -3,10 +3,11 @@ use mathlib.Core.Path.{_≡_, refl, sym, _∙_, ap, ap₂, subst}
 use mathlib.Core.Bool.{Bool, true, false}
 use mathlib.Core.List.{List, [], _∷_, _++_, map, append-assoc, append-nil}
 use mathlib.Core.Option.{none}
-use Prim.Native.Nat.{ℕ, zero, suc, _+_, _-_, _*_, _/_, _≤_, _<_}
+use Prim.Native.Nat.{ℕ, zero, suc, _+_, _-_, _*_, _/_, _≤_, _<_, min}
 use native.Mathlib.Nat.{add-zero}
 use native.Mathlib.Numerals.{add-one}
 use native.Mathlib.Omega.{arith}
+use borrow.Rule.Slice.PartMut.{putMid, midOf}
 use borrow.Author.Tests.{eqb-true, eqb-false, eq-eqb, ne-eqb, lt-ltb, le-ltb}
 use lib.Dec.{ltb, eqb}
 use lib.ListN.{length, take, drop, getD, length-append, length-drop}
@@ -31,10 +32,11 @@ use Rattle.answers.specs.declared.Answer.{Answer as Given}
 use Rattle.answers.specs.declared.Outcome.{Outcome as Said}
 use Rattle.answers.specs.declared.Outcome.the-variants.{Accepted, Refused}
 use Rattle.strings.specs.Strings.{CallIs, SignsIs}
-use Rattle.lines.specs.Written.{Adds, Fits, longest, Room}
+use Rattle.objects.specs.Written.{Adds, Fits, Puts, ofText}
+use Rattle.objects.proofs.Short.{Small, why-short, short-text}
+use Rattle.lines.specs.Written.{longest, Room}
 use Rattle.lines.specs.Whys.{isField, fieldsAfter, fieldsIn, whyPlace, whyPlaces, Lies, Explains}
-use Rattle.lines.proofs.Texts.{decimal-short, escaped-short}
-use Rattle.lines.proofs.Places.{Small, gapless-inside, places-inside}
+use Rattle.lines.proofs.Places.{tail-adds, gapless-inside, places-inside}
 use Rattle.lines.proofs.Answers.{Called, there, refused-lines}
 
 -- a list of blocks of a size, from a place on: what stands there, and behind it
@@ -146,20 +148,6 @@ fields-on words i (suc n) =
     rw e (cases (isField words (i + n)) (λ t. rw t (omega (arith, fields-on words i n))) (λ t. rw t (fields-on words i n)))
 
 -- HOW LONG THE LINES ARE: at most 70 bytes for a record, and six for each byte of text
-reason-short : (reason bang : ℕ) → Small bang → length (reasonEnd reason bang) ≤ 30
-unfolding reasonEnd writtenEnd ascii
-reason-short reason bang h = go (eqb reason 1) (eqb reason 2) (eqb reason 3)
-  where
-    go : (x y z : Bool) → length (if x then writtenEnd bang else if y then ascii "none\"}\n" else if z then ascii "repr\"}\n" else ascii "spec\"}\n") ≤ 30
-    go true y z = simp length-append (omega (arith, decimal-short bang h))
-    go false true z = omega arith
-    go false false true = omega arith
-    go false false false = omega arith
-
-why-short : (text : List ℕ) (place reason bang : ℕ) → Small place → Small bang → length (whyLine text place reason bang) ≤ 70 + 6 * length text
-unfolding whyLine ascii
-why-short text place reason bang p b = simp length-append (omega (arith, escaped-short text, decimal-short place p, reason-short reason bang b))
-
 whys-short : (text : List ℕ) (rs : List Record) (ws : List Row) (rest : List ℕ) → ((i : ℕ) → Small (getD (allNumbers 0 ws ++ rest) i 0)) → length (whyLines text rs ws) ≤ 70 * length rs + 6 * sizes rs
 unfolding whyLines whyHere rowsLeft allNumbers rowNumbers
 whys-short text [] ws rest h = omega arith
@@ -228,6 +216,15 @@ why-line words text rows i k e = rw (eq-eqb _ _ e)
 pub why-not : (words text rows : List ℕ) (i k : ℕ) → (getD words (i * 8) 0 ≡ 2 → ⊥) → whyPlace words text rows i k ≡ []
 unfolding whyPlace
 why-not words text rows i k n = rw (ne-eqb _ _ n)
+
+-- a field's line, put behind the used length
+pub why-put : (words text rows : List ℕ) (i k : ℕ) (b : List ℕ) (u q : ℕ) {last : List ℕ} {n : ℕ} → getD words (i * 8) 0 ≡ 2 → getD words (i * 8 + 2) 0 ≤ 0xFFFFFFFF → q ≡ min u (length b)
+    → let t = part text (getD words (i * 8 + 1) 0) (getD words (i * 8 + 1) 0 + getD words (i * 8 + 2) 0) in
+    Puts (ofText t (whyLine t (getD rows (k * 10 + 2) 0) (getD rows (k * 10) 0) (getD rows (k * 10 + 6) 0))) (midOf q (length b - q) b) last n
+    → Adds (whyPlace words text rows i k) b u (putMid q (length b - q) b last) (u + n)
+why-put words text rows i k b u q f h e p =
+    let l = part-short text (getD words (i * 8 + 1) 0) (getD words (i * 8 + 1) 0 + getD words (i * 8 + 2) 0) in
+    rw (why-line words text rows i k f) (tail-adds b u q _ e (rw (short-text (part text (getD words (i * 8 + 1) 0) (getD words (i * 8 + 1) 0 + getD words (i * 8 + 2) 0)) _ (omega arith)) at p))
 
 -- a body that is too long
 pub long-whys : (s : List ℕ) → 1024 < length s → bodyWhy s ≡ refusalLine bodiesTooLong 0 0 0

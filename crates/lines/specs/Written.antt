@@ -1,4 +1,4 @@
--- What the code writes: bytes over a buffer, and the lines of records that lie in words.
+-- What the code writes: the lines of records that lie in words.
 use Prim.Native.Nat.{ℕ, zero, suc, _+_, _*_, _≤_, _<_}
 use mathlib.Core.Path.{_≡_}
 use mathlib.Core.List.{List, [], _++_}
@@ -6,15 +6,6 @@ use lib.ListN.{length, getD}
 use Rattle.definition.specs.Chars.{part}
 use Rattle.buffers.specs.Over.{over}
 use Rattle.definition_lines.specs.Lines.{lineOf, bodyLines}
-
--- bytes that are written over a buffer from the used length on: the buffer and the used length afterwards
-pub record Adds (xs buffer : List ℕ) (used : ℕ) (after : List ℕ) (r : ℕ) : Type 0 where
-  pub wrote : after ≡ over buffer used xs
-  pub up : r ≡ used + length xs
-
--- the used length afterwards is a number of the machine
-abbrev pub Fits : ℕ → List ℕ → Type 0
-Fits used xs = used + length xs < 18446744073709551616
 
 -- the line of the record at a record place of words
 unfoldable pub placeLine : List ℕ → List ℕ → ℕ → List ℕ

@@ -1,59 +1,24 @@
 // Why each field of a body has its conversion: a line each, or the line of its refusal.
 use crate::BODIES_TOO_LONG;
+use crate::least;
 use crate::text;
 use crate::words;
-use crate::write_numbered;
-use crate::write_refusal;
-use crate::write_run;
-use crate::write_text;
 use answers::Outcome;
+use objects::put_refusal;
+use objects::why::put_why;
 use strings::parse_signs;
 use strings::parse_strings;
 ghost use mathlib.Core.Path.{_≡_};
 ghost use Prim.Native.Nat.{ℕ, suc, _+_, _*_, _<_, _≤_};
 ghost use lib.ListN.{length};
-ghost use Rattle.definition_lines.specs.Why.{writtenEnd, reasonEnd, whyLine};
-ghost use Rattle.lines.specs.Written.{Adds, Fits, Room};
+ghost use Rattle.objects.specs.Written.{Adds, Fits};
+ghost use Rattle.lines.specs.Written.{Room};
 ghost use Rattle.lines.specs.Whys.{fieldsAfter, fieldsIn, whyPlace, whyPlaces, Lies, Explains};
 
 // How much is written: the used bytes, and of how many fields.
 struct Written {
     used: usize,
     fields: usize,
-}
-
-// Writes how a line ends whose conversion is written, with the place after the `!`.
-fn write_written(out: &mut [u8], used: usize, bang: u32) -> usize
-    requires { ⌜ Fits used (writtenEnd bang) ⌝ }
-    ensures { λ r. ⌜ Adds (writtenEnd bang) (now (out .entry)) used (now (out .exit)) r ⌝ }
-{
-    let after = write_numbered(out, used, b"written\",\"after\":", bang);
-    write_run(out, after, b"}\n")
-}
-
-// Writes how a line ends, by the reason.
-fn write_reason(out: &mut [u8], used: usize, reason: u32, bang: u32) -> usize
-    requires { ⌜ Fits used (reasonEnd reason bang) ⌝ }
-    ensures { λ r. ⌜ Adds (reasonEnd reason bang) (now (out .entry)) used (now (out .exit)) r ⌝ }
-{
-    match reason {
-        1 => write_written(out, used, bang),
-        2 => write_run(out, used, b"none\"}\n"),
-        3 => write_run(out, used, b"repr\"}\n"),
-        _ => write_run(out, used, b"spec\"}\n"),
-    }
-}
-
-// Writes a field's line.
-fn write_why(out: &mut [u8], used: usize, text: &[u8], place: u32, reason: u32, bang: u32) -> usize
-    requires { ⌜ Fits used (whyLine (now text) place reason bang) ⌝ }
-    ensures { λ r. ⌜ Adds (whyLine (now (text .entry)) place reason bang) (now (out .entry)) used (now (out .exit)) r ⌝ }
-{
-    let from = write_run(out, used, b"{\"field\":\"");
-    let to = write_text(out, from, text);
-    let placed = write_numbered(out, to, b"\",\"at\":", place);
-    let told = write_run(out, placed, b",\"reason\":\"");
-    write_reason(out, told, reason, bang)
 }
 
 // Writes the line of the record at a record place, if it is a field; its row is the next one.
@@ -75,16 +40,16 @@ fn write_place(
     let row = so.fields * 10;
     let from = words[at + 1] as usize;
     let to = from + words[at + 2] as usize;
-    let used = write_why(
-        out,
-        so.used,
+    let lent = least(so.used, out.len());
+    let size = put_why(
+        &mut out[lent..],
         &text[from..to],
         rows[row + 2],
         rows[row],
         rows[row + 6],
     );
     Written {
-        used,
+        used: so.used + size,
         fields: so.fields + 1,
     }
 }
@@ -117,7 +82,7 @@ fn read_whys(
     let size = body.len() as u32;
     let numbers = [1, 0, 0, size, 0, size + 3];
     match parse_strings(body, &numbers, words, text) {
-        Outcome::Refused(r) => write_refusal(out, 0, r.number, r.place, r.a, r.b),
+        Outcome::Refused(r) => put_refusal(out, r.number, r.place, r.a, r.b),
         Outcome::Accepted(x) => {
             parse_signs(body, &numbers, rows);
             let used = x.text as usize;
@@ -138,7 +103,7 @@ pub fn why_lines(body: &[u8], out: &mut [u8]) -> usize
     ensures { λ r. ⌜ Explains (now (body .entry)) (now (out .entry)) (now (out .exit)) r ⌝ }
 {
     if 1024 < body.len() {
-        return write_refusal(out, 0, BODIES_TOO_LONG, 0, 0, 0);
+        return put_refusal(out, BODIES_TOO_LONG, 0, 0, 0);
     }
     let mut words = words();
     let mut text = text();

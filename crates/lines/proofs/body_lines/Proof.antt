@@ -2,7 +2,8 @@
 use borrow.Author.Needs.{needs}
 use native.Mathlib.Omega.{arith}
 use mathlib.Core.Path.{sym}
-use Rattle.lines.proofs.Places.{refusal-short}
+use Rattle.objects.proofs.Short.{refusal-short}
+use Rattle.lines.proofs.Places.{all-front}
 use Rattle.lines.proofs.Answers.{lists, long-lines}
 use Rattle.lines.proofs.body_lines.Statement.{statement}
 use Rattle.lines.proofs.body_lines.Tie as tie
@@ -11,9 +12,9 @@ pub body-lines-spec : {M : Type 1} → statement M
 body-lines-spec =
     tie.close
     (tie.spec
-    (λ c κs. omega (arith, refusal-short 5 0 0 0 (omega arith) (omega arith) (omega arith) (omega arith)))  -- write-refusal-requires
+    (λ c κs. search needs)  -- put-refusal-requires
     (λ c. search needs)  -- same-length
-    (λ c. lists (sym (long-lines _ (c .before .before .before .before .if1 .taken))) (omega (arith, refusal-short 5 0 0 0 (omega arith) (omega arith) (omega arith) (omega arith))) (c .before .before .write-refusal .ensures))  -- returns
+    (λ c. lists (sym (long-lines _ (c .before .before .before .before .if1 .taken))) (omega (arith, refusal-short 5 0 0 0 (omega arith) (omega arith) (omega arith) (omega arith))) (all-front (c .before .before .put-refusal .ensures)))  -- returns
     (λ c κs. search needs)  -- words-requires
     (λ c κs. search needs)  -- text-requires
     (λ c. search needs)  -- slice-aggregate-read-lines

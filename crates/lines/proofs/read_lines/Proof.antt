@@ -3,7 +3,8 @@ use borrow.Author.Needs.{needs}
 use native.Mathlib.Omega.{arith}
 use mathlib.Core.Path.{sym}
 use lib.Seq.{length-take-le}
-use Rattle.lines.proofs.Places.{refusal-short}
+use Rattle.objects.proofs.Short.{refusal-short}
+use Rattle.lines.proofs.Places.{all-front}
 use Rattle.lines.proofs.Answers.{Shows, lists, refused-lines, accepted-shows}
 use Rattle.lines.proofs.read_lines.Statement.{statement}
 use Rattle.lines.proofs.read_lines.Tie as tie
@@ -24,9 +25,7 @@ read-lines-spec =
     (λ c. search needs)  -- slice-aggregate-parse-strings
     (λ c κs. search needs)  -- parse-strings-requires
     (λ c. search needs)  -- enum-known-r
-    (λ c κs.
-    let r = (c .before .before .r .given) .0 .0 in
-    omega (arith, refusal-short (r .number) (r .place) (r .a) (r .b) (search needs) (search needs) (search needs) (search needs)))  -- write-refusal-requires
+    (λ c κs. search needs)  -- put-refusal-requires
     (λ c. search needs)  -- enum-known-x
     (λ c. search needs)  -- cast-used
     (λ c. shown (c .before .before .before .before) .within)  -- slice-reshare-prefix-write-lines
@@ -41,7 +40,7 @@ read-lines-spec =
     let r = (c .before .before .before .before .before .r .given) .0 .0 in
     lists (refused-lines (a .body .now) (a .words .now) (a .text .now) _ _ (c .before .before .before .before .before .before .before .before .before .before .before .before .before .before .before .before .before .before .before .pre) r (rw (c .before .before .before .before .before .r .given .1) at (c .before .before .before .before .before .before .before .before .before .before .before .parse-strings .ensures)))
     (omega (arith, refusal-short (r .number) (r .place) (r .a) (r .b) (search needs) (search needs) (search needs) (search needs)))
-    (c .before .before .write-refusal .ensures))  -- returns
+    (all-front (c .before .before .put-refusal .ensures)))  -- returns
     (λ c. search needs)  -- same-length-4
     (λ c. search needs)  -- same-length-5
     (λ c. search needs)  -- same-length-6

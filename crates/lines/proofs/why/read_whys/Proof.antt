@@ -3,7 +3,8 @@ use borrow.Author.Needs.{needs}
 use native.Mathlib.Omega.{arith}
 use mathlib.Core.Path.{sym}
 use lib.Seq.{length-take-le}
-use Rattle.lines.proofs.Places.{refusal-short}
+use Rattle.objects.proofs.Short.{refusal-short}
+use Rattle.lines.proofs.Places.{all-front}
 use Rattle.lines.proofs.WhyLaws.{Told, explains, refused-whys, accepted-whys}
 use Rattle.lines.proofs.why.read_whys.Statement.{statement}
 use Rattle.lines.proofs.why.read_whys.Tie as tie
@@ -26,7 +27,7 @@ read-whys-spec =
     (λ c. search needs)  -- slice-aggregate-parse-strings
     (λ c κs. search needs)  -- parse-strings-requires
     (λ c. search needs)  -- enum-known-r
-    (λ c κs. let r = (c .before .before .r .given .0 .0) in omega (arith, refusal-short (r .number) (r .place) (r .a) (r .b) (search needs) (search needs) (search needs) (search needs)))  -- write-refusal-requires
+    (λ c κs. search needs)  -- put-refusal-requires
     (λ c. search needs)  -- enum-known-x
     (λ c. search needs)  -- slice-aggregate-parse-signs
     (λ c κs. search needs)  -- parse-signs-requires
@@ -38,7 +39,7 @@ read-whys-spec =
     (λ c. let l0 = (c .before .out .given) in let l1 = (c .before .before .before .before .before .before .before .before .text .given) in let l2 = (c .before .before .before .before .before .before .before .before .before .before .words .given) in search needs)  -- same-length
     (λ c. let l0 = (c .before .out .given) in let l1 = (c .before .before .before .before .before .before .before .before .text .given) in let l2 = (c .before .before .before .before .before .before .before .before .before .before .words .given) in search needs)  -- same-length-2
     (λ c. let l0 = (c .before .out .given) in let l1 = (c .before .before .before .before .before .before .before .before .text .given) in let l2 = (c .before .before .before .before .before .before .before .before .before .before .words .given) in search needs)  -- same-length-3
-    (λ c. let a = (c .before .before .before .before .before .before .before .before .before .before .before .before .before .before .before .before .before .before .before .before .args) in let r = (c .before .before .before .before .before .r .given .0 .0) in explains (refused-whys (a .body .now) (a .words .now) (a .text .now) (a .rows .now) _ _ (a .rows .now) (c .before .before .before .before .before .before .before .before .before .before .before .before .before .before .before .before .before .before .before .before .pre .0) (c .before .before .before .before .before .before .before .before .before .before .before .before .before .before .before .before .before .before .before .before .pre .1) r (rw (c .before .before .before .before .before .r .given .1) at (c .before .before .before .before .before .before .before .before .before .before .before .parse-strings .ensures))) (omega (arith, refusal-short (r .number) (r .place) (r .a) (r .b) (search needs) (search needs) (search needs) (search needs))) (c .before .before .write-refusal .ensures))  -- returns
+    (λ c. let a = (c .before .before .before .before .before .before .before .before .before .before .before .before .before .before .before .before .before .before .before .before .args) in let r = (c .before .before .before .before .before .r .given .0 .0) in explains (refused-whys (a .body .now) (a .words .now) (a .text .now) (a .rows .now) _ _ (a .rows .now) (c .before .before .before .before .before .before .before .before .before .before .before .before .before .before .before .before .before .before .before .before .pre .0) (c .before .before .before .before .before .before .before .before .before .before .before .before .before .before .before .before .before .before .before .before .pre .1) r (rw (c .before .before .before .before .before .r .given .1) at (c .before .before .before .before .before .before .before .before .before .before .before .parse-strings .ensures))) (omega (arith, refusal-short (r .number) (r .place) (r .a) (r .b) (search needs) (search needs) (search needs) (search needs))) (all-front (c .before .before .put-refusal .ensures)))  -- returns
     (λ c. let l0 = (c .before .out2 .given) in let l1 = (c .before .before .before .before .before .before .before .before .before .before .rows .given) in let l2 = (c .before .before .before .before .before .before .before .before .before .before .before .before .before .before .before .before .before .before .text .given) in let l3 = (c .before .before .before .before .before .before .before .before .before .before .before .before .before .before .before .before .before .before .before .before .words .given) in search needs)  -- same-length-4
     (λ c. let l0 = (c .before .out2 .given) in let l1 = (c .before .before .before .before .before .before .before .before .before .before .rows .given) in let l2 = (c .before .before .before .before .before .before .before .before .before .before .before .before .before .before .before .before .before .before .text .given) in let l3 = (c .before .before .before .before .before .before .before .before .before .before .before .before .before .before .before .before .before .before .before .before .words .given) in search needs)  -- same-length-5
     (λ c. let l0 = (c .before .out2 .given) in let l1 = (c .before .before .before .before .before .before .before .before .before .before .rows .given) in let l2 = (c .before .before .before .before .before .before .before .before .before .before .before .before .before .before .before .before .before .before .text .given) in let l3 = (c .before .before .before .before .before .before .before .before .before .before .before .before .before .before .before .before .before .before .before .before .words .given) in search needs)  -- same-length-6

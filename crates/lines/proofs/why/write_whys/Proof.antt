@@ -4,9 +4,9 @@ use native.Mathlib.Omega.{arith}
 use mathlib.Core.Path.{_≡_, refl, sym, _∙_, ap}
 use Prim.Native.Nat.{_+_, _-_, _≤_}
 use lib.ListN.{length}
-use Rattle.lines.specs.Written.{Adds}
+use Rattle.objects.specs.Written.{Adds}
 use Rattle.lines.specs.Whys.{fieldsIn, whyPlaces}
-use Rattle.lines.proofs.Texts.{nothing, and-then}
+use Rattle.objects.proofs.Texts.{nothing, and-then}
 use Rattle.lines.proofs.WhyLaws.{why-fits, why-more, fields-more, fields-none, fields-small, whys-none}
 use Rattle.lines.proofs.why.write_whys.Statement.{statement}
 use Rattle.lines.proofs.why.write_whys.Tie as tie
