@@ -33,9 +33,10 @@ use Rattle.told.specs.Rows.{refusalRow, fieldOf, rowAt, rowsIn}
 use Rattle.told.proofs.Rows.{rows-back}
 use Rattle.listing.specs.declared.count.Window.{Window}
 use Rattle.sources.specs.Source.{signsOf, rowOf, Source}
-use Rattle.listing.specs.Put.{Reads, Bounded}
+use Rattle.alone.specs.Puts.{Reads}
+use Rattle.listing.specs.Put.{Bounded}
 use Rattle.listing.specs.Count.{total, Found, Seen, Block}
-use Rattle.listing.proofs.Written.{not-read}
+use Rattle.alone.proofs.Written.{not-read}
 use Rattle.listing.proofs.Cutting.{found-in, count-flat}
 use Rattle.listing.proofs.Filling.{source-lies, source-field}
 

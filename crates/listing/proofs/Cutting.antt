@@ -17,8 +17,9 @@ use Rattle.buffers.specs.Over.{over}
 use Rattle.found.specs.declared.Literal.{Literal}
 use Rattle.found.specs.Found.{literalOf}
 use Rattle.listing.specs.declared.rows.Part.{Part}
-use Rattle.listing.specs.Put.{Puts, Bounded, PartIs}
-use Rattle.listing.proofs.Written.{puts-none, puts-one, puts-append}
+use Rattle.alone.specs.Puts.{Puts}
+use Rattle.listing.specs.Put.{Bounded, PartIs}
+use Rattle.alone.proofs.Written.{puts-none, puts-one, puts-append}
 
 -- rows without those below them
 pub count-flat : (look : Naming) → (s : List ℕ) (rs : List ListRow) → countRows look 1 s rs ≡ length rs

@@ -28,9 +28,10 @@ use Rattle.answers.specs.declared.Fields.the-variants.{Listed, TooLong, Short}
 use Rattle.sources.specs.Source.{signsOf, rowOf, Source}
 use Rattle.told.specs.Rows.{Wrote, toldOtherwise, rowAt, rowsIn, fieldOf}
 use Rattle.told.proofs.Rows.{otherwise-told, otherwise-most, row-back, rows-back, refusals-most}
-use Rattle.listing.specs.Put.{Puts, PartIs, Lies, Bounded}
+use Rattle.alone.specs.Puts.{Puts}
+use Rattle.listing.specs.Put.{PartIs, Lies, Bounded}
 use Rattle.listing.specs.Answers.{Filled, CallIs}
-use Rattle.listing.proofs.Written.{puts-none, puts-wrote, puts-append}
+use Rattle.alone.proofs.Written.{puts-none, puts-wrote, puts-append}
 
 -- THE SOURCE OF A ROW that stands in a buffer
 module _ (look : Naming) (s rows : List ℕ) (i : ℕ) where

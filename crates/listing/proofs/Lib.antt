@@ -1,5 +1,3 @@
-pub mod Alone
-pub mod Written
 pub mod Cutting
 pub mod Filling
 pub mod Counting

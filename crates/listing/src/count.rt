@@ -1,8 +1,8 @@
 // Rows counted depth first, where a buffer has no room for them.
-use crate::rows::Alone;
 use crate::rows::field_at;
-use crate::rows::is_fstring;
-use crate::rows::read_alone;
+use alone::Alone;
+use alone::is_fstring;
+use alone::read_alone;
 use found::Literal;
 use found::Next;
 use found::next_literal;

@@ -32,8 +32,8 @@ use Rattle.listing.proofs.count.unknown_rows.Reads as unknown-rows-read
 use Rattle.sources.proofs.lesser.Reads as lesser-reads
 use Rattle.sources.proofs.source_end.Reads as source-end-reads
 use Rattle.listing.proofs.rows.field_at.Reads as field-at-reads
-use Rattle.listing.proofs.rows.is_fstring.Reads as is-fstring-reads
-use Rattle.listing.proofs.rows.read_alone.Reads as read-alone-reads
+use Rattle.alone.proofs.is_fstring.Reads as is-fstring-reads
+use Rattle.alone.proofs.read_alone.Reads as read-alone-reads
 use Rattle.found.proofs.next_literal.Reads as next-literal-reads
 use Rattle.listing.proofs.count.+count_block+count_literal+count_part+count_window.{
   statement,
@@ -178,12 +178,12 @@ pub +count-block+count-literal+count-part+count-window-spec : {M : Type 1} → s
     (λ t. count-window-lts.spec (count-window-calls t) (count-window-at t) count-window.Post
     (λ c. let p = (c .before .before .before .pre .1 .2) in search needs)  -- cast-read-alone
     (λ c. search needs)  -- slice-aggregate-read-alone
-    (λ c κs. (c .before .before .before .before .pre .1 .1))  -- read-alone-requires
+    (λ c κs. search needs)  -- read-alone-requires
     (λ c. search needs)  -- enum-told
     (λ c. search needs)  -- enum-known-n
     (λ c. let e = rw (c .before .n .given .1) at (c .before .before .before .before .read-alone .ensures) in omega (arith, window-among _ _ _ ((c .before .before .before .before .before .before .before .before .before .pre .1 .0)) _ ((c .before .before .before .before .before .before .before .before .before .pre .1 .3)) _ (e .counted)))  -- sub-lesser
     (λ c κs. search needs)  -- lesser-requires
     (λ c. search needs)  -- slice-aggregate-count-block
     (λ c κs. let e = rw (c .before .before .before .n .given .1) at (c .before .before .before .before .before .before .read-alone .ensures) in rw (c .before .lesser .ensures) (omega (arith, (c .before .before .before .before .before .before .before .before .before .before .before .pre .0), window-less _ _ _ ((c .before .before .before .before .before .before .before .before .before .before .before .pre .1 .0)) _ ((c .before .before .before .before .before .before .before .before .before .before .before .pre .1 .3)) _ _ _ e (length-replicate {A = ℕ} 1280 0)), window-block _ _ _ ((c .before .before .before .before .before .before .before .before .before .before .before .pre .1 .0)) _ ((c .before .before .before .before .before .before .before .before .before .before .before .pre .1 .3)) _ _ _ e (length-replicate {A = ℕ} 1280 0)))  -- count-block-requires
-    (λ c. window-refused _ _ _ ((c .before .before .before .before .before .before .before .before .pre .1 .0)) _ ((c .before .before .before .before .before .before .before .before .pre .1 .3)) _ (rw (c .enum-told .given .1) at (c .before .before .before .read-alone .ensures)))  -- returns
+    (λ c. window-refused _ _ _ ((c .before .before .before .before .before .before .before .before .pre .1 .0)) _ ((c .before .before .before .before .before .before .before .before .pre .1 .3)) _ ((rw (c .enum-told .given .1) at (c .before .before .before .read-alone .ensures)) .0))  -- returns
     (λ c. let e = rw (c .before .before .before .before .n .given .1) at (c .before .before .before .before .before .before .before .read-alone .ensures) in window-seen _ _ _ ((c .before .before .before .before .before .before .before .before .before .before .before .before .pre .1 .0)) _ ((c .before .before .before .before .before .before .before .before .before .before .before .before .pre .1 .3)) _ _ _ e (length-replicate {A = ℕ} 1280 0) _ (rw (c .before .before .lesser .ensures) at (c .count-block .ensures))))  -- returns-2

@@ -37,8 +37,9 @@ cut-rows-spec =
     (λ c. search needs)  -- same-length-3
     (λ c. let n = rw (c .before .before .before .before .before .r .given .1) at (c .before .before .before .before .before .before .before .next-literal .ensures) in cutting-breaks _ _ _ _ _ _ _ (c .before .before .before .before .before .before .before .before .before .before .before .before .before .before .pre) _ _ _ _ (c .before .before .before .before .before .before .before .before .before .loop .inv) _ _ (n .1) _ (c .before .before .put-refusal .ensures))  -- returns-3
     (λ c. search needs)  -- enum-known-l
-    (λ c κs. let f = cutting-few _ _ _ _ _ _ _ (c .before .before .before .before .before .before .before .before .before .before .before .pre) _ _ _ _ (c .before .before .before .before .before .before .loop .inv) in omega (arith, f .0))  -- literal-rows-requires
+    (λ c. let f = cutting-few _ _ _ _ _ _ _ (c .before .before .before .before .before .before .before .before .before .before .before .pre) _ _ _ _ (c .before .before .before .before .before .before .loop .inv) in omega (arith, f .0))  -- cast-literal-rows
+    (λ c κs. search needs)  -- literal-rows-requires
     (λ c. let f = cutting-few _ _ _ _ _ _ _ (c .before .before .before .before .before .before .before .before .before .before .before .before .before .before .pre) _ _ _ _ (c .before .before .before .before .before .before .before .before .before .loop .inv) in omega (arith, f .1))  -- add-literals
     (λ c. search needs)  -- cast-at
     (λ c. let n = rw (c .before .before .before .before .before .before .l .given .1) at (c .before .before .before .before .before .before .before .before .next-literal .ensures) in cutting-less _ _ _ _ _ _ _ (c .before .before .before .before .before .before .before .before .before .before .before .before .before .before .before .pre) _ _ _ _ (c .before .before .before .before .before .before .before .before .before .before .loop .inv) _ (n .1))  -- loop-less
-    (λ c. let n = rw (c .before .before .before .before .before .before .l .given .1) at (c .before .before .before .before .before .before .before .before .next-literal .ensures) in cutting-next _ _ _ _ _ _ _ (c .before .before .before .before .before .before .before .before .before .before .before .before .before .before .before .pre) _ _ _ _ (c .before .before .before .before .before .before .before .before .before .before .loop .inv) _ (n .1) _ _ (c .before .before .before .literal-rows .ensures)))  -- loop-again
+    (λ c. let n = rw (c .before .before .before .before .before .before .l .given .1) at (c .before .before .before .before .before .before .before .before .next-literal .ensures) in cutting-next _ _ _ _ _ _ _ (c .before .before .before .before .before .before .before .before .before .before .before .before .before .before .before .pre) _ _ _ _ (c .before .before .before .before .before .before .before .before .before .before .loop .inv) _ (n .1) _ _ (c .before .before .before .literal-rows .ensures .0)))  -- loop-again

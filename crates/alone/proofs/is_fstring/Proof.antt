@@ -1,7 +1,7 @@
--- `listing::rows::is_fstring` meets its contract. Assumes nothing.
+-- `alone::is_fstring` meets its contract. Assumes nothing.
 use borrow.Author.Tests.{eq-eqb, ne-eqb}
-use Rattle.listing.proofs.rows.is_fstring.Statement.{statement}
-use Rattle.listing.proofs.rows.is_fstring.Tie as tie
+use Rattle.alone.proofs.is_fstring.Statement.{statement}
+use Rattle.alone.proofs.is_fstring.Tie as tie
 
 pub is-fstring-spec : {M : Type 1} → statement M
 is-fstring-spec =

@@ -4,13 +4,15 @@ use mathlib.Core.Bool.{true, false, false≢true}
 use mathlib.Core.List.{List, [], _∷_, _++_, map, append-nil}
 use mathlib.Core.Option.{some}
 use Prim.Native.Nat.{ℕ, suc, _*_, _<_}
+use native.Mathlib.Omega.{arith}
 use lib.ListN.{length, take, drop}
+use lib.Seq.{take-nil, drop-nil}
 use Rattle.definition.specs.Numbers.{isFString}
 use Rattle.definition.specs.Escapes.{Naming}
 use Rattle.definition.specs.Entry as d
 use Rattle.definition.specs.Entry.{sixes, oneMore}
 use Rattle.definition.specs.Records as answers
-use Rattle.definition.specs.Reading.{accepts, refuses, inFront, read, numbers}
+use Rattle.definition.specs.Reading.{accepts, refuses, inFront, zeros, read, numbers}
 use Rattle.definition.specs.Reading as reading
 use Rattle.definition.specs.Rows.{Row, rowNumbers, literalRows, allRows, allNumbers, rowed, rowedNumbers}
 use Rattle.definition_scripts.specs.Listing.{ListRow, ofField, ofRefusal, tenOf, tens, readRows, refusalsIn}
@@ -22,7 +24,7 @@ use Rattle.answers.specs.declared.Outcome.{Outcome}
 use Rattle.answers.specs.declared.Outcome.the-variants.{Accepted, Refused}
 use Rattle.strings.specs.Strings.{SignsIs}
 use Rattle.strings.specs.Window.{windowAfter, windowInto, windowNumbers}
-use Rattle.listing.specs.Put.{Reads}
+use Rattle.alone.specs.Puts.{Reads}
 
 -- the numbers of fields' rows; none of them is a refusal
 field-tens : (w : ℕ) (rs : List Row) → tens (map (ofField w) rs) ≡ allNumbers w rs
@@ -71,12 +73,25 @@ module _ (look : Naming) (s : List ℕ) (l : Literal) (w k : ℕ) (rows rows′ 
           })
 
   pub alone-refused : (y : why.Refusal) → SignsIs (windowNumbers look w k s (numbersOf l) rows) rows′ (Refused y)
-      → readRows look s w (literalOf l) ≡ ofRefusal w (l .start) (y .place) (y .number) (y .a) (y .b) (y .opened) ∷ []
+      → (readRows look s w (literalOf l) ≡ ofRefusal w (l .start) (y .place) (y .number) (y .a) (y .b) (y .opened) ∷ []) × (rows′ ≡ zeros rows)
   unfolding windowInto windowAfter rowed rowedNumbers numbers readRows
   alone-refused y p = go o refl (rw one at p)
     where
-      go : (x : reading.Outcome answers.Answer) → o ≡ x → SignsIs (windowInto look w k s (literalOf l ∷ []) rows) rows′ (Refused y) → readRows look s w (literalOf l) ≡ ofRefusal w (l .start) (y .place) (y .number) (y .a) (y .b) (y .opened) ∷ []
+      go : (x : reading.Outcome answers.Answer) → o ≡ x → SignsIs (windowInto look w k s (literalOf l ∷ []) rows) rows′ (Refused y)
+          → (readRows look s w (literalOf l) ≡ ofRefusal w (l .start) (y .place) (y .number) (y .a) (y .b) (y .opened) ∷ []) × (rows′ ≡ zeros rows)
       go (accepts x) e q = let h = q .accepted in absurd (false≢true (rw e at h))
       go (refuses r) e q =
           let a = rw e at (q .answer) in
-          rw (f, e, readRows) cc
+          (rw (f, e, readRows) cc, rw e at (q .rows))
+
+-- any other literal has none
+pub alone-none : (look : Naming) (s : List ℕ) (l : Literal) (w k : ℕ) (rows : List ℕ) → isFString (l .kind) ≡ false → Reads (readRows look s w (literalOf l)) k rows rows 0
+unfolding readRows refusalsIn tens
+alone-none look s l w k rows f =
+    rw (f, readRows)
+    (record {
+      fields = refl;
+      counted = refl;
+      few = omega arith;
+      wrote = rw (drop-nil, take-nil) refl;
+    })

@@ -1,11 +1,11 @@
--- `listing::rows::read_alone` meets its contract. Assumes nothing.
+-- `alone::read_fstring` meets its contract. Assumes nothing.
 use borrow.Author.Needs.{needs}
-use Rattle.listing.proofs.Alone.{alone-fields, alone-refused}
-use Rattle.listing.proofs.rows.read_alone.Statement.{statement}
-use Rattle.listing.proofs.rows.read_alone.Tie as tie
+use Rattle.alone.proofs.AloneLaws.{alone-fields, alone-refused}
+use Rattle.alone.proofs.read_fstring.Statement.{statement}
+use Rattle.alone.proofs.read_fstring.Tie as tie
 
-pub read-alone-spec : {M : Type 1} → statement M
-read-alone-spec =
+pub read-fstring-spec : {M : Type 1} → statement M
+read-fstring-spec =
     tie.close
     (tie.spec
     (λ c. search needs)  -- slice-aggregate-parse-window
