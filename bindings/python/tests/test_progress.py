@@ -39,7 +39,33 @@ class Progress(unittest.TestCase):
             self.assertRegex(line, r"^\.\.\. crate 2 of 9 is being proved, 0 min \d s in all so far$")
 
 
-# What ./test calls beside rt and .ci/times, in its order.
+class InMemory(unittest.TestCase):
+    """bindings/in-memory."""
+
+    def run_with(self, script, **variables):
+        environment = {name: value for name, value in os.environ.items() if name != "TMPDIR"}
+        words = [CLONE / "bindings/in-memory", "sh", "-c", script]
+        ran = subprocess.run(words, env={**environment, **variables}, capture_output=True, text=True)
+        self.assertEqual(ran.stderr, "")
+        return ran.returncode, ran.stdout.strip()
+
+    def test_status(self):
+        self.assertEqual(self.run_with("exit 3"), (3, ""))
+
+    def test_told(self):
+        """A folder that is named already stays."""
+        self.assertEqual(self.run_with("echo $TMPDIR", TMPDIR="/tmp"), (0, "/tmp"))
+
+    def test_own(self):
+        """Else it is one in memory, which others can reach into and which is gone afterwards; or none, where memory has no room."""
+        status, told = self.run_with('echo $TMPDIR; test -z "$TMPDIR" || stat -c %a "$TMPDIR"')
+        folder, *mode = told.split()[:2] or [""]
+        self.assertEqual((status, mode), (0, ["711"] if folder else []))
+        self.assertFalse(folder and pathlib.Path(folder).exists())
+        self.assertTrue(not folder or folder.startswith("/dev/shm/"))
+
+
+# What ./test calls beside rt, bindings/in-memory and .ci/times, in its order.
 PYTHON = [f"crates/{one}.py" for one in ("definition/blanks", "definition/rows", "try_leaves/expected", "try_readings/expected")]
 TESTED = ["oracle/test", "bindings/c/test", "bindings/rust/test", "bindings/python/test"]
 BESIDE = [*PYTHON, *(f"{one} target/staticlib/libstumpgarret.a" for one in TESTED), "bench/run --short"]
@@ -53,7 +79,7 @@ class Test(unittest.TestCase):
 
     def setUp(self):
         self.clone = pathlib.Path(self.enterContext(tempfile.TemporaryDirectory()))
-        for name in "test", ".ci/times":
+        for name in "test", "bindings/in-memory", ".ci/times":
             self.write(name, (CLONE / name).read_text())
         for name in "prepare", *TESTED, "bench/run":
             self.write(name, f'#!/bin/sh\necho {name} "$@"\n')
