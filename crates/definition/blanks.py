@@ -12,9 +12,9 @@ INFORMATION_SEPARATORS = {0x1C, 0x1D, 0x1E, 0x1F}
 
 
 def white_space():
-    """The codes of the definition's ranges: `whiteSpace = low to high ∷ .. ∷ []`."""
+    """The codes of the definition's ranges: `white_space = low to high ∷ .. ∷ []`."""
     with open(CHARS, encoding="utf-8") as file:
-        listed, = re.findall(r"^whiteSpace =\n((?:    .*\n)+)", file.read(), re.MULTILINE)
+        listed, = re.findall(r"^white_space =\n((?:    .*\n)+)", file.read(), re.MULTILINE)
     *ranges, end = map(str.strip, listed.split("∷"))
     assert ranges and end == "[]", listed
     codes = set()

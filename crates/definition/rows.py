@@ -111,8 +111,8 @@ def row(*parts):
 
 HEAD = """-- %s Made by crates/definition/rows.py. Assumes nothing.
 use Prim.Native.Nat.{ℕ}
-use mathlib.Core.List.{List, [], _∷_}
-use %s.specs.Chars.{ascii}
+use mathlib.Core.List.{List, [], ◌∷◌}
+use Rattle.definition.specs.Chars.{ascii}
 """
 
 
@@ -166,9 +166,9 @@ def escapes():
     refusals += [refused(1, "{a\\}", 27, 3), refused(1, "{a['b]}", 27, 7)]
     refusals += ["-- 28, after it: the 65th bracket"]
     refusals += [row("1", written("{" + "(" * 65 + ")" * 65 + "}"), "28", "66")]
-    return HEAD % ("What Python reads for an escape, and what is refused.", "Rattle·definition·specs") + table(
+    return HEAD % "What Python reads for an escape, and what is refused." + table(
         "a kind, a body, its text", "texts", "ℕ × List ℕ × List ℕ", texts) + table(
-        "the held names and their codes", "heldRows", "List ℕ × ℕ", names) + table(
+        "the held names and their codes", "held_rows", "List ℕ × ℕ", names) + table(
         "a kind, a body, its refusal's number and the bytes taken at its place", "refusals", "ℕ × List ℕ × ℕ × ℕ", refusals)
 
 
@@ -183,9 +183,9 @@ def characters():
     ill = [b"a\xc3\xa9" + bytes.fromhex(text) + b"b" for text in ill]
     assert all(formed(s) < len(s) for s in ill)
     none = [row(octets(s), str(formed(s))) for s in ill]
-    head = (HEAD % ("Characters and what is none, by Python's UTF-8.", "Rattle·definition·specs")).replace("use Rattle·definition·specs.specs.Chars.{ascii}\n", "")
+    head = (HEAD % "Characters and what is none, by Python's UTF-8.").replace("use Rattle.definition.specs.Chars.{ascii}\n", "")
     return head + table("a code and its bytes", "encoded", "ℕ × List ℕ", rows) + table(
-        "bytes that are not UTF-8, and the length of their longest well-formed prefix", "illFormed", "List ℕ × ℕ", none)
+        "bytes that are not UTF-8, and the length of their longest well-formed prefix", "ill_formed", "List ℕ × ℕ", none)
 
 
 # WHOLE CALLS: the nine numbers of RULES 5.1 and 5.6
@@ -253,7 +253,7 @@ def calls():
     for words, text, number in ((15, 0, 30), (15, 3, 30), (16, 2, 31)):
         rows.append(call("é{x}", pair, refused(number, 0, 0, 2, 3, chars=4), words, text))
     rows += [call("é{x}", pair, [0, 1, 0, 3, 13, 2, 3, 0, 4], 16, 3)]
-    return HEAD % ("The numbers of whole calls.", "Rattle·definition·specs") + table(
+    return HEAD % "The numbers of whole calls." + table(
         "a script, the numbers of its literals, the words and the text bytes that are lent, and the answer's numbers", "calls",
         "List ℕ × List ℕ × ℕ × ℕ × List ℕ", rows)
 
@@ -294,7 +294,7 @@ def fields():
         (0, "\\x4", "", 11, [("0123456789abcdefABCDEF", 0)]),
         (0, "\\N", "}", 10, [("{", 13)]),
     )
-    return HEAD % ("Every printed character of ASCII in the places of a body: its refusal's number, 0 for none.", "Rattle·definition·specs") + table(
+    return HEAD % "Every printed character of ASCII in the places of a body: its refusal's number, 0 for none." + table(
         "a kind, what stands before the character and after it, the number for most, and groups with another", "places",
         "ℕ × List ℕ × List ℕ × ℕ × List (List ℕ × ℕ)", rows)
 
@@ -311,10 +311,10 @@ def names():
         scalar = int(digits, 16) <= sys.maxunicode and unicodedata.category(chr(int(digits, 16))) != "Cs"
         codes.append(row(written(digits + ";A"), numbers([0, 1] if scalar else [60])))
     codes += [row(written("004%s;A" % c), numbers([60])) for c in "/:@G`g"]
-    return HEAD % ("A file of names and their codes, by Python's unicodedata.", "Rattle·definition") + table(
-        "lines by their first two fields", "fileRows", "List ℕ", lines) + table(
-        "names and their codes", "askedRows", "List ℕ × ℕ", asked) + table(
-        "a line, and the numbers of an index built: 60 for a name's code that is no scalar, and for a digit that is none", "codeRows", "List ℕ × List ℕ", codes)
+    return HEAD % "A file of names and their codes, by Python's unicodedata." + table(
+        "lines by their first two fields", "file_rows", "List ℕ", lines) + table(
+        "names and their codes", "asked_rows", "List ℕ × ℕ", asked) + table(
+        "a line, and the numbers of an index built: 60 for a name's code that is no scalar, and for a digit that is none", "code_rows", "List ℕ × List ℕ", codes)
 
 
 # THE LITERALS OF A SCRIPT, by Python's tokenizer
@@ -375,11 +375,11 @@ def literals():
         "-- in a comment: it ends before byte 10 or 13",
         ("#", "f''", 7, [("\n\r", 1)]),
     )
-    return HEAD % ("The literals of small scripts, by Python's tokenizer.", "Rattle·definition") + table(
+    return HEAD % "The literals of small scripts, by Python's tokenizer." + table(
         "a script, the answer's numbers and the list", "runs", "List ℕ × List ℕ × List ℕ", rows) + table(
         "every byte of ASCII in a place: what stands before and after it, what most bytes give, and groups of bytes that give another", "places",
         "List ℕ × List ℕ × ℕ × List (List ℕ × ℕ)", places) + table(
-        "the same of the cut", "cutPlaces", "List ℕ × List ℕ × ℕ × List (List ℕ × ℕ)", cuts)
+        "the same of the cut", "cut_places", "List ℕ × List ℕ × ℕ × List (List ℕ × ℕ)", cuts)
 
 
 # THE LINES OF THE PROGRAMS: what RFC 8259 makes of a byte, and Python's decimals
@@ -392,17 +392,17 @@ def lines():
         escapes.append(row(str(b), written(text)))
     escapes += [row(str(b), octets([b])) for b in (0x80, 0xFF)]
     decimals = [row(str(n), written(str(n))) for n in (0, 1, 9, 10, 11, 19, 20, 99, 100, 101, 1023, 987654321)]
-    return HEAD % ("Bytes in the text of a line, and numbers, by Python's json and decimals.", "Rattle·definition") + table(
-        "a byte, and how it is written", "escapeRows", "ℕ × List ℕ", escapes) + table("a number, and its digits", "decimalRows", "ℕ × List ℕ", decimals)
+    return HEAD % "Bytes in the text of a line, and numbers, by Python's json and decimals." + table(
+        "a byte, and how it is written", "escape_rows", "ℕ × List ℕ", escapes) + table("a number, and its digits", "decimal_rows", "ℕ × List ℕ", decimals)
 
 
 FILES = {
-    "definition/proofs/computed/EscapeRows.antt": escapes,
-    "definition/proofs/computed/CharRows.antt": characters,
-    "definition/proofs/computed/CallRows.antt": calls,
-    "definition/proofs/computed/PlaceRows.antt": fields,
+    "definition/proofs/Computed/EscapeRows.antt": escapes,
+    "definition/proofs/Computed/CharRows.antt": characters,
+    "definition/proofs/Computed/CallRows.antt": calls,
+    "definition/proofs/Computed/PlaceRows.antt": fields,
     "definition_names/proofs/NameRows.antt": names,
-    "definition_scripts/proofs/computed/LiteralRows.antt": literals,
+    "definition_scripts/proofs/Computed/LiteralRows.antt": literals,
     "definition_lines/proofs/LineRows.antt": lines,
 }
 

@@ -1,8 +1,8 @@
 -- One literal's body, read to pieces (parse_string, parse_bytes, parse_fstring, parse_formatted_value, parse_spec).
-use Rattle.std.specs.Prelude.{ℕ, zero, suc, ◌+◌, Bool, true, false, ◌&&◌, ◌||◌, not, List, [], ◌∷◌, ◌++◌, ltb, leb, eqb, length, drop, replicate}
+use Rattle.std.specs.Prelude.{ℕ, zero, suc, ◌+◌, Bool, true, false, ◌&&◌, ◌||◌, not, List, [], ◌∷◌, ◌++◌, ltb, leb, eqb, length, drop, replicate, if◌then◌else◌}
 use Rattle.std.proofs.Math.Option.{Option, none, some}
 use Rattle.definition.specs.Numbers.{is_fstring, is_bytes, is_raw, non_ascii_in_bytes, unclosed_lbrace, invalid_conversion_flag, empty_expression, mismatched_delimiter, expression_nested_too_deeply, single_rbrace, unmatched, unterminated_string, too_many_brackets, after_bang, after_conversion, after_equals, in_field, last_brace}
-use Rattle.definition.specs.Chars.{if◌then◌else◌, ◌is◌, part, at_end, inside_any, code, next, char, white_space, before}
+use Rattle.definition.specs.Chars.{◌is◌, part, at_end, inside_any, code, next, char, white_space, before}
 use Rattle.definition.specs.Escapes.{Naming, Fault, fault, detail, Read, got, refused, Meaning, escape, meant}
 
 -- A field's signs: the bytes taken just after its first self-documenting `=`, its `!`, its `:` and its `}`; 0 for none

@@ -1,14 +1,8 @@
 -- Bytes and characters: a choice by a test, ASCII texts, and UTF-8 by the Unicode Standard's tables 3-6 and 3-7.
-use Rattle.std.specs.Prelude.{ℕ, zero, suc, ◌+◌, ◌-◌, ◌*◌, ◌/◌, ◌%◌, max, Bool, true, false, ◌&&◌, ◌||◌, List, [], ◌∷◌, ltb, leb, eqb, length, get_or, take, drop}
+use Rattle.std.specs.Prelude.{ℕ, zero, suc, ◌+◌, ◌-◌, ◌*◌, ◌/◌, ◌%◌, max, Bool, true, false, ◌&&◌, ◌||◌, List, [], ◌∷◌, ltb, leb, eqb, length, get_or, take, drop, if◌then◌else◌}
 use Prim.Native.Char.{code as code_of}
 use Prim.Native.String.{String, [] as []ˢ, ◌∷◌ as ◌∷ˢ◌}
 use Rattle.std.proofs.Math.Option.{Option, none, some}
-
--- both values are computed: a recursion chooses by `elim`, whose cases wait
-infixr 5 if◌then◌else◌
-abbrev pub if◌then◌else◌ : {A : Type 0} → Bool → A → A → A
-if true then a else b = a
-if false then a else b = b
 
 -- the bytes of an ASCII text
 unfoldable pub ascii : String → List ℕ
@@ -74,7 +68,7 @@ unfoldable pub follow : List Range → List ℕ → ℕ → Bool
 follow [] s i = true
 follow (r ∷ rs) s i = inside r (byte s i) && follow rs s (i + 1)
 
--- the length of the well_formed_lem character at i; 0 if there is none
+-- the length of the well-formed character at i; 0 if there is none
 unfoldable pub width : List ℕ → ℕ → ℕ
 width s i =
     elim (following table37 (byte s i)) [ none ↦ 0 | some rs ↦ if follow rs s (i + 1) then suc (length rs) else 0 ]
@@ -88,7 +82,7 @@ decoded (suc (suc (suc zero))) s i = byte s i % 16 * 4096 + byte s (i + 1) % 64 
 decoded (suc (suc (suc (suc n)))) s i =
     byte s i % 8 * 262144 + byte s (i + 1) % 64 * 4096 + byte s (i + 2) % 64 * 64 + byte s (i + 3) % 64
 
--- the code of the character at i; a byte that begins no well_formed_lem one is taken alone, as U+FFFD
+-- the code of the character at i; a byte that begins no well-formed one is taken alone, as U+FFFD
 unfoldable pub code : List ℕ → ℕ → ℕ
 code s i = if at_end s i then no_code else decoded (width s i) s i
 
@@ -105,7 +99,7 @@ unfoldable pub formed_from : ℕ → List ℕ → ℕ → ℕ
 formed_from zero s i = i
 formed_from (suc n) s i = elim (width s i) [ zero ↦ i | suc w ↦ formed_from n s (i + suc w) ]
 
--- the length of the longest well_formed_lem prefix (a character has a byte or more)
+-- the length of the longest well-formed prefix (a character has a byte or more)
 unfoldable pub well_formed : List ℕ → ℕ
 well_formed s = formed_from (length s) s 0
 

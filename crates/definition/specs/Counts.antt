@@ -1,6 +1,6 @@
 -- What the step takes of a body, counted: characters, line ends, and the characters since the last one.
-use Rattle.std.specs.Prelude.{ℕ, zero, suc, ◌+◌, true, false, ◌||◌, List, leb, length}
-use Rattle.definition.specs.Chars.{if◌then◌else◌, ◌is◌, at_end, code, next}
+use Rattle.std.specs.Prelude.{ℕ, zero, suc, ◌+◌, true, false, ◌||◌, List, leb, length, if◌then◌else◌}
+use Rattle.definition.specs.Chars.{◌is◌, at_end, code, next}
 
 -- A count, each from 0
 pub record Count : Type 0 where

@@ -1,8 +1,8 @@
 -- What is lent: the literals' descriptors, and the entry checks 1 to 7.
-use Rattle.std.specs.Prelude.{ℕ, suc, ◌+◌, Bool, true, false, ◌&&◌, ◌||◌, not, List, [], ◌∷◌, ltb, eqb, length}
+use Rattle.std.specs.Prelude.{ℕ, suc, ◌+◌, Bool, true, false, ◌&&◌, ◌||◌, not, List, [], ◌∷◌, ltb, eqb, length, if◌then◌else◌}
 use Rattle.std.proofs.Math.Option.{Option, none, some}
 use Rattle.definition.specs.Numbers.{is_bytes, prefix, empty_list, too_many_literals, bad_descriptor, bodies_too_long, not_utf8, mixed_bytes}
-use Rattle.definition.specs.Chars.{if◌then◌else◌, part, well_formed}
+use Rattle.definition.specs.Chars.{part, well_formed}
 
 -- A literal: six numbers
 pub record Literal : Type 0 where
@@ -98,7 +98,7 @@ total (l ∷ ls) = l.size + total ls
 unfoldable pub not_long : List Literal → Option Refusal
 not_long ls = if ltb 1048576 (total ls) then some (refusal bodies_too_long 0 0 0 0) else none
 
--- the length of a body's longest well_formed_lem prefix
+-- the length of a body's longest well-formed prefix
 unfoldable pub formed : List ℕ → Literal → ℕ
 formed script l = well_formed (body script l)
 

@@ -1,8 +1,8 @@
 -- Escapes: what stands after a backslash (parse_escaped_char, parse_octet, parse_unicode_literal, parse_unicode_name).
-use Rattle.std.specs.Prelude.{ℕ, zero, suc, ◌+◌, ◌-◌, ◌*◌, ◌%◌, true, false, ◌&&◌, not, List, [], ◌∷◌, ltb, leb, eqb, length, drop}
+use Rattle.std.specs.Prelude.{ℕ, zero, suc, ◌+◌, ◌-◌, ◌*◌, ◌%◌, true, false, ◌&&◌, not, List, [], ◌∷◌, ltb, leb, eqb, length, drop, if◌then◌else◌}
 use Prim.Native.String.{String}
 use Rattle.definition.specs.Numbers.{is_bytes, string_error, unicode_error, non_ascii_in_bytes, name_not_held}
-use Rattle.definition.specs.Chars.{if◌then◌else◌, ascii, ◌is◌, part, no_code, at_end, ◌to◌, inside, code, next, before, same, utf8}
+use Rattle.definition.specs.Chars.{ascii, ◌is◌, part, no_code, at_end, ◌to◌, inside, code, next, before, same, utf8}
 
 -- A fault: a refusal's number, the bytes taken at its place, two details, and the bytes taken just after the bracket that it names
 pub record Fault : Type 0 where

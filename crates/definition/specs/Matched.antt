@@ -1,6 +1,6 @@
 -- What an expression is by its bytes alone: matched, blank, without braces. Nothing of the reader is used.
-use Rattle.std.specs.Prelude.{ℕ, zero, suc, ◌-◌, Bool, true, false, ◌&&◌, ◌||◌, not, List, [], ◌∷◌, eqb}
-use Rattle.definition.specs.Chars.{if◌then◌else◌, ◌is◌, inside_any, code, next, white_space}
+use Rattle.std.specs.Prelude.{ℕ, zero, suc, ◌-◌, Bool, true, false, ◌&&◌, ◌||◌, not, List, [], ◌∷◌, eqb, if◌then◌else◌}
+use Rattle.definition.specs.Chars.{◌is◌, inside_any, code, next, white_space}
 
 -- After some bytes: outside quoted runs, or in a run that ends at a quote, with the open brackets, innermost first; or wrong for good
 pub data Seen : Type 0 where

@@ -1,6 +1,6 @@
 -- Numbers by their names: the kinds of a literal (RULES 2.2), and what a refusal returns (RULES 11).
-use Rattle.std.specs.Prelude.{ℕ, Bool, true, false, ◌&&◌, ◌||◌, List, [], ◌∷◌, leb, eqb, get_or}
-use Rattle.definition.specs.Chars.{if◌then◌else◌, ◌is◌, ◌to◌, inside}
+use Rattle.std.specs.Prelude.{ℕ, Bool, true, false, ◌&&◌, ◌||◌, List, [], ◌∷◌, leb, eqb, get_or, if◌then◌else◌}
+use Rattle.definition.specs.Chars.{◌is◌, ◌to◌, inside}
 
 -- Kinds: 0 String, 1 FString, 2 Bytes, 3 RawString, 4 RawFString, 5 RawBytes, 6 Unicode
 abbrev pub is_fstring : ℕ → Bool

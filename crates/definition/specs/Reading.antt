@@ -1,8 +1,7 @@
 -- A whole list: its reading, the room it needs, and what the two buffers hold afterwards (parse_strings).
-use Rattle.std.specs.Prelude.{ℕ, suc, ◌+◌, ◌/◌, List, [], ◌∷◌, ◌++◌, map, ltb, eqb, length, take, drop, replicate}
+use Rattle.std.specs.Prelude.{ℕ, suc, ◌+◌, ◌/◌, List, [], ◌∷◌, ◌++◌, map, ltb, eqb, length, take, drop, replicate, if◌then◌else◌}
 use Rattle.std.proofs.Math.Option.{Option, none, some}
 use Rattle.definition.specs.Numbers.{is_fstring, is_bytes, is_unicode, mismatched_delimiter, not_sixes, too_few_record_places, too_little_text_room}
-use Rattle.definition.specs.Chars.{if◌then◌else◌}
 use Rattle.definition.specs.Counts.{counted}
 use Rattle.definition.specs.Escapes.{Naming, Fault, got, refused}
 use Rattle.definition.specs.Body.{read_body}

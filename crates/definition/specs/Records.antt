@@ -1,7 +1,6 @@
 -- Records (RULES 5): a literal's pieces with their ranges, touching ones joined, and all laid out over one text.
-use Rattle.std.specs.Prelude.{ℕ, zero, suc, ◌+◌, Bool, true, false, List, [], ◌∷◌, ◌++◌, map, length}
+use Rattle.std.specs.Prelude.{ℕ, zero, suc, ◌+◌, Bool, true, false, List, [], ◌∷◌, ◌++◌, map, length, if◌then◌else◌}
 use Rattle.definition.specs.Numbers.{is_bytes}
-use Rattle.definition.specs.Chars.{if◌then◌else◌}
 use Rattle.definition.specs.Body.{Piece, literal, field, spec}
 
 -- What a record is for joining: a top-level literal, a bytes record, or any other. It is not written

@@ -1,8 +1,8 @@
 -- A field's row: its signs, and the reason of its conversion. The rows of a list of literals, and what a call for them leaves.
-use Rattle.std.specs.Prelude.{ℕ, zero, suc, ◌+◌, ◌-◌, ◌/◌, Bool, false, not, ◌||◌, List, [], ◌∷◌, ◌++◌, eqb, length}
+use Rattle.std.specs.Prelude.{ℕ, zero, suc, ◌+◌, ◌-◌, ◌/◌, Bool, false, not, ◌||◌, List, [], ◌∷◌, ◌++◌, eqb, length, if◌then◌else◌}
 use Rattle.std.proofs.Math.Option.{none, some}
 use Rattle.definition.specs.Numbers.{not_sixes}
-use Rattle.definition.specs.Chars.{if◌then◌else◌, ◌is◌, part}
+use Rattle.definition.specs.Chars.{◌is◌, part}
 use Rattle.definition.specs.Escapes.{Naming, Read, got, refused}
 use Rattle.definition.specs.Body.{Signs, signs, Piece, literal, field, spec, read_body}
 use Rattle.definition.specs.Records.{Record, Answer}

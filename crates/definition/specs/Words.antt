@@ -1,7 +1,7 @@
 -- What records are by their numbers alone: the answer that a caller holds, the record rules (RULES 5), and what every expression has. Nothing of the reading uses it.
-use Rattle.std.specs.Prelude.{ℕ, zero, suc, ◌+◌, ◌-◌, ◌*◌, Bool, true, false, ◌&&◌, ◌||◌, not, List, [], ◌∷◌, leb, eqb, length, get_or, take, drop}
+use Rattle.std.specs.Prelude.{ℕ, zero, suc, ◌+◌, ◌-◌, ◌*◌, Bool, true, false, ◌&&◌, ◌||◌, not, List, [], ◌∷◌, leb, eqb, length, get_or, take, drop, if◌then◌else◌}
 use Rattle.std.specs.Bool.{beq}
-use Rattle.definition.specs.Chars.{if◌then◌else◌, ◌is◌, part}
+use Rattle.definition.specs.Chars.{◌is◌, part}
 use Rattle.definition.specs.Matched.{matched, blank}
 use Rattle.definition.specs.Records.{Role, top, raw, inner, Record, Sort, plain, joined, bytes_only, Answer}
 

@@ -1,7 +1,7 @@
 -- CUTS IN A BODY of kind 1: the check of offsets, whose pieces are to stand as adjacent literals.
-use Rattle.std.specs.Prelude.{ℕ, ◌+◌, ◌≡◌, Bool, true, false, ◌&&◌, not, List, [], ◌∷◌, ltb, leb, eqb, length, drop}
+use Rattle.std.specs.Prelude.{ℕ, ◌+◌, ◌≡◌, Bool, true, false, ◌&&◌, not, List, [], ◌∷◌, ltb, leb, eqb, length, drop, if◌then◌else◌}
 use Rattle.definition.specs.Numbers.{wrong_offsets, piece_too_long, piece_refused, readings_differ}
-use Rattle.definition.specs.Chars.{if◌then◌else◌, part, same}
+use Rattle.definition.specs.Chars.{part, same}
 use Rattle.definition.specs.Escapes.{held_names}
 use Rattle.definition.specs.Records.{Record, Answer}
 use Rattle.definition.specs.Reading.{Outcome, accepts, refuses, read_alone}

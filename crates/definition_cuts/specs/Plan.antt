@@ -1,8 +1,7 @@
 -- THE PLAN OF CUTS, made from a body's boundaries, and what a call for it returns and leaves.
-use Rattle.std.specs.Prelude.{ℕ, ◌+◌, true, false, List, [], ◌∷◌, ◌++◌, ltb, leb, length, replicate}
+use Rattle.std.specs.Prelude.{ℕ, ◌+◌, true, false, List, [], ◌∷◌, ◌++◌, ltb, leb, length, replicate, if◌then◌else◌}
 use Rattle.std.proofs.Math.Option.{Option, none, some}
 use Rattle.definition.specs.Numbers.{too_little_cut_room}
-use Rattle.definition.specs.Chars.{if◌then◌else◌}
 use Rattle.definition.specs.Reading.{zeros, in_front}
 use Rattle.definition_cuts.specs.Tokens.{with_first, boundaries}
 

@@ -1,8 +1,8 @@
 -- THE TOKENS OF A BODY of kind 1, and the boundaries between them.
-use Rattle.std.specs.Prelude.{ℕ, zero, suc, Bool, true, false, ◌&&◌, ◌||◌, List, [], ◌∷◌, ltb, length}
+use Rattle.std.specs.Prelude.{ℕ, zero, suc, Bool, true, false, ◌&&◌, ◌||◌, List, [], ◌∷◌, ltb, length, if◌then◌else◌}
 use Rattle.std.proofs.Math.Option.{Option, none, some}
 use Rattle.definition.specs.Numbers.{◌among◌}
-use Rattle.definition.specs.Chars.{if◌then◌else◌, ◌is◌, at_end, code, next, well_formed}
+use Rattle.definition.specs.Chars.{◌is◌, at_end, code, next, well_formed}
 use Rattle.definition.specs.Escapes.{held_names, Read, got, refused}
 use Rattle.definition.specs.Body.{Piece, goes, stops, calls, ends, text_move, fresh, field_n, enough}
 

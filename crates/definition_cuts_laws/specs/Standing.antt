@@ -1,8 +1,8 @@
 -- WHERE A CUT STANDS among a body's tokens, and by that the number that a check gives. The check does not use it.
-use Rattle.std.specs.Prelude.{ℕ, zero, suc, ◌+◌, Bool, true, false, ◌&&◌, not, List, [], ◌∷◌, ltb, leb, eqb, length}
+use Rattle.std.specs.Prelude.{ℕ, zero, suc, ◌+◌, Bool, true, false, ◌&&◌, not, List, [], ◌∷◌, ltb, leb, eqb, length, if◌then◌else◌}
 use Rattle.std.proofs.Math.Option.{Option, none, some}
 use Rattle.definition.specs.Numbers.{piece_refused, readings_differ}
-use Rattle.definition.specs.Chars.{if◌then◌else◌, ◌is◌, code, next, well_formed}
+use Rattle.definition.specs.Chars.{◌is◌, code, next, well_formed}
 use Rattle.definition_cuts.specs.Cuts.{pieces, all_short}
 use Rattle.definition_cuts.specs.Tokens.{token_end, boundaries_n}
 

@@ -1,1 +1,2 @@
-// What a well_formed_lem answer is that a caller lends, with no code: specs/ is the definition, and proofs/ what is shown of it.
+#![tactic(auto)]
+// What a well-formed answer is that a caller lends, with no code: specs/ is the definition, and proofs/ what is shown of it.

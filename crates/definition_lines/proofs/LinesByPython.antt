@@ -1,7 +1,6 @@
 -- The tables of rows.py: bytes and numbers are written as they say, computed. Assumes nothing.
-use Prim.Native.Nat.{ℕ}
 use mathlib.Core.Path.{◌≡◌, refl}
-use mathlib.Core.List.{List, map}
+use mathlib.Core.List.{map}
 use Rattle.definition.specs.Chars.{ascii}
 use Rattle.definition_lines.specs.Lines.{decimal_n, decimal, hex_code, escaped}
 use Rattle.definition_lines.proofs.LineRows.{escape_rows, decimal_rows}

@@ -1,11 +1,11 @@
 -- What a program writes of one body of an f-string: RFC 8259 objects, a line each.
-use Rattle.std.specs.Prelude.{ℕ, zero, suc, ◌+◌, ◌/◌, ◌%◌, true, false, List, [], ◌∷◌, ◌++◌, ltb, eqb, length}
+use Rattle.std.specs.Prelude.{ℕ, zero, suc, ◌+◌, ◌/◌, ◌%◌, true, false, List, [], ◌∷◌, ◌++◌, ltb, eqb, length, if◌then◌else◌}
 use Prim.Native.String.{String}
 use Rattle.definition.specs.Numbers.{bodies_too_long}
-use Rattle.definition.specs.Chars.{if◌then◌else◌, ascii, ◌is◌, part}
+use Rattle.definition.specs.Chars.{ascii, ◌is◌, part}
 use Rattle.definition.specs.Escapes.{held_names}
 use Rattle.definition.specs.Records.{Record, Answer}
-use Rattle.definition.specs.Entry.{Literal, refusal}
+use Rattle.definition.specs.Entry.{Literal}
 use Rattle.definition.specs.Reading.{Outcome, accepts, refuses, read}
 
 -- the decimal digits of n, at most m of them

@@ -1,7 +1,7 @@
 -- What a program writes of the fields of one body: why each has its conversion, a line each.
-use Rattle.std.specs.Prelude.{ℕ, ◌+◌, true, false, List, [], ◌∷◌, ◌++◌, ltb, eqb, length}
+use Rattle.std.specs.Prelude.{ℕ, ◌+◌, List, [], ◌∷◌, ◌++◌, ltb, eqb, length, if◌then◌else◌}
 use Rattle.definition.specs.Numbers.{bodies_too_long}
-use Rattle.definition.specs.Chars.{if◌then◌else◌, ascii, part}
+use Rattle.definition.specs.Chars.{ascii, part}
 use Rattle.definition.specs.Escapes.{held_names}
 use Rattle.definition.specs.Records.{Record}
 use Rattle.definition.specs.Reading.{Outcome, accepts, refuses, read}

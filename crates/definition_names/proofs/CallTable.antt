@@ -10,8 +10,8 @@ use Rattle.definition.specs.Counts.{more, count_from, counted}
 use Rattle.definition.specs.Escapes.{hex_digit, named, unicode_name, escape_case, escape, encode, meant}
 use Rattle.definition.specs.Body.{with_escape, string_case, string_move, string_n, alone, read_body}
 use Rattle.definition.specs.Records.{top, touching, covers, item, item_of, glue, merge, both_items, merged, texts, record_at, laid, cover, plain, Answer, answer_of}
-use Rattle.definition.specs.Entry.{Literal, sixes, opening, place_of, body, refusal, moved, not_empty, not_many, first_bad, bad, all_good, total, not_long, formed, ill_formed, all_utf8, any_of, first_start, not_mixed, first_of, entry}
-use Rattle.definition.specs.Reading.{Outcome, accepts, refuses, opened_at, refusal_in, read_literal, and_then, read_from, sort_of, u_mark, last_end, all_chars, answered, read, called, numbers_by}
+use Rattle.definition.specs.Entry.{sixes, opening, place_of, body, refusal, moved, not_empty, not_many, first_bad, bad, all_good, total, not_long, formed, ill_formed, all_utf8, any_of, first_start, not_mixed, first_of, entry}
+use Rattle.definition.specs.Reading.{Outcome, refuses, opened_at, refusal_in, read_literal, and_then, read_from, sort_of, u_mark, last_end, all_chars, answered, read, called, numbers_by}
 use Rattle.definition_names.specs.Names.{parted, hex_value, line_of, entries, lookup_in, lookup_of, has, twice, at_most, insert, by_name, indexed, check}
 use Rattle.definition_names.specs.NamedReading.{of_names, read_named, named_into, named_numbers, fields_named_of, fields_named_into}
 use Rattle.definition_scripts.specs.Listing.{fields_after, fields_call, fields_numbers}

@@ -6,9 +6,9 @@ use Prim.{Unit, tt}
 use Prim.Native.Nat.{ℕ, zero, suc, ◌≤◌, ◌<◌}
 use native.Mathlib.Nat.{not-suc-le-zero, le_of_suc-le-suc}
 use native.Mathlib.Omega.{arith}
-use lib.Dec.{eqb, ltb}
+use lib.Dec.{ltb}
 use lib.ListN.{length, get_or}
-use borrow.Author.Tests.{eqb-true, eq-eqb, ltb-true, ltb-false}
+use borrow.Author.Tests.{ltb-true, ltb-false}
 use Rattle.definition.specs.Chars.{same}
 use Rattle.definition_names.specs.Names.{at_most, name_of, Entry, at, insert, by_name, index_of, has, twice}
 use Rattle.definition_names.specs.IsIndex.{in_order, count, Perm, Rising}

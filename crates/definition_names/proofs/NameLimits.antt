@@ -1,5 +1,5 @@
 -- THE LIMIT OF A FILE OF NAMES by its numeral: its offsets have 32 bits. From there on an index is not built, 62, and none is right, 63. Assumes nothing.
-use mathlib.Core.Path.{◌≡◌, refl}
+use mathlib.Core.Path.{◌≡◌}
 use mathlib.Core.List.{List}
 use Prim.Native.Nat.{ℕ, ◌≤◌, ◌<◌}
 use borrow.Author.Tests.{le-leb, lt-leb}

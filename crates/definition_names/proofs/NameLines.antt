@@ -1,4 +1,5 @@
 -- The lines of a file, from an offset on. Assumes nothing.
+use Rattle.std.specs.Prelude.{if◌then◌else◌}
 use mathlib.Core.Path.{◌≡◌, refl, sym, ap, ◌∙◌}
 use mathlib.Core.Bool.{◌&&◌, not}
 use mathlib.Core.List.{List, [], ◌∷◌}
@@ -10,7 +11,7 @@ use lib.Dec.{eqb, ltb}
 use lib.ListN.{length, drop, drop_of_length-le, length-drop}
 use lib.Seq.{drop-cons, drop-drop, get_or-drop}
 use borrow.Author.Tests.{eq-eqb, ne_eqb, ltb-true, ltb-false}
-use Rattle.definition.specs.Chars.{if◌then◌else◌, ◌to◌, inside, byte}
+use Rattle.definition.specs.Chars.{◌to◌, inside, byte}
 use Rattle.definition_names.specs.Names.{up_to, first_field, name_at, on_first, parted, hex_value, no_value, Line, malformed, name_line, line_of, with_line, entries, named_from}
 use Rattle.definition_names.specs.IsIndex.{count}
 use Rattle.definition.proofs.Moves.CharLaws.{cases}

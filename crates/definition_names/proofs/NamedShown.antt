@@ -10,8 +10,7 @@ use lib.Dec.{T, ltb, lit≤}
 use lib.ListN.{length}
 use borrow.Author.Tests.{lt-ltb}
 use Rattle.definition.specs.Numbers.{line_malformed, name_twice, wrong_index, ◌among◌}
-use Rattle.definition.specs.Chars.{if◌then◌else◌, same}
-use Rattle.definition.specs.Records.{Answer}
+use Rattle.definition.specs.Chars.{same}
 use Rattle.definition.specs.Entry.{Literal, sixes, Refusal, refusal, first_of, entry}
 use Rattle.definition.specs.Reading.{Outcome, accepts, refuses, read, roomed, called, read_into, read_numbers, numbers_by}
 use Rattle.definition.specs.Join.{join_outcomes, Enough}
@@ -20,7 +19,7 @@ use Rattle.definition_names.specs.Names.{Entry, named, lookup_file, twice, index
 use Rattle.definition_scripts.specs.Listing.{too_long as long_script, wrong_names, fields_of, fields_call, fields_into, fields_numbers}
 use Rattle.definition_names.specs.NamedReading.{of_names, read_named, named_into, named_numbers, fields_named_of, fields_named_into}
 use Rattle.definition.proofs.Moves.CharLaws.{cases}
-use Rattle.definition_laws.proofs.Join.EntrySplit.{entry_left, entry_right}
+use Rattle.definition_laws.proofs.Join.EntrySplit.{entry_left}
 use Rattle.definition_laws.proofs.Join.JoinLaw.{read_join, called_join, sixes_append}
 use Rattle.definition_scripts_laws.proofs.Listing.CompleteLaw.{CompleteCall, fields_complete}
 use Rattle.definition_scripts_laws.proofs.Listing.ListingOne.{Told, one_list, fields_told}

@@ -1,4 +1,5 @@
 -- WHAT IS SHOWN OF A FILE OF NAMES: what passes the check, what is built, and what a search finds. Assumes nothing.
+use Rattle.std.specs.Prelude.{if◌then◌else◌}
 use mathlib.Core.Path.{◌≡◌, refl}
 use mathlib.Core.Bool.{true, false}
 use mathlib.Core.List.{List}
@@ -7,7 +8,7 @@ use Prim.Native.Nat.{ℕ}
 use native.Mathlib.Omega.{arith}
 use lib.Dec.{ltb}
 use lib.ListN.{length, get_or}
-use Rattle.definition.specs.Chars.{if◌then◌else◌, same, no_code}
+use Rattle.definition.specs.Chars.{same, no_code}
 use Rattle.definition.specs.Entry.{Refusal}
 use Rattle.definition.specs.Reading.{Outcome, accepts, refuses}
 use Rattle.definition_names.specs.Names.{is_scalar, Entry, named, has, lookup_of, lookup_file, twice, index_of, indexed, too_long, in_room, against, build, check, code_at, entry_of, scalar_at, searched}

@@ -1,8 +1,8 @@
 -- A lent file of names, as Unicode publishes UnicodeData.txt: its lines, its index, and names looked up.
-use Rattle.std.specs.Prelude.{ℕ, zero, suc, ◌+◌, ◌-◌, ◌*◌, ◌/◌, Bool, true, false, ◌&&◌, ◌||◌, not, List, [], ◌∷◌, map, ltb, leb, eqb, length, get_or, drop}
+use Rattle.std.specs.Prelude.{ℕ, zero, suc, ◌+◌, ◌-◌, ◌*◌, ◌/◌, Bool, true, false, ◌&&◌, ◌||◌, not, List, [], ◌∷◌, map, ltb, leb, eqb, length, get_or, drop, if◌then◌else◌}
 use Rattle.std.proofs.Math.Option.{Option, none, some}
 use Rattle.definition.specs.Numbers.{line_malformed, name_twice, too_little_index_room, wrong_index}
-use Rattle.definition.specs.Chars.{if◌then◌else◌, byte, no_code, ◌to◌, inside, same}
+use Rattle.definition.specs.Chars.{byte, no_code, ◌to◌, inside, same}
 use Rattle.definition.specs.Escapes.{hex_digit}
 use Rattle.definition.specs.Entry.{refusal}
 use Rattle.definition.specs.Reading.{Outcome, accepts, refuses, in_front, zeros}

@@ -1,7 +1,7 @@
 -- AN INTEGER BY A FORMAT SPECIFICATION: the text that Python writes. One statement covers the bases, by the base.
-use Rattle.std.specs.Prelude.{ℕ, zero, suc, ◌+◌, ◌-◌, ◌*◌, ◌/◌, ◌%◌, Bool, true, false, ◌&&◌, ◌||◌, not, List, [], ◌∷◌, ◌++◌, map, reverse, ltb, leb, eqb, length}
+use Rattle.std.specs.Prelude.{ℕ, zero, suc, ◌+◌, ◌-◌, ◌*◌, ◌/◌, ◌%◌, Bool, true, false, ◌&&◌, ◌||◌, not, List, [], ◌∷◌, ◌++◌, map, reverse, ltb, leb, eqb, length, if◌then◌else◌}
 use Rattle.std.proofs.Math.Option.{Option, none, some}
-use Rattle.definition.specs.Chars.{if◌then◌else◌, ◌is◌, same}
+use Rattle.definition.specs.Chars.{◌is◌, same}
 use Rattle.definition_replay.specs.Spec.{Spec, nothing}
 
 -- An integer: its size, and whether it is below 0

@@ -1,6 +1,6 @@
 -- WHAT THE TEXT OF AN INTEGER IS, without a word of how it is made.
-use Rattle.std.specs.Prelude.{ℕ, zero, suc, ◌+◌, ◌-◌, ◌*◌, ◌%◌, ◌≤◌, ◌<◌, ◌≡◌, Bool, true, false, ◌&&◌, ◌||◌, not, List, [], ◌∷◌, ◌++◌, reverse, leb, eqb, length, get_or, replicate}
-use Rattle.definition.specs.Chars.{if◌then◌else◌, ◌is◌}
+use Rattle.std.specs.Prelude.{ℕ, suc, ◌+◌, ◌*◌, ◌%◌, ◌≤◌, ◌<◌, ◌≡◌, Bool, true, false, ◌&&◌, ◌||◌, not, List, [], ◌∷◌, ◌++◌, reverse, leb, eqb, length, get_or, replicate, if◌then◌else◌}
+use Rattle.definition.specs.Chars.{◌is◌}
 use Rattle.definition_replay.specs.Integers.{Integer, Form, base_of, head_of, figures, zero_pads, copies}
 
 -- the value of digits in a base, the units first

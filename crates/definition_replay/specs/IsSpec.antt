@@ -1,7 +1,7 @@
 -- WHAT A TEXT OF THE FORMAT SPECIFICATION MINI-LANGUAGE IS, without a word of how it is read: its parts, one after another.
-use Rattle.std.specs.Prelude.{ℕ, ◌≡◌, Bool, true, ◌&&◌, ◌||◌, not, List, [], ◌∷◌, ◌++◌, eqb, length}
+use Rattle.std.specs.Prelude.{ℕ, ◌≡◌, Bool, true, ◌&&◌, ◌||◌, not, List, [], ◌∷◌, ◌++◌, eqb, length, if◌then◌else◌}
 use Prim.Native.String.{String}
-use Rattle.definition.specs.Chars.{if◌then◌else◌, ◌is◌, byte, next}
+use Rattle.definition.specs.Chars.{◌is◌, byte, next}
 use Rattle.definition_replay.specs.Spec.{Spec, aligns, signs, groupings, types, is_digit, all, nothing}
 
 -- a part of one character, if there is one

@@ -1,6 +1,5 @@
 -- WHAT A ROW OF A TRACE IS (RFC 4180), without a word of how it is read: its columns, parted by commas, and its end.
-use Rattle.std.specs.Prelude.{ℕ, ◌≡◌, Bool, true, false, ◌&&◌, ◌||◌, not, List, [], ◌∷◌, ◌++◌, map, eqb}
-use Rattle.definition.specs.Chars.{if◌then◌else◌}
+use Rattle.std.specs.Prelude.{ℕ, ◌≡◌, Bool, true, false, ◌&&◌, ◌||◌, not, List, [], ◌∷◌, ◌++◌, map, eqb, if◌then◌else◌}
 use Rattle.definition_replay.specs.Spec.{is_digit, all, nothing}
 use Rattle.definition_replay.specs.IsSpec.{one, optional}
 use Rattle.definition_replay.specs.Integers.{Integer, decimal}

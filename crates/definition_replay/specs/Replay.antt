@@ -1,8 +1,8 @@
 -- A TRACE REPLAYED THROUGH A TEMPLATE: for each row the line that Python would write, column k in the k-th top-level field, then byte 10.
-use Rattle.std.specs.Prelude.{ℕ, zero, suc, ◌+◌, min, Bool, true, false, ◌&&◌, ◌||◌, not, List, [], ◌∷◌, ◌++◌, ltb, leb, eqb, length, replicate}
+use Rattle.std.specs.Prelude.{ℕ, zero, suc, ◌+◌, min, Bool, true, false, ◌&&◌, ◌||◌, not, List, [], ◌∷◌, ◌++◌, ltb, leb, eqb, length, replicate, if◌then◌else◌}
 use Rattle.std.proofs.Math.Option.{Option, none, some}
 use Rattle.definition.specs.Numbers.{not_of_grammar, outside_set, row_malformed, wrong_columns, out_of_range, too_little_line_room}
-use Rattle.definition.specs.Chars.{if◌then◌else◌, part}
+use Rattle.definition.specs.Chars.{part}
 use Rattle.definition.specs.Escapes.{Naming}
 use Rattle.definition.specs.Records.{Record, Answer}
 use Rattle.definition.specs.Entry.{Refusal}

@@ -1,9 +1,9 @@
 -- THE FORMAT SPECIFICATION MINI-LANGUAGE of Python 3.11's library reference, read from bytes; nothing here knows of numbers or of a trace:
 --   [[fill]align][sign]["z"]["#"]["0"][width][grouping_option]["." precision][type]
-use Rattle.std.specs.Prelude.{ℕ, Bool, true, false, ◌&&◌, ◌||◌, not, List, [], ◌∷◌, eqb, take, drop}
+use Rattle.std.specs.Prelude.{ℕ, Bool, true, false, ◌&&◌, ◌||◌, not, List, [], ◌∷◌, eqb, take, drop, if◌then◌else◌}
 use Prim.Native.String.{String}
 use Rattle.std.proofs.Math.Option.{Option, none, some}
-use Rattle.definition.specs.Chars.{if◌then◌else◌, ◌is◌, byte, ◌to◌, inside, code, next}
+use Rattle.definition.specs.Chars.{◌is◌, byte, ◌to◌, inside, code, next}
 
 -- THE PARTS of a text: one of a single ASCII character by its code, 0 where there is none; fill, width and precision as they stand
 pub record Spec : Type 0 where

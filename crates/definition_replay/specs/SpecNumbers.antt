@@ -1,8 +1,7 @@
 -- WHAT A CALL TELLS OF A FORMAT SPECIFICATION: twelve numbers.
-use Rattle.std.specs.Prelude.{ℕ, ◌+◌, min, List, [], ◌∷◌, eqb, replicate}
+use Rattle.std.specs.Prelude.{ℕ, ◌+◌, min, List, [], ◌∷◌, eqb, replicate, if◌then◌else◌}
 use Rattle.std.proofs.Math.Option.{none, some}
 use Rattle.definition.specs.Numbers.{not_of_grammar}
-use Rattle.definition.specs.Chars.{if◌then◌else◌}
 use Rattle.definition_replay.specs.Spec.{fill_code, spec_of, rounds}
 use Rattle.definition_replay.specs.Integers.{decimal}
 

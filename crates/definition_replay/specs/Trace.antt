@@ -1,8 +1,8 @@
 -- A TRACE: RFC 4180's grammar to the letter, and rows of decimal integers.
 --   file = record *(CRLF record) [CRLF]; record = field *(COMMA field); field = escaped / non-escaped
-use Rattle.std.specs.Prelude.{ℕ, zero, suc, Bool, true, false, ◌&&◌, ◌||◌, not, List, [], ◌∷◌, eqb, length}
+use Rattle.std.specs.Prelude.{ℕ, zero, suc, Bool, true, false, ◌&&◌, ◌||◌, not, List, [], ◌∷◌, eqb, length, if◌then◌else◌}
 use Rattle.std.proofs.Math.Option.{Option, none, some}
-use Rattle.definition.specs.Chars.{if◌then◌else◌, ◌is◌, ◌to◌, inside}
+use Rattle.definition.specs.Chars.{◌is◌, ◌to◌, inside}
 use Rattle.definition_replay.specs.Spec.{is_digit, first, past, front, behind, all, nothing}
 use Rattle.definition_replay.specs.Integers.{Integer, decimal}
 

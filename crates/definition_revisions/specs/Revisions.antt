@@ -1,7 +1,7 @@
 -- Two revisions of a script line: the top-level items of two answers compared, front and back (document 02, item 8). Nothing of the reading uses it.
-use Rattle.std.specs.Prelude.{ℕ, zero, suc, ◌+◌, ◌-◌, min, Bool, true, false, ◌&&◌, List, [], ◌∷◌, ◌++◌, map, reverse, ltb, eqb, length, drop}
+use Rattle.std.specs.Prelude.{ℕ, zero, suc, ◌+◌, ◌-◌, min, Bool, true, false, ◌&&◌, List, [], ◌∷◌, ◌++◌, map, reverse, ltb, eqb, length, drop, if◌then◌else◌}
 use Rattle.definition.specs.Numbers.{first_ill_formed, second_ill_formed, too_little_middle_room}
-use Rattle.definition.specs.Chars.{if◌then◌else◌, part, same}
+use Rattle.definition.specs.Chars.{part, same}
 use Rattle.definition.specs.Records.{Record}
 use Rattle.definition.specs.Reading.{in_front, zeros}
 use Rattle.definition.specs.Words.{owing}

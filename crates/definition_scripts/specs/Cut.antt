@@ -1,6 +1,6 @@
 -- The cut of a whole script from the front: its literals, and how it ends.
-use Rattle.std.specs.Prelude.{ℕ, zero, suc, ◌+◌, Bool, ◌&&◌, not, ◌||◌, List, [], ◌∷◌, leb, eqb, length, take}
-use Rattle.definition.specs.Chars.{if◌then◌else◌, byte, at_end}
+use Rattle.std.specs.Prelude.{ℕ, zero, suc, ◌+◌, Bool, ◌&&◌, not, ◌||◌, List, [], ◌∷◌, leb, eqb, length, take, if◌then◌else◌}
+use Rattle.definition.specs.Chars.{byte, at_end}
 use Rattle.definition.specs.Entry.{Literal}
 use Rattle.definition.specs.Reading.{accepts, refuses}
 use Rattle.definition_scripts.specs.Opening.{no_kind, opens, is_sign, first_at, is_line_end, apart}

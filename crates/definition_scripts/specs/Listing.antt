@@ -1,7 +1,7 @@
 -- EVERY FIELD OF A WHOLE SCRIPT: the rows of its cut, then those of each row's source, level by level.
-use Rattle.std.specs.Prelude.{ℕ, zero, suc, ◌+◌, ◌-◌, ◌/◌, Bool, true, false, ◌&&◌, not, List, [], ◌∷◌, ◌++◌, map, ltb, leb, eqb, length}
+use Rattle.std.specs.Prelude.{ℕ, zero, suc, ◌+◌, ◌-◌, ◌/◌, Bool, true, false, ◌&&◌, not, List, [], ◌∷◌, ◌++◌, map, ltb, leb, eqb, length, if◌then◌else◌}
 use Rattle.definition.specs.Numbers.{is_fstring, script_too_long, too_little_list_room, read_otherwise, unknown_prefix}
-use Rattle.definition.specs.Chars.{if◌then◌else◌, ◌is◌, byte}
+use Rattle.definition.specs.Chars.{◌is◌, byte}
 use Rattle.definition.specs.Escapes.{Naming}
 use Rattle.definition.specs.Body.{Signs}
 use Rattle.definition.specs.Entry.{Literal}

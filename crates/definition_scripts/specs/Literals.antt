@@ -1,7 +1,7 @@
 -- The adjacent literals of a script from an offset on, and what the list buffer holds afterwards.
-use Rattle.std.specs.Prelude.{ℕ, zero, suc, ◌+◌, ◌-◌, ◌*◌, true, false, List, [], ◌∷◌, ltb, leb, length}
+use Rattle.std.specs.Prelude.{ℕ, zero, suc, ◌+◌, ◌-◌, ◌*◌, true, false, List, [], ◌∷◌, ltb, leb, length, if◌then◌else◌}
 use Rattle.definition.specs.Numbers.{script_too_long, never_closed, newline_in_literal, no_literal, too_little_list_room}
-use Rattle.definition.specs.Chars.{if◌then◌else◌, ◌is◌, byte, at_end}
+use Rattle.definition.specs.Chars.{◌is◌, byte, at_end}
 use Rattle.definition.specs.Entry.{Literal, Refusal, refusal}
 use Rattle.definition.specs.Reading.{Outcome, accepts, refuses, last_end, in_front, zeros}
 use Rattle.definition_scripts.specs.Opening.{no_kind, opens, quotes, quote_of, flag_of, body_of, quotes_at, breaks_at, is_space, is_sign, line_end}

@@ -1,7 +1,7 @@
 -- What opens a literal in a script, and what closes it.
-use Rattle.std.specs.Prelude.{ℕ, ◌+◌, ◌-◌, Bool, ◌&&◌, not, ◌||◌, List, eqb, drop}
+use Rattle.std.specs.Prelude.{ℕ, ◌+◌, ◌-◌, Bool, ◌&&◌, not, ◌||◌, List, eqb, drop, if◌then◌else◌}
 use Rattle.definition.specs.Numbers.{prefix}
-use Rattle.definition.specs.Chars.{if◌then◌else◌, ◌is◌, byte, ◌to◌, inside, before}
+use Rattle.definition.specs.Chars.{◌is◌, byte, ◌to◌, inside, before}
 
 abbrev pub is_quote : ℕ → Bool
 is_quote c = c is "'\""

@@ -1,6 +1,6 @@
 -- WHAT IT MEANS THAT A LIST OF ROWS IS COMPLETE FOR A SCRIPT, without a word of how it is made: it uses the reading of one literal and its rows, what a cut is,
 -- of Keywords what a byte of a word and a keyword are, and of Listing only what a row is and where a field's source ends.
-use Rattle.std.specs.Prelude.{ℕ, suc, ◌+◌, ◌-◌, ◌≤◌, ◌<◌, ◌≡◌, Bool, true, false, not, List, [], ◌∷◌, ◌++◌, map, eqb, length, take}
+use Rattle.std.specs.Prelude.{ℕ, suc, ◌-◌, ◌≤◌, ◌<◌, ◌≡◌, Bool, true, false, not, List, [], ◌∷◌, ◌++◌, map, eqb, length, take}
 use Prim.Native.String.{String}
 use Rattle.definition.specs.Numbers.{is_fstring}
 use Rattle.definition.specs.Chars.{◌is◌, ascii, byte, part, ◌to◌, inside}

@@ -1,7 +1,6 @@
 -- THE BODY BY ONE PASS over the records, with the specs that are open: what is written at each, and whether that reads back. Nothing of what is written uses it; that it
 -- is the spelling, and exactly what reads back but for the length, is shown. The code goes by it.
-use Rattle.std.specs.Prelude.{ℕ, ◌+◌, ◌-◌, Bool, true, false, ◌&&◌, List, [], ◌∷◌, ◌++◌, eqb, length}
-use Rattle.definition.specs.Chars.{if◌then◌else◌}
+use Rattle.std.specs.Prelude.{ℕ, ◌-◌, Bool, true, false, ◌&&◌, List, [], ◌∷◌, ◌++◌, eqb, length, if◌then◌else◌}
 use Rattle.definition.specs.Records.{Record}
 use Rattle.definition_written.specs.Written.{Where, top, early, past_field, own_text, spelled_text, spelled_conversion}
 use Rattle.definition_written.specs.ReadsBack.{text_reads, field_reads}

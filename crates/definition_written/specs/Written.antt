@@ -1,7 +1,7 @@
 -- A BODY WRITTEN BACK from the records and text of a joined answer: what may be written, its one spelling, and when that reads back alike.
-use Rattle.std.specs.Prelude.{ℕ, zero, suc, ◌+◌, Bool, true, false, ◌&&◌, List, [], ◌∷◌, ◌++◌, leb, eqb, length, replicate}
+use Rattle.std.specs.Prelude.{ℕ, zero, suc, ◌+◌, Bool, true, false, ◌&&◌, List, [], ◌∷◌, ◌++◌, leb, eqb, length, replicate, if◌then◌else◌}
 use Rattle.definition.specs.Numbers.{not_writable, not_read_back, too_little_body_room}
-use Rattle.definition.specs.Chars.{if◌then◌else◌, ◌is◌, part, same}
+use Rattle.definition.specs.Chars.{◌is◌, part, same}
 use Rattle.definition.specs.Escapes.{Naming}
 use Rattle.definition.specs.Records.{Record, Answer}
 use Rattle.definition.specs.Reading.{Outcome, accepts, refuses, read_alone, in_front, zeros}

@@ -1,10 +1,11 @@
 -- The tables of rows.py: escapes, characters and whole calls are read as they say, computed. Assumes nothing.
+use Rattle.std.specs.Prelude.{if◌then◌else◌}
 use Prim.Native.Nat.{ℕ, zero, suc, ◌+◌}
 use mathlib.Core.Path.{◌≡◌, refl}
 use mathlib.Core.List.{List, [], ◌∷◌, ◌++◌, map}
 use lib.ListN.{length, replicate}
 use Rattle.definition.specs.Numbers.{prefix, ◌among◌}
-use Rattle.definition.specs.Chars.{if◌then◌else◌, ascii, inside_any, table37, following, follow, width, decoded, code, next, char, formed_from, well_formed, utf8, white_space, before, same}
+use Rattle.definition.specs.Chars.{ascii, inside_any, table37, following, follow, width, decoded, code, next, char, formed_from, well_formed, utf8, white_space, before, same}
 use Rattle.definition.specs.Counts.{more, count_from, counted}
 use Rattle.definition.specs.Escapes.{fault, Read, got, refused, octal_digit, octal_from, hex_digit, scalar, hex_from, held, lookup, held_names, named, unicode_name, escape_case, escape, encode, meant}
 use Rattle.definition.specs.Body.{Piece, literal, with_escape, string_case, string_move, string_n, text_case, text_move, filled, with_equals, with_bang, with_colon, with_close, fresh, add, documented, spaced, formatted, outside, field_case, case_of, conversion_move, open_move, close_move, quote_move, field_move, direct, conversion_of, field_pieces, self_documenting, finished, specified, plain_run, text_n, alone, read_body}

@@ -33,7 +33,7 @@ calls =
     ∷ (ascii "a", 0 ∷ 0 ∷ 0 ∷ 1 ∷ 0 ∷ 3 ∷ 6 ∷ 0 ∷ 0 ∷ 1 ∷ 3 ∷ 6 ∷ [], 64, 200, 0 ∷ 0 ∷ 0 ∷ 0 ∷ 6 ∷ 1 ∷ 2 ∷ 0 ∷ 2 ∷ [])
     ∷ (ascii "a", 0 ∷ 0 ∷ 0 ∷ 1 ∷ 0 ∷ 3 ∷ 0 ∷ 0 ∷ 1 ∷ 0 ∷ 3 ∷ 4 ∷ [], 64, 200, 0 ∷ 0 ∷ 0 ∷ 0 ∷ 4 ∷ 1 ∷ 1 ∷ 0 ∷ 1 ∷ [])
     ∷ (ascii "a", 0 ∷ 0 ∷ 0 ∷ 1 ∷ 0 ∷ 3 ∷ 4 ∷ 1 ∷ 0 ∷ 1 ∷ 3 ∷ 9 ∷ [], 64, 200, 0 ∷ 1 ∷ 0 ∷ 0 ∷ 9 ∷ 1 ∷ 2 ∷ 0 ∷ 2 ∷ [])
-    -- 6 of the first such literal, after the longest well_formed_lem prefix: of each kind and flag, whose opening is its prefix and one or three quotes
+    -- 6 of the first such literal, after the longest well-formed prefix: of each kind and flag, whose opening is its prefix and one or three quotes
     ∷ (0x61 ∷ 0xFF ∷ [], 0 ∷ 0 ∷ 0 ∷ 2 ∷ 5 ∷ 9 ∷ [], 64, 200, 6 ∷ 0 ∷ 7 ∷ 0 ∷ 0 ∷ 0 ∷ 0 ∷ 0 ∷ 0 ∷ [])
     ∷ (0x61 ∷ 0xFF ∷ [], 1 ∷ 0 ∷ 0 ∷ 2 ∷ 5 ∷ 10 ∷ [], 64, 200, 6 ∷ 0 ∷ 8 ∷ 0 ∷ 0 ∷ 0 ∷ 0 ∷ 0 ∷ 0 ∷ [])
     ∷ (0x61 ∷ 0xFF ∷ [], 2 ∷ 0 ∷ 0 ∷ 2 ∷ 5 ∷ 10 ∷ [], 64, 200, 6 ∷ 0 ∷ 8 ∷ 0 ∷ 0 ∷ 0 ∷ 0 ∷ 0 ∷ 0 ∷ [])

@@ -4,7 +4,7 @@ use Prim.Native.Nat.{ℕ}
 use Prim.Native.String.{String}
 use mathlib.Core.Path.{◌≡◌, refl}
 use mathlib.Core.List.{List, [], ◌∷◌, map}
-use mathlib.Core.Option.{Option, none, some}
+use mathlib.Core.Option.{none, some}
 use lib.ListN.{replicate}
 use Rattle.definition.specs.Numbers.{prefix}
 use Rattle.definition.specs.Chars.{ascii, inside_any, table37, following, follow, width, decoded, code, next, char, formed_from, well_formed, utf8, white_space, before, same}
@@ -13,7 +13,7 @@ use Rattle.definition.specs.Escapes.{Naming, octal_digit, octal_from, hex_digit,
 use Rattle.definition.specs.Body.{with_escape, string_case, string_move, string_n, text_case, text_move, filled, with_equals, with_bang, with_colon, with_close, fresh, add, documented, spaced, formatted, outside, field_case, case_of, conversion_move, open_move, close_move, quote_move, field_move, direct, conversion_of, field_pieces, self_documenting, finished, specified, plain_run, text_n, alone, read_body}
 use Rattle.definition.specs.Records.{inner, touching, covers, words_of, item, item_of, glue, merge, both_items, merged, texts, record_at, laid, cover, joined, answer_of}
 use Rattle.definition.specs.Entry.{sixes, one_more, opening, place_of, body, refusal, moved, not_empty, not_many, first_bad, bad, all_good, total, not_long, formed, ill_formed, all_utf8, any_of, first_start, not_mixed, first_of, entry}
-use Rattle.definition.specs.Reading.{Outcome, refuses, opened_at, refusal_in, read_literal, and_then, read_from, sort_of, u_mark, last_end, all_chars, answered, read, outcome_of, short_of, room_for, roomed, all_words, words_after, text_after, called, read_into, numbers_by, read_numbers, sort_number, numbers}
+use Rattle.definition.specs.Reading.{refuses, opened_at, refusal_in, read_literal, and_then, read_from, sort_of, u_mark, last_end, all_chars, answered, read, outcome_of, short_of, room_for, roomed, all_words, words_after, text_after, called, read_into, numbers_by, read_numbers, sort_number, numbers}
 use Rattle.definition.specs.Join.{both_records, raise, seam, seamed, join_sort, join, shifted, join_outcomes}
 use Rattle.definition.specs.View.{viewed}
 use Rattle.definition.proofs.Computed.Starred.{literal, rec, accepted, Row, ◌gives◌, Given}

@@ -30,7 +30,7 @@ encoded =
     ∷ (0x10FFFF, 0xF4 ∷ 0x8F ∷ 0xBF ∷ 0xBF ∷ [])
     ∷ []
 
--- bytes that are not UTF-8, and the length of their longest well_formed_lem prefix
+-- bytes that are not UTF-8, and the length of their longest well-formed prefix
 unfoldable pub ill_formed : List (List ℕ × ℕ)
 ill_formed =
     (0x61 ∷ 0xC3 ∷ 0xA9 ∷ 0x80 ∷ 0x62 ∷ [], 3)

@@ -1,4 +1,5 @@
 -- Characters of any bytes: where one ends, and which of them are ASCII. Assumes nothing.
+use Rattle.std.specs.Prelude.{if◌then◌else◌}
 use mathlib.Core.Path.{◌≡◌, refl, sym, ◌∙◌, ap, ap₂, subst}
 use mathlib.Core.Bool.{Bool, true, false, ◌&&◌, ◌||◌}
 use mathlib.Core.List.{List, [], ◌∷◌}
@@ -11,7 +12,7 @@ use borrow.Author.Tests.{ltb-true, ltb-false, leb-true, leb-false, le-leb, lt-le
 use lib.Dec.{ltb, leb, eqb, lit≤}
 use lib.ListN.{length, drop, get_or, drop_of_length-le, length-drop, get_or-eq_default}
 use lib.Seq.{drop-cons, get_or-drop}
-use Rattle.definition.specs.Chars.{if◌then◌else◌, byte, at_end, no_code, Range, ◌to◌, inside, inside_any, table37, following, follow, width, decoded, code, next, formed_from, well_formed, before, same}
+use Rattle.definition.specs.Chars.{byte, at_end, no_code, Range, ◌to◌, inside, inside_any, table37, following, follow, width, decoded, code, next, formed_from, well_formed, before, same}
 
 -- a test is true or false
 pub cases : {P : Type 0} (t : Bool) → (t ≡ true → P) → (t ≡ false → P) → P
@@ -324,7 +325,7 @@ pub formed_utf8 : (s : List ℕ) → length s ≤ well_formed s → Utf8 s
 unfolding well_formed
 formed_utf8 s h i l z = formed_heads (length s) s 0 h i (omega arith) l z
 
--- THE SAME BYTES ARE THE SAME CHARACTER: that of well_formed_lem text at i, in front of another text
+-- THE SAME BYTES ARE THE SAME CHARACTER: that of well-formed text at i, in front of another text
 module _ (s t : List ℕ) (i : ℕ) (l : i < length s) (utf8 : Utf8 s) (same : (k n : ℕ) → k ≡ i + n → k < next s i → byte s k ≡ byte t n) where
   next_width : next s i ≡ i + max 1 (width s i)
   unfolding next

@@ -12,7 +12,7 @@ use Rattle.definition.specs.Escapes.{octal_digit, octal_from, hex_digit, scalar,
 use Rattle.definition.specs.Body.{with_escape, string_case, string_move, string_n, text_case, text_move, filled, with_equals, with_bang, with_colon, with_close, fresh, add, documented, spaced, formatted, outside, field_case, case_of, conversion_move, open_move, close_move, quote_move, field_move, direct, conversion_of, field_pieces, self_documenting, finished, specified, plain_run, text_n, alone, read_body}
 use Rattle.definition.specs.Records.{touching, covers, item, item_of, glue, merge, both_items, merged, texts, record_at, laid, cover, answer_of}
 use Rattle.definition.specs.Entry.{opening, place_of, body, refusal, moved, not_empty, not_many, first_bad, bad, all_good, total, not_long, formed, ill_formed, all_utf8, any_of, first_start, not_mixed, first_of, entry}
-use Rattle.definition.specs.Reading.{opened_at, refusal_in, read_literal, and_then, read_from, sort_of, u_mark, last_end, all_chars, answered, read, alone_as, read_alone}
+use Rattle.definition.specs.Reading.{opened_at, refusal_in, read_literal, and_then, read_from, sort_of, u_mark, last_end, all_chars, answered, read, read_alone}
 use Rattle.definition.specs.Join.{both_records, raise, seam, seamed, join_sort, join, shifted, join_outcomes}
 use Rattle.definition_cuts.specs.Cuts.{is_read, rise, pieces, all_short, all_read, join_all, conversion, same_record, same_records, equal, checked}
 use Rattle.definition_cuts.specs.Tokens.{end_of, move_end, staying, token_end, with_first, boundaries_n, boundaries}

@@ -1,4 +1,5 @@
--- A body read alone: accepted exactly if it is short enough and well_formed_lem and its steps go to the end. Assumes nothing.
+-- A body read alone: accepted exactly if it is short enough and well-formed and its steps go to the end. Assumes nothing.
+use Rattle.std.specs.Prelude.{if◌then◌else◌}
 use mathlib.Core.Path.{◌≡◌, refl, sym, ◌∙◌, ap}
 use mathlib.Core.Bool.{Bool, true, false}
 use mathlib.Core.List.{List, [], ◌∷◌, ◌++◌, map, append-nil}
@@ -10,7 +11,7 @@ use lib.Dec.{ltb}
 use lib.ListN.{length}
 use lib.Seq.{take-length}
 use Rattle.definition.specs.Numbers.{prefix}
-use Rattle.definition.specs.Chars.{if◌then◌else◌, well_formed}
+use Rattle.definition.specs.Chars.{well_formed}
 use Rattle.definition.specs.Escapes.{held_names, Fault, Read, got, refused}
 use Rattle.definition.specs.Body.{Piece, filled, text_n, enough, read_body}
 use Rattle.definition.specs.Records.{Item, item_of, both_items, merge, Answer, answer_of}

@@ -1,4 +1,5 @@
 -- A list of cuts passes exactly if the body is accepted, every cut stands between two tokens, and every piece keeps to the limit. Assumes nothing.
+use Rattle.std.specs.Prelude.{if◌then◌else◌}
 use mathlib.Core.Path.{◌≡◌, refl, sym, ◌∙◌, ap, subst}
 use mathlib.Core.Bool.{Bool, true, false, ◌&&◌, not}
 use mathlib.Core.List.{List, [], ◌∷◌, ◌++◌, append_assoc}
@@ -9,7 +10,7 @@ use borrow.Author.Tests.{ltb-true, leb-true, le-leb}
 use lib.Dec.{ltb, leb}
 use lib.ListN.{length, drop, length-drop, length-append}
 use lib.Seq.{take_all}
-use Rattle.definition.specs.Chars.{if◌then◌else◌, part, code, utf8}
+use Rattle.definition.specs.Chars.{part, code, utf8}
 use Rattle.definition.specs.Escapes.{held_names, octal_digit}
 use Rattle.definition.specs.Body.{Piece, filled}
 use Rattle.definition.specs.Records.{Answer}
@@ -186,7 +187,7 @@ joined_octal s from c cs x ps fl cl r H F L J = record {
     whole_text = text_append L.front (filled 0 (utf8 L.all) ++ R.0) ∙ ap (λ t. text_of L.front ++ t) (text_append (filled 0 (utf8 L.all)) R.0 ∙ ap (λ t. t ++ text_of R.0) (text_filled (utf8 L.all)))
 
     front_text : text_of ps ≡ text_of L.front ++ utf8 L.value
-    front_text = text_eq ps (L.front ++ filled 0 (utf8 L.value)) (eq_same ps (L.front ++ filled 0 (utf8 L.value)) L.Front-same) ∙ text_append L.front (filled 0 (utf8 L.value)) ∙ ap (λ t. text_of L.front ++ t) (text_filled (utf8 L.value))
+    front_text = text_eq ps (L.front ++ filled 0 (utf8 L.value)) (eq_same ps (L.front ++ filled 0 (utf8 L.value)) L.front_same) ∙ text_append L.front (filled 0 (utf8 L.value)) ∙ ap (λ t. text_of L.front ++ t) (text_filled (utf8 L.value))
 
     pieces_text : text_of (ps ++ J.pieces_of) ≡ text_of L.front ++ (utf8 L.value ++ text_of J.pieces_of)
     pieces_text = text_append ps J.pieces_of ∙ ap (λ t. t ++ text_of J.pieces_of) front_text ∙ append_assoc (text_of L.front) (utf8 L.value) (text_of J.pieces_of)

@@ -1,4 +1,5 @@
 -- WHICH NUMBER the check gives, by the body's tokens. Assumes nothing.
+use Rattle.std.specs.Prelude.{if◌then◌else◌}
 use mathlib.Core.Path.{◌≡◌, refl, sym, ◌∙◌, ap, subst}
 use mathlib.Core.Bool.{Bool, true, false, ◌&&◌, not}
 use mathlib.Core.List.{List, [], ◌∷◌, ◌++◌}
@@ -9,7 +10,7 @@ use native.Mathlib.Omega.{arith}
 use borrow.Author.Tests.{ltb-true, ltb-false, leb-true, leb-false, le-leb, lt-leb, eqb-true, eqb-false, ne_eqb}
 use lib.Dec.{ltb, leb, eqb}
 use lib.ListN.{length, drop, length-drop}
-use Rattle.definition.specs.Chars.{if◌then◌else◌, ◌is◌, part, code, next, well_formed, utf8}
+use Rattle.definition.specs.Chars.{◌is◌, part, code, next, well_formed, utf8}
 use Rattle.definition.specs.Escapes.{held_names, got, octal, escape_case, octal_digit}
 use Rattle.definition.specs.Body.{Piece, TextCase, text_case, filled}
 use Rattle.definition.specs.Records.{Answer}

@@ -2,14 +2,14 @@
 use mathlib.Core.Path.{◌≡◌, refl, sym, ◌∙◌, ap, subst}
 use mathlib.Core.Bool.{true, false}
 use mathlib.Core.List.{List, [], ◌++◌}
-use mathlib.Core.Option.{none, some}
+use mathlib.Core.Option.{some}
 use mathlib.Core.Logic.{◌⊎◌, inl, inr}
 use Prim.Native.Nat.{ℕ, zero, suc, ◌+◌, ◌-◌, ◌*◌, ◌≤◌, ◌<◌}
 use native.Mathlib.Omega.{arith}
 use borrow.Author.Tests.{ltb-true, ltb-false, eqb-true, eqb-false, ne_eqb}
 use lib.Dec.{ltb, eqb}
 use lib.ListN.{length}
-use Rattle.definition.specs.Chars.{◌is◌, part, code, next, char, utf8}
+use Rattle.definition.specs.Chars.{part, code, next, char, utf8}
 use Rattle.definition.specs.Escapes.{held_names, got, stands, octal, escape_case, octal_digit, octal_from}
 use Rattle.definition.specs.Body.{Piece, TextCase, text_case, filled}
 use Rattle.definition.specs.Records.{Answer}

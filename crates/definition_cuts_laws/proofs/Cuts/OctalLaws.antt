@@ -2,12 +2,12 @@
 use mathlib.Core.Path.{◌≡◌, refl, sym, ◌∙◌, ap, subst}
 use mathlib.Core.Bool.{Bool, true, false}
 use mathlib.Core.List.{List, [], ◌∷◌, ◌++◌, append_assoc, append-nil}
-use Prim.Native.Nat.{ℕ, zero, suc, ◌+◌, ◌-◌, ◌*◌, ◌/◌, ◌%◌, ◌≤◌, ◌<◌}
+use Prim.Native.Nat.{ℕ, zero, suc, ◌+◌, ◌*◌, ◌/◌, ◌%◌, ◌≤◌, ◌<◌}
 use native.Mathlib.Omega.{arith}
 use borrow.Author.Tests.{ltb-true, ltb-false, lt-ltb, le-ltb, leb-true, leb-false, ne_eqb}
 use lib.Dec.{ltb, leb}
 use lib.ListN.{length, length-append}
-use Rattle.definition.specs.Chars.{◌is◌, inside, ◌to◌, code, next, char, utf8}
+use Rattle.definition.specs.Chars.{inside, ◌to◌, code, next, char, utf8}
 use Rattle.definition.specs.Escapes.{Naming, got, stands, octal_digit, octal_from}
 use Rattle.definition.specs.Body.{Piece, literal, field, spec, goes, text_move, filled}
 use Rattle.definition.specs.Records.{texts}

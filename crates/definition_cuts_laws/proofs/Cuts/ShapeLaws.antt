@@ -1,4 +1,5 @@
 -- What is compared of readings: kinds, texts, conversions and parts of records are those of their items, and of joined readings those of both. Assumes nothing.
+use Rattle.std.specs.Prelude.{if◌then◌else◌}
 use mathlib.Core.Path.{◌≡◌, refl, sym, ◌∙◌, ap, ap₂, subst}
 use mathlib.Core.Bool.{Bool, true, false, ◌&&◌}
 use mathlib.Core.List.{List, [], ◌∷◌, ◌++◌, map, map-append, append_assoc}
@@ -8,7 +9,7 @@ use borrow.Author.Tests.{eqb-true, eq-eqb}
 use lib.Dec.{eqb}
 use lib.ListN.{length, length-append}
 use lib.Seq.{take-append_seam, drop-append_seam}
-use Rattle.definition.specs.Chars.{if◌then◌else◌, part, same}
+use Rattle.definition.specs.Chars.{part, same}
 use Rattle.definition.specs.Body.{Piece, literal, field, spec}
 use Rattle.definition.specs.Records.{top, inner, touching, covers, Item, item, item_of, Record, glue, merge, both_items, merged, texts, record_at, laid, cover, Sort, Answer, answer_of}
 use Rattle.definition.specs.Join.{seam, join_sort, join}

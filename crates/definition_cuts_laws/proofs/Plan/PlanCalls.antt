@@ -1,20 +1,20 @@
 -- WHAT A CALL FOR A PLAN TELLS AND LEAVES: the promise's list, that no list passes, or how long it would be. Assumes nothing.
-use mathlib.Core.Path.{◌≡◌, refl, sym, ◌∙◌, subst}
+use Rattle.std.specs.Prelude.{if◌then◌else◌}
+use mathlib.Core.Path.{◌≡◌, refl}
 use mathlib.Core.Bool.{Bool, true, false, false≢true}
-use mathlib.Core.List.{List, []}
+use mathlib.Core.List.{List}
 use mathlib.Core.Option.{Option, none, some}
 use Prim.Native.Nat.{ℕ, ◌-◌, ◌≤◌, ◌<◌}
 use native.Mathlib.Omega.{arith}
 use borrow.Author.Tests.{ltb-true, ltb-false, le-ltb}
 use lib.Dec.{ltb}
 use lib.ListN.{length}
-use Rattle.definition.specs.Chars.{if◌then◌else◌}
 use Rattle.definition.specs.Words.{word}
 use Rattle.definition.specs.Left.{Left}
 use Rattle.definition_laws.proofs.Outcomes.Leaving.{left_zeros, left_front}
 use Rattle.definition_cuts.specs.Cuts.{Passes}
 use Rattle.definition_cuts_laws.specs.IsPlan.{IsPlan, Promised}
-use Rattle.definition_cuts.specs.Plan.{plan, Planned, cuts_at, nothing, too_short, roomed_plan, plan_after, PlanCall, plan_into, plan_numbers}
+use Rattle.definition_cuts.specs.Plan.{plan, Planned, cuts_at, nothing, too_short, roomed_plan, plan_after, plan_into, plan_numbers}
 use Rattle.definition_cuts_laws.proofs.Cuts.BoundaryLaw.{plan_room}
 use Rattle.definition_cuts_laws.proofs.Plan.PlanLaw.{plan_promised}
 

@@ -2,7 +2,7 @@
 use mathlib.Core.Path.{◌≡◌, refl, sym, ◌∙◌, ap, subst}
 use mathlib.Core.Bool.{Bool, true, false, not}
 use mathlib.Core.List.{List, [], ◌++◌}
-use Prim.Native.Nat.{ℕ, zero, suc, ◌+◌, ◌-◌, ◌*◌, ◌≤◌, ◌<◌}
+use Prim.Native.Nat.{ℕ, zero, suc, ◌+◌, ◌*◌, ◌≤◌, ◌<◌}
 use native.Mathlib.Omega.{arith}
 use borrow.Author.Tests.{ltb-true, ltb-false, leb-true, leb-false, le-leb, eqb-true, eqb-false}
 use lib.Dec.{ltb, leb, eqb}
@@ -30,7 +30,7 @@ module _ (s : List ℕ) where
   formed_append i j k done G = G
   formed_append i j k (char_on w e F) G = char_on w e (formed_append (i + suc w) j k F G)
 
-  -- the longest well_formed_lem prefix is all of the text
+  -- the longest well-formed prefix is all of the text
   formed_path : (n i : ℕ) → length s ≤ formed_from n s i → i ≤ length s → Formed i (length s)
   unfolding formed_from
   formed_path zero i h l = let z : i ≡ length s = omega arith in subst (λ (k : ℕ). Formed i k) z done

@@ -3,7 +3,7 @@ use mathlib.Core.Path.{◌≡◌, refl, sym, ◌∙◌, ap, subst}
 use mathlib.Core.Bool.{Bool, true, false}
 use mathlib.Core.List.{List, [], ◌∷◌, ◌++◌, append_assoc}
 use mathlib.Core.Option.{Option, none, some}
-use Prim.Native.Nat.{ℕ, zero, suc, ◌+◌, ◌-◌, ◌≤◌, ◌<◌}
+use Prim.Native.Nat.{ℕ, zero, suc, ◌+◌, ◌≤◌, ◌<◌}
 use native.Mathlib.Omega.{arith}
 use borrow.Author.Tests.{ltb-false, le-ltb, leb-true, leb-false, le-leb, lt-leb}
 use lib.Dec.{ltb}
@@ -69,7 +69,7 @@ module _ (s : List ℕ) where
       let a = step_ahead held_names s i j B.0 (omega arith) B.1 in
       (B.0, (λ k qs T. one y h B.1 T), a.0, a.1))
 
-  -- in well_formed_lem text it ends where a character does
+  -- in well-formed text it ends where a character does
   pub token_formed : (i j : ℕ) → i < length s → token_end s i ≡ some j → Formed s i (length s) → Formed s j (length s)
   token_formed i j h e F =
       let O = token_on i j h e in

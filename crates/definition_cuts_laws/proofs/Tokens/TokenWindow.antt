@@ -2,7 +2,7 @@
 use mathlib.Core.Path.{◌≡◌, refl, sym, ◌∙◌, ap, subst}
 use mathlib.Core.Bool.{true, false}
 use mathlib.Core.List.{List, [], ◌++◌, map}
-use Prim.Native.Nat.{ℕ, ◌+◌, ◌-◌, ◌≤◌, ◌<◌}
+use Prim.Native.Nat.{ℕ, ◌+◌, ◌≤◌, ◌<◌}
 use native.Mathlib.Omega.{arith}
 use borrow.Author.Tests.{ltb-true, ltb-false, leb-true, leb-false}
 use lib.Dec.{ltb, leb}
@@ -17,7 +17,7 @@ use Rattle.definition_cuts_laws.proofs.Windows.Window.{Window, At, next_like, ch
 use Rattle.definition_cuts_laws.proofs.Windows.WindowEscapes.{not_got, got_later, Edge}
 use Rattle.definition_cuts_laws.proofs.Windows.Closed.{field_closed}
 use Rattle.definition_cuts_laws.proofs.Windows.WindowFields.{bare}
-use Rattle.definition_cuts_laws.proofs.Windows.WindowTexts.{TextLike, onward, opening, over, text_move_like, Again, alike}
+use Rattle.definition_cuts_laws.proofs.Windows.WindowTexts.{TextLike, onward, opening, text_move_like, Again, alike}
 use Rattle.definition_cuts_laws.proofs.Tokens.TokenSteps.{top_told, step, step_goes, step_stops, step_calls, step_ends, step_ahead}
 
 -- a step of one character is a plain one
@@ -101,6 +101,9 @@ module _ (look : Naming) (s s' : List ℕ) (a b low top : ℕ) (W : Window s s' 
       inner k t (goes k' t') x x' (onward u) =
           let z = ends_at k t x in
           (filled 0 t, k', step_goes look s' p' k' t x', omega (arith, u.0, z.0), ap (map bare) (sym z.1))
+      inner k t (stops why) x x' l = elim l [ ]
+      inner k t calls x x' l = elim l [ ]
+      inner k t ends x x' l = elim l [ ]
 
       -- the last character of the window
       at_edge : (k : ℕ) (t : List ℕ) → text_move look 1 s 0 p [] ≡ goes k t → next s p ≡ top → Goal
@@ -138,4 +141,7 @@ module _ (look : Naming) (s s' : List ℕ) (a b low top : ℕ) (W : Window s s' 
         where
           on_calls : (y : Move (List ℕ)) → text_move look 1 s' 0 p' [] ≡ y → TextLike s s' a b low top W calls y → text_move look 1 s' 0 p' [] ≡ calls
           on_calls calls x opening = x
+          on_calls (goes taken _) x l = elim l [ ]
+          on_calls (stops why) x l = elim l [ ]
+          on_calls ends x l = elim l [ ]
       go ends x = not_got (fault 0 p) ps j (sym (step_ends look s p x) ∙ e)

@@ -1,14 +1,15 @@
 -- A field that ends in a window is the same field in both texts, but for places. Assumes nothing.
+use Rattle.std.specs.Prelude.{if◌then◌else◌}
 use mathlib.Core.Path.{◌≡◌, refl, sym, ◌∙◌, ap, ap₂}
 use mathlib.Core.Bool.{Bool, true, false, not}
 use mathlib.Core.List.{List, [], ◌∷◌, ◌++◌, map, map-append}
 use mathlib.Core.Option.{Option, none, some}
-use Prim.Native.Nat.{ℕ, suc, ◌+◌, ◌-◌, ◌<◌}
+use Prim.Native.Nat.{ℕ, suc, ◌+◌, ◌<◌}
 use native.Mathlib.Omega.{arith}
 use borrow.Author.Tests.{lt-leb}
 use lib.Dec.{ltb, eqb}
 use lib.ListN.{length, drop}
-use Rattle.definition.specs.Chars.{if◌then◌else◌, ◌is◌, part, at_end, code, next, char, before}
+use Rattle.definition.specs.Chars.{◌is◌, part, at_end, code, next, char, before}
 use Rattle.definition.specs.Escapes.{Fault, got}
 use Rattle.definition.specs.Body.{Signs, Piece, literal, field, spec, Bracket, Move, goes, stops, calls, ends, Field, state, signs, with_bang, with_close, add, documented, spaced, FieldCase, pair, converts, documents, formats, opener, closes, closer, quote, space, backslash, stray, outside, field_case, case_of, conversion_move, open_move, close_move, quote_move, matching, field_move, direct, conversion_of, field_pieces, self_documenting, finished}
 use Rattle.definition.proofs.Moves.CharLaws.{cases, next_from, next_ascii}

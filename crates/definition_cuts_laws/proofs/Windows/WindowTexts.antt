@@ -3,14 +3,14 @@ use mathlib.Core.Path.{◌≡◌, refl, sym, ◌∙◌, ap, subst}
 use mathlib.Core.Bool.{Bool, true, false}
 use mathlib.Core.List.{List, [], ◌++◌, map}
 use mathlib.Core.Option.{none, some}
-use Prim.Native.Nat.{ℕ, zero, suc, ◌+◌, ◌-◌, ◌≤◌, ◌<◌}
+use Prim.Native.Nat.{ℕ, zero, suc, ◌+◌, ◌≤◌, ◌<◌}
 use native.Mathlib.Omega.{arith}
 use borrow.Author.Tests.{lt-leb, ne_eqb}
 use lib.Dec.{leb}
 use lib.ListN.{length, drop}
 use Rattle.definition.specs.Chars.{◌is◌, code, next, char, before}
 use Rattle.definition.specs.Escapes.{Naming, Fault, Read, got, refused, Meaning, escape_case, octal, escape, meant}
-use Rattle.definition.specs.Body.{Signs, Piece, field, spec, Bracket, Move, goes, stops, calls, ends, with_escape, too_deep, TextCase, deep, opens, last, doubled, lone, text_case, text_move, filled, Field, state, signs, with_colon, with_close, formatted, fresh, outside, field_move, finished, specified, plain_run, first_end, text_n, field_n, spec_n}
+use Rattle.definition.specs.Body.{Signs, Piece, Bracket, Move, goes, stops, calls, ends, with_escape, too_deep, TextCase, deep, opens, last, doubled, lone, text_case, text_move, filled, Field, state, signs, with_colon, with_close, formatted, fresh, outside, field_move, finished, specified, plain_run, first_end, text_n, field_n, spec_n}
 use Rattle.definition.proofs.Moves.CharLaws.{cases, next_past, next_in, next_from, next_ascii}
 use Rattle.definition_laws.proofs.Moves.Adds.{ascii_in}
 use Rattle.definition_laws.proofs.Moves.Cases.{text_told}
@@ -175,9 +175,15 @@ module _ (s s' : List ℕ) (a b low top : ℕ) (W : Window s s' a b low top) whe
         on_goes k t (goes k' t') x x' (onward u) g z =
             rw (text_goes look n kind s' depth p' text ps' k' t x')
             (A.text depth k k' t ps ps' qs j d u g (omega arith) q (sym (text_goes look n kind s depth p text ps k t x) ∙ e) h)
+        on_goes k t (stops why) x x' l g z = elim l [ ]
+        on_goes k t calls x x' l g z = elim l [ ]
+        on_goes k t ends x x' l g z = elim l [ ]
 
         on_calls : (y : Move (List ℕ)) → text_move look kind s' depth p' text ≡ y → TextLike calls y → text_move look kind s' depth p' text ≡ calls
         on_calls calls x opening = x
+        on_calls (goes taken _) x l = elim l [ ]
+        on_calls (stops why) x l = elim l [ ]
+        on_calls ends x l = elim l [ ]
 
         after : (r : Read (List Piece)) → field_n look n kind s depth (next s p) (next s p) fresh ≡ r → text_move look kind s depth p text ≡ calls → p < length s → Goal
         after (got rs k) f x g =
@@ -251,6 +257,9 @@ module _ (s s' : List ℕ) (a b low top : ℕ) (W : Window s s' a b low top) whe
           where
             on_calls : (y : Move Field) → field_move s' p' F' ≡ y → Like s s' a b low top W calls y → field_move s' p' F' ≡ calls
             on_calls calls x calling = x
+            on_calls (goes taken _) x l = elim l [ ]
+            on_calls (stops why) x l = elim l [ ]
+            on_calls ends x l = elim l [ ]
 
             closed : (ps : List Piece) (i : ℕ) (ps' : List Piece) (i' : ℕ) → spec_n look n kind s' depth (next s' p') ≡ got ps' i' → field_move s' p' F' ≡ calls → i + a ≡ i' + b → Same ps ps'
                 → finished depth from (next s i) (formatted (next s p) F) (some ps) ≡ got qs j → low ≤ i → i < top → next s i ≡ j → Goal
@@ -267,6 +276,9 @@ module _ (s s' : List ℕ) (a b low top : ℕ) (W : Window s s' a b low top) whe
             on_goes q f (goes q' f') z z' (on {e = e₁} {x = x₁} {o = o₁} {o' = o₁'} {c = c₁} {d = d₁} {w = w₁} {g = g₁} {g' = g₁'} u t) i r =
                 rw (field_goes look n kind s' depth from' p' F' q' (state e₁ x₁ o₁' c₁ d₁ w₁ g₁') z')
                 (A.field depth from from' q q' e₁ x₁ o₁ o₁' c₁ d₁ w₁ g₁ g₁' qs j u i (omega arith) t (sym (field_goes look n kind s depth from p F q (state e₁ x₁ o₁ c₁ d₁ w₁ g₁) z) ∙ y) h)
+            on_goes q f (stops why) z z' l i r = elim l [ ]
+            on_goes q f calls z z' l i r = elim l [ ]
+            on_goes q f ends z z' l i r = elim l [ ]
         go (stops u) z t r = not_got u qs j (sym (field_stops look n kind s depth from p F u z) ∙ y)
         go calls z u t = after (spec_n look n kind s depth (next s p)) refl z u
         go ends z u (ended q t) =

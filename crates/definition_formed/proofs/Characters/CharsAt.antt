@@ -1,7 +1,7 @@
--- WHERE A CHARACTER BEGINS in well_formed_lem text: the next one begins there too, and so does every ASCII byte; what lies between are whole characters. Assumes nothing.
+-- WHERE A CHARACTER BEGINS in well-formed text: the next one begins there too, and so does every ASCII byte; what lies between are whole characters. Assumes nothing.
 use mathlib.Core.Path.{◌≡◌, refl, sym, ◌∙◌, ap, ap₂}
 use mathlib.Core.List.{List, [], ◌++◌}
-use Prim.Native.Nat.{ℕ, zero, suc, ◌+◌, ◌-◌, ◌≤◌, ◌<◌}
+use Prim.Native.Nat.{ℕ, zero, suc, ◌+◌, ◌≤◌, ◌<◌}
 use native.Mathlib.Nat.{sub_self, add-zero, add-sub_cancel_left}
 use native.Mathlib.Omega.{arith, by_contra}
 use lib.Dec.{ltb, eqb}

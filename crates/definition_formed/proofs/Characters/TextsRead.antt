@@ -1,4 +1,5 @@
 -- THE TEXTS OF A READING are whole characters, where the body is and names have scalars. Assumes nothing.
+use Rattle.std.specs.Prelude.{if◌then◌else◌}
 use mathlib.Core.Path.{◌≡◌, refl, sym, ◌∙◌, ap}
 use mathlib.Core.Bool.{Bool, true, false, ◌&&◌, ◌||◌, not, true≢false}
 use mathlib.Core.List.{List, [], ◌∷◌, ◌++◌}
@@ -11,7 +12,7 @@ use lib.Seq.{take_all}
 use mathlib.Core.Option.{Option, none, some}
 use borrow.Author.Tests.{leb-true, leb-false, ltb-true, ltb-false, eqb-true, eqb-false, lt-ltb}
 use Rattle.definition.specs.Numbers.{is_bytes, is_fstring}
-use Rattle.definition.specs.Chars.{if◌then◌else◌, ◌is◌, byte, part, no_code, at_end, inside, ◌to◌, code, next, char, before, utf8}
+use Rattle.definition.specs.Chars.{◌is◌, byte, part, no_code, at_end, inside, ◌to◌, code, next, char, before, utf8}
 use Rattle.definition.specs.Escapes.{Naming, Read, got, refused, Meaning, stands, stays, vanishes, octal_digit, octal_from, hex_digit, scalar, hex_from, named, unicode_name, EscapeCase, ended, simple, octal, hex, name, newline, foreign, other, escape_case, escape, encode, meant}
 use Rattle.definition.specs.Body.{Piece, literal, field, spec, Move, goes, stops, calls, ends, with_escape, StringCase, string_case, string_move, string_n, TextCase, text_case, text_move, filled, Signs, Field, state, with_close, fresh, is_blank, add, documented, spaced, formatted, FieldCase, outside, field_case, case_of, conversion_move, open_move, matching, close_move, quote_move, field_move, conversion_of, field_pieces, self_documenting, finished, specified, plain_run, first_end, text_n, field_n, spec_n, enough, alone, read_body}
 use Rattle.definition.proofs.Moves.CharLaws.{cases, either, next_from, inside_true, inside_yes, next_ascii, first_passes}

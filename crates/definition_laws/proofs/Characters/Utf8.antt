@@ -1,6 +1,7 @@
 -- UTF-8: the characters that table 3-7 has are the bytes that table 3-6 gives to the scalar values, and each decodes to its own. Assumes nothing.
+use Rattle.std.specs.Prelude.{if◌then◌else◌}
 use mathlib.Core.Path.{◌≡◌, refl, sym, ◌∙◌, ap, ap₂}
-use mathlib.Core.Bool.{Bool, true, false, ◌&&◌}
+use mathlib.Core.Bool.{◌&&◌}
 use mathlib.Core.List.{List, [], ◌∷◌, ◌++◌}
 use mathlib.Core.Option.{Option, none, some}
 use Prim.Native.Nat.{ℕ, zero, suc, ◌+◌, ◌-◌, ◌*◌, ◌/◌, ◌%◌, ◌≤◌, ◌<◌, max}
@@ -11,7 +12,7 @@ use borrow.Author.Tests.{ltb-true, ltb-false, lt-ltb, le-ltb, lt-leb}
 use lib.Dec.{ltb, lit≤}
 use lib.ListN.{length, take, drop, length-drop}
 use lib.Seq.{drop-cons, get_or-drop}
-use Rattle.definition.specs.Chars.{if◌then◌else◌, byte, Range, inside, ◌to◌, table37, following, follow, width, decoded, code, next, char, utf8}
+use Rattle.definition.specs.Chars.{byte, Range, inside, ◌to◌, table37, following, follow, width, decoded, code, next, char, utf8}
 use Rattle.definition.proofs.Moves.CharLaws.{inside_not, inside_yes, cases, by_row, width_ascii, width_end, width_in}
 
 -- A SCALAR VALUE (the Unicode Standard, D76): any code up to 10FFFF but the surrogates

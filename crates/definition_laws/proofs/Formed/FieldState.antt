@@ -1,14 +1,15 @@
 -- A field's state over its moves: its conversion is none, s, a or r, and its expression is matched and not blank. Assumes nothing.
+use Rattle.std.specs.Prelude.{if◌then◌else◌}
 use mathlib.Core.Path.{◌≡◌, refl}
 use mathlib.Core.Bool.{Bool, true, false, ◌&&◌, not, and-false}
 use mathlib.Core.List.{List, [], ◌∷◌, ◌++◌, map}
 use mathlib.Core.Option.{Option, none, some}
-use Prim.Native.Nat.{ℕ, ◌+◌}
+use Prim.Native.Nat.{ℕ}
 use lib.Dec.{ltb, eqb}
 use lib.ListN.{length}
 use borrow.Author.Tests.{leb-false, not-false}
 use Rattle.definition.specs.Numbers.{is_fstring}
-use Rattle.definition.specs.Chars.{if◌then◌else◌, ◌is◌, at_end, code, next, char}
+use Rattle.definition.specs.Chars.{◌is◌, at_end, code, next, char}
 use Rattle.definition.specs.Escapes.{Naming}
 use Rattle.definition.specs.Body.{Signs, Piece, Bracket, Move, goes, Field, state, fresh, add, documented, spaced, FieldCase, pair, converts, documents, formats, opener, closes, closer, quote, space, backslash, stray, field_case, outside, case_of, conversion_move, open_move, matching, close_move, quote_move, field_move, conversion_of, read_body}
 use Rattle.definition.specs.Matched.{matched, blank}
@@ -47,7 +48,7 @@ either : {Inv : Field → Type 0} {C : Type 0} (t : Bool) {m m' : Move Field} �
 either true p q = p refl
 either false p q = q refl
 
--- THE MOVES of a field of well_formed_lem text; C is what holds where its expression ends
+-- THE MOVES of a field of well-formed text; C is what holds where its expression ends
 module _ (s : List ℕ) (utf8 : Utf8 s) (i : ℕ) {C : Type 0} where
   conversion_moves : (f : Field) → Keeps f → Moved Keeps C (conversion_move s i f)
   unfolding conversion_move
@@ -106,7 +107,7 @@ module _ (s : List ℕ) (utf8 : Utf8 s) (i : ℕ) {C : Type 0} where
       go stray q = rw (q, field_move) stopped
       go FieldCase.plain q = let t = tells FieldCase.plain q in rw (q, field_move) (add_moves f _ _ _ h (adds_char s i t.0 utf8 t.1))
 
--- EVERY FIELD of a well_formed_lem body has that, and lies at most two deep
+-- EVERY FIELD of a well-formed body has that, and lies at most two deep
 pub body_had : (look : Naming) → (kind : ℕ) (s : List ℕ) → Utf8 s → is_fstring kind ≡ true → TreeRead Had 0 (read_body look kind s)
 unfolding fresh
 body_had look kind s utf8 = body_tree look kind s Keeps Had (refl, adds_none) step

@@ -1,4 +1,5 @@
 -- The pieces of a text are a tree laid flat: texts and fields at its depth, a field's spec and the spec's parts one deeper. Assumes nothing.
+use Rattle.std.specs.Prelude.{if◌then◌else◌}
 use mathlib.Core.Path.{◌≡◌, refl, sym, ◌∙◌, ap, ap₂}
 use mathlib.Core.Bool.{Bool, true, false}
 use mathlib.Core.List.{List, [], ◌∷◌, ◌++◌}
@@ -9,7 +10,7 @@ use lib.Dec.{leb}
 use lib.ListN.{replicate}
 use borrow.Author.Tests.{leb-false, eq-eqb, ne_eqb}
 use Rattle.definition.specs.Numbers.{is_fstring, expression_nested_too_deeply, empty_expression}
-use Rattle.definition.specs.Chars.{if◌then◌else◌, ◌is◌, part, at_end, code, next}
+use Rattle.definition.specs.Chars.{◌is◌, part, at_end, code, next}
 use Rattle.definition.specs.Escapes.{Naming, Fault, fault, Read, got, refused}
 use Rattle.definition.specs.Body.{Signs, Piece, literal, field, spec, Move, goes, stops, calls, ends, too_deep, deep, text_case, text_move, filled, Field, state, with_close, formatted, fresh, field_move, direct, conversion_of, field_pieces, self_documenting, finished, specified, first_end, text_n, field_n, spec_n, enough, read_body}
 use Rattle.definition_laws.proofs.Moves.Steps.{text_goes, text_stops, text_ends, text_got, text_refused, field_goes, field_stops, field_ends, field_got, field_refused, first_piece, spec_calls, spec_ends}

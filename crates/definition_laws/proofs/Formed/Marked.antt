@@ -1,4 +1,5 @@
 -- THE WHOLE OF AN ANSWER by the numbers that were lent: its u mark by the first kind, and its range. Assumes nothing.
+use Rattle.std.specs.Prelude.{if◌then◌else◌}
 use mathlib.Core.Path.{◌≡◌, refl, ◌∙◌, ap}
 use mathlib.Core.Bool.{true}
 use mathlib.Core.List.{List, [], ◌∷◌}
@@ -7,7 +8,6 @@ use Prim.Native.Nat.{ℕ, suc, ◌-◌, ◌≤◌}
 use native.Mathlib.Omega.{arith}
 use lib.Dec.{eqb}
 use lib.ListN.{length}
-use Rattle.definition.specs.Chars.{if◌then◌else◌}
 use Rattle.definition.specs.Escapes.{Naming}
 use Rattle.definition.specs.Records.{Answer, answer_of}
 use Rattle.definition.specs.Entry.{Literal, one_more, sixes, first_start, not_empty, first_of, entry}

@@ -1,4 +1,5 @@
 -- Without an f-string there is exactly one record, which carries the whole range and u mark. Assumes nothing.
+use Rattle.std.specs.Prelude.{if◌then◌else◌}
 use mathlib.Core.Path.{◌≡◌, refl, sym, ◌∙◌, ap, ap₂}
 use mathlib.Core.Bool.{Bool, true, false, ◌&&◌, ◌||◌, not, true≢false}
 use mathlib.Core.List.{List, [], ◌∷◌, ◌++◌, map, append-nil}
@@ -7,7 +8,6 @@ use Prim.Native.Nat.{ℕ, suc}
 use native.Mathlib.Omega.{arith}
 use lib.ListN.{length}
 use Rattle.definition.specs.Numbers.{is_fstring, is_bytes, mixed_bytes}
-use Rattle.definition.specs.Chars.{if◌then◌else◌}
 use Rattle.definition.specs.Body.{Piece, literal, read_body}
 use Rattle.definition.specs.Escapes.{Naming, Read, got, refused}
 use Rattle.definition.specs.Records.{Role, top, raw, touching, covers, Item, item, item_of, words_of, glue, merge, both_items, merged, texts, record_at, laid, cover, Answer, answer_of}

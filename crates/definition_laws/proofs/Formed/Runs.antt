@@ -1,4 +1,5 @@
 -- The items of an accepted list keep order and ranges (RULES 5.3, 5.5): a field, its spec, the spec's parts; each field has what it must. Merging keeps that. Assumes nothing.
+use Rattle.std.specs.Prelude.{if◌then◌else◌}
 use mathlib.Core.Path.{◌≡◌, refl}
 use mathlib.Core.Bool.{Bool, true, false, ◌&&◌, ◌||◌, not, or-true, false≢true}
 use mathlib.Core.List.{List, [], ◌∷◌, ◌++◌, map}
@@ -8,7 +9,6 @@ use lib.Dec.{leb, eqb}
 use lib.ListN.{length}
 use borrow.Author.Tests.{eq-eqb, ne_eqb}
 use Rattle.definition.specs.Numbers.{is_bytes}
-use Rattle.definition.specs.Chars.{if◌then◌else◌}
 use Rattle.definition.specs.Body.{Signs, Piece, literal, field, spec}
 use Rattle.definition.specs.Records.{Role, top, raw, inner, touching, Item, item, item_of, glue, merge, both_items, merged}
 use Rattle.definition.specs.Words.{owing, role_at, is_conversion, fits, has_spec, within}

@@ -1,4 +1,5 @@
 -- An accepted answer is well formed, and it is what its numbers, words and text say. Assumes nothing.
+use Rattle.std.specs.Prelude.{if◌then◌else◌}
 use mathlib.Core.Path.{◌≡◌, refl, sym, ◌∙◌, ap, ap₂}
 use mathlib.Core.Bool.{Bool, true, false, ◌&&◌, ◌||◌, not, beq}
 use mathlib.Core.List.{List, [], ◌∷◌, ◌++◌, map, append_assoc}
@@ -10,7 +11,7 @@ use lib.ListN.{length, length-append}
 use lib.Seq.{take-append_seam, drop-append_seam}
 use borrow.Author.Tests.{eqb-true, eq-eqb, le-leb}
 use Rattle.definition.specs.Numbers.{is_fstring, is_bytes, is_unicode}
-use Rattle.definition.specs.Chars.{if◌then◌else◌, part}
+use Rattle.definition.specs.Chars.{part}
 use Rattle.definition.specs.Escapes.{Naming}
 use Rattle.definition.specs.Body.{Piece, literal, field, spec}
 use Rattle.definition.specs.Records.{Role, top, raw, inner, touching, covers, Item, item, item_of, Record, words_of, glue, merge, both_items, merged, texts, record_at, laid, cover, Sort, plain, joined, bytes_only, Answer, answer_of}

@@ -1,11 +1,11 @@
 -- The join is associative, for all answers. Assumes nothing.
+use Rattle.std.specs.Prelude.{if◌then◌else◌}
 use mathlib.Core.Path.{◌≡◌, refl, sym, ◌∙◌, ap, ap₂}
 use mathlib.Core.Bool.{Bool, true, false}
 use mathlib.Core.List.{List, [], ◌∷◌, ◌++◌, map, append_assoc}
 use Prim.Native.Nat.{ℕ, ◌+◌}
 use native.Mathlib.Nat.{add_assoc}
 use lib.ListN.{length, length-append}
-use Rattle.definition.specs.Chars.{if◌then◌else◌}
 use Rattle.definition.specs.Records.{Role, covers, Record, cover, Sort, plain, joined, bytes_only, Answer}
 use Rattle.definition.specs.Join.{both_records, raise, seamed, join_sort, join}
 use Rattle.definition_laws.proofs.Join.Seam.{seam_assoc, map_seam}

@@ -1,4 +1,5 @@
 -- A list that passes the entry checks passes them in two non-empty parts. Assumes nothing.
+use Rattle.std.specs.Prelude.{if◌then◌else◌}
 use mathlib.Core.Path.{◌≡◌, refl, sym, ◌∙◌, ap, ap₂}
 use mathlib.Core.Bool.{Bool, true, false, ◌&&◌, ◌||◌, not, true≢false, false≢true}
 use mathlib.Core.List.{List, [], ◌∷◌, ◌++◌}
@@ -10,7 +11,6 @@ use lib.Dec.{ltb}
 use lib.ListN.{length, length-append}
 use borrow.Author.Tests.{ltb-false, le-ltb}
 use Rattle.definition.specs.Numbers.{is_bytes, is_fstring, bad_descriptor, not_utf8}
-use Rattle.definition.specs.Chars.{if◌then◌else◌}
 use Rattle.definition.specs.Records.{plain, joined, bytes_only}
 use Rattle.definition.specs.Entry.{Literal, Refusal, refusal, not_empty, not_many, first_bad, bad, place_of, body, all_good, total, not_long, formed, ill_formed, all_utf8, any_of, first_start, not_mixed, first_of, entry}
 use Rattle.definition.specs.Reading.{sort_of}

@@ -11,7 +11,7 @@ use Rattle.definition.specs.Escapes.{Naming, Read, got, refused}
 use Rattle.definition.specs.Body.{Piece, read_body}
 use Rattle.definition.specs.Records.{Item, Answer, answer_of}
 use Rattle.definition.specs.Entry.{Literal, one_more, sixes, body, moved, first_start, entry}
-use Rattle.definition.specs.Reading.{Outcome, accepts, refuses, all_chars, refusal_in, read_literal, and_then, read_from, sort_of, u_mark, last_end, answered, read, outcome_of, short_of, room_for, roomed, called, read_into, read_numbers, numbers_by}
+use Rattle.definition.specs.Reading.{Outcome, accepts, refuses, all_chars, refusal_in, read_literal, and_then, read_from, sort_of, u_mark, last_end, answered, read, outcome_of, room_for, roomed, called, read_into, read_numbers, numbers_by}
 use Rattle.definition.specs.Join.{shifted, join_outcomes, Enough}
 use Rattle.definition_laws.proofs.Join.Laid.{answer_append}
 use Rattle.definition_laws.proofs.Outcomes.Placed.{Standing, from_stands, number_in}

@@ -1,4 +1,5 @@
 -- What a text adds to an expression: which brackets are open then, and whether it is blank. Assumes nothing.
+use Rattle.std.specs.Prelude.{if◌then◌else◌}
 use Prim.Native.Nat.{ℕ, zero, suc, ◌+◌, ◌-◌, ◌≤◌, ◌<◌}
 use Prim.Native.Char.{code as code_of}
 use Prim.Native.String.{String, [] as []ˢ, ◌∷◌ as ◌∷ˢ◌}
@@ -10,7 +11,7 @@ use borrow.Author.Tests.{ltb-true, ltb-false, eqb-true, eqb-false, ne_eqb}
 use lib.Dec.{ltb, eqb}
 use lib.ListN.{length, take, drop, length-drop, length-append, get_or-append}
 use lib.Seq.{drop-cons, length-take-le, get_or-take, get_or-drop, drop-append_seam, take-add, drop-drop}
-use Rattle.definition.specs.Chars.{if◌then◌else◌, ◌is◌, byte, part, inside_any, code, next, char, white_space, before}
+use Rattle.definition.specs.Chars.{◌is◌, byte, part, inside_any, code, next, char, white_space, before}
 use Rattle.definition.specs.Body.{is_blank, matching}
 use Rattle.definition.specs.Matched.{Seen, clear, quoted, broken, closed, see, see_all, settled, matched, blank_after, blank}
 use Rattle.definition_laws.specs.IsMatched.{Calm}
@@ -102,7 +103,7 @@ mark_pair {o} c =
     one_of_lem (Mark o o) "!=><" c
     (mark 33 (omega arith) refl refl, (mark 61 (omega arith) refl refl, (mark 62 (omega arith) refl refl, (mark 60 (omega arith) refl refl, tt))))
 
--- A CHARACTER of well_formed_lem text that is no mark
+-- A CHARACTER of well-formed text that is no mark
 skip : (n : ℕ) (t : List ℕ) → blank_after n t ≡ blank (drop n t)
 unfolding blank_after
 skip zero t = refl

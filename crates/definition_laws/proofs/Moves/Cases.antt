@@ -1,4 +1,5 @@
 -- What the case of a character in a field, or in f-string text, tells of it. Assumes nothing.
+use Rattle.std.specs.Prelude.{if◌then◌else◌}
 use mathlib.Core.Path.{◌≡◌, refl, subst}
 use mathlib.Core.Bool.{Bool, true, false, ◌&&◌, not, false≢true}
 use mathlib.Core.List.{List}
@@ -8,7 +9,7 @@ use lib.Dec.{leb, eqb}
 use lib.ListN.{length}
 use borrow.Author.Tests.{leb-true, leb-false, eqb-true}
 use Rattle.definition.specs.Numbers.{is_raw}
-use Rattle.definition.specs.Chars.{if◌then◌else◌, ◌is◌, at_end, code, next}
+use Rattle.definition.specs.Chars.{◌is◌, at_end, code, next}
 use Rattle.definition.specs.Body.{FieldCase, pair, converts, documents, formats, opener, closes, closer, quote, space, backslash, stray, field_case, too_deep, TextCase, deep, opens, last, doubled, lone, text_case}
 use Rattle.definition_laws.specs.IsMatched.{Calm}
 

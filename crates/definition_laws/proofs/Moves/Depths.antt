@@ -1,13 +1,14 @@
 -- The pieces of a text stand at its depth or deeper, so a spec's parts are counted apart from what they hold. Assumes nothing.
+use Rattle.std.specs.Prelude.{if◌then◌else◌}
 use mathlib.Core.Path.{◌≡◌, refl}
 use mathlib.Core.Bool.{Bool, true, false}
 use mathlib.Core.List.{List, [], ◌∷◌, ◌++◌}
 use mathlib.Core.Option.{none, some}
-use Prim.Native.Nat.{ℕ, zero, suc, ◌+◌, ◌≤◌}
+use Prim.Native.Nat.{ℕ, zero, suc, ◌≤◌}
 use native.Mathlib.Omega.{arith}
 use borrow.Author.Tests.{ne_eqb}
 use Rattle.definition.specs.Numbers.{empty_expression}
-use Rattle.definition.specs.Chars.{if◌then◌else◌, ◌is◌, at_end, code, next}
+use Rattle.definition.specs.Chars.{◌is◌, at_end, code, next}
 use Rattle.definition.specs.Escapes.{Naming, fault, Read, got, refused}
 use Rattle.definition.specs.Body.{Piece, literal, field, spec, Move, goes, stops, calls, ends, filled, Field, state, with_close, formatted, fresh, text_move, field_move, direct, conversion_of, field_pieces, self_documenting, finished, specified, first_end, text_n, field_n, spec_n}
 use Rattle.definition_laws.proofs.Moves.Steps.{text_goes, text_stops, text_ends, text_got, text_refused, field_goes, field_stops, field_ends, field_got, field_refused, first_piece, spec_calls, spec_ends}

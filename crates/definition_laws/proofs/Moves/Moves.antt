@@ -1,4 +1,5 @@
 -- Each move goes ahead and stays in the body, and each refusal has a number of 10 to 28 and that number's details. Assumes nothing.
+use Rattle.std.specs.Prelude.{if◌then◌else◌}
 use mathlib.Core.Path.{◌≡◌, refl}
 use mathlib.Core.Bool.{Bool, true, false, ◌&&◌, not, false≢true}
 use mathlib.Core.List.{List, [], ◌∷◌, ◌++◌}
@@ -9,7 +10,7 @@ use lib.Dec.{T, ltb, leb, eqb}
 use lib.ListN.{length, drop, length-append, length-take, length-replicate}
 use borrow.Author.Tests.{leb-true, leb-false}
 use Rattle.definition.specs.Numbers.{is_bytes, is_raw, of_body, detailed, unicode_error, name_not_held, string_error, empty_expression, too_many_brackets, mismatched_delimiter, unterminated_string}
-use Rattle.definition.specs.Chars.{if◌then◌else◌, ◌is◌, part, no_code, at_end, inside, ◌to◌, code, next, char, utf8, before}
+use Rattle.definition.specs.Chars.{◌is◌, part, no_code, at_end, inside, ◌to◌, code, next, char, utf8, before}
 use Rattle.definition.specs.Escapes.{Naming, Fault, fault, Read, got, refused, Meaning, stands, stays, vanishes, octal_digit, octal_from, hex_digit, scalar, hex_from, named, unicode_name, EscapeCase, ended, simple, octal, hex, name, newline, foreign, other, escape_case, escape, encode, meant}
 use Rattle.definition.specs.Body.{Signs, Piece, literal, field, spec, Bracket, wrong, Move, goes, stops, calls, ends, with_escape, StringCase, string_case, string_move, TextCase, deep, opens, last, doubled, lone, text_case, text_move, Field, state, with_equals, with_close, is_blank, add, documented, formatted, spaced, FieldCase, pair, converts, documents, formats, opener, closes, closer, quote, space, backslash, stray, outside, field_case, case_of, conversion_move, open_move, matching, close_move, quote_move, field_move, filled, finished, specified, self_documenting, field_pieces, conversion_of}
 use Rattle.definition.proofs.Moves.CharLaws.{next_past, next_in, next_from}

@@ -1,13 +1,13 @@
 -- Room known beforehand: what an accepted list needs at most, and that a call with so much room is never refused for room. Assumes nothing.
+use Rattle.std.specs.Prelude.{if◌then◌else◌}
 use mathlib.Core.Path.{◌≡◌, refl, ap}
 use mathlib.Core.Bool.{Bool, true, false}
 use mathlib.Core.List.{List, [], ◌∷◌, ◌++◌, map}
 use mathlib.Core.Option.{Option, none, some}
-use Prim.Native.Nat.{ℕ, zero, suc, ◌+◌, ◌*◌, ◌≤◌, ◌<◌}
+use Prim.Native.Nat.{ℕ, zero, suc, ◌+◌, ◌*◌, ◌≤◌}
 use native.Mathlib.Omega.{arith}
 use lib.ListN.{length, length-append, length-map}
-use Rattle.definition.specs.Numbers.{is_bytes, not_sixes, too_few_record_places}
-use Rattle.definition.specs.Chars.{if◌then◌else◌}
+use Rattle.definition.specs.Numbers.{is_bytes}
 use Rattle.definition.specs.Escapes.{Naming, Read, got, refused}
 use Rattle.definition.specs.Body.{Piece, literal, field, spec, read_body}
 use Rattle.definition.specs.Records.{touching, Item, raw, top, item, item_of, glue, merge, both_items, merged, texts, cover, Answer, answer_of}

@@ -1,4 +1,5 @@
 -- What holds of every outcome: a refusal's number and details, and an acceptance's offsets, counts and lengths. Assumes nothing.
+use Rattle.std.specs.Prelude.{if◌then◌else◌}
 use mathlib.Core.Path.{◌≡◌, refl}
 use mathlib.Core.Bool.{Bool, true, false, ◌&&◌, not}
 use mathlib.Core.List.{List, [], ◌∷◌, map}
@@ -8,7 +9,6 @@ use native.Mathlib.Omega.{arith}
 use lib.Dec.{T, ltb, leb}
 use lib.ListN.{length, length-append}
 use Rattle.definition.specs.Numbers.{is_bytes, empty_list, refusals, ◌among◌, of_entry, too_many_literals, bad_descriptor, bodies_too_long, not_utf8, mixed_bytes, detailed}
-use Rattle.definition.specs.Chars.{if◌then◌else◌}
 use Rattle.definition.specs.Escapes.{Naming, Read, got, refused}
 use Rattle.definition.specs.Body.{Piece, read_body}
 use Rattle.definition.specs.Records.{Item, Record, words_of, merged, texts, record_at, laid, cover, Answer, answer_of}

@@ -1,5 +1,6 @@
 -- Where a refusal stands: in the body of the literal that it names, with the line and column of its place there and the place of 23's bracket, or
 -- in none; and how many characters were read. Assumes nothing.
+use Rattle.std.specs.Prelude.{if◌then◌else◌}
 use mathlib.Core.Path.{◌≡◌, refl, sym, ◌∙◌, ap}
 use mathlib.Core.Bool.{Bool, true, false, ◌&&◌}
 use mathlib.Core.List.{List, [], ◌∷◌}
@@ -12,7 +13,6 @@ use lib.Dec.{T, ltb, leb, eqb, leb→le}
 use lib.ListN.{length, take}
 use borrow.Author.Tests.{lt-leb}
 use Rattle.definition.specs.Numbers.{mismatched_delimiter, refusals, ◌among◌, of_entry, of_body, too_few_record_places, detailed}
-use Rattle.definition.specs.Chars.{if◌then◌else◌}
 use Rattle.definition.specs.Counts.{counted}
 use Rattle.definition.specs.Escapes.{Naming, Fault, Read, got, refused}
 use Rattle.definition.specs.Body.{Piece, read_body}

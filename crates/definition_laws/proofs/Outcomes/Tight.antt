@@ -1,14 +1,15 @@
 -- What one body gives: a record at most for each byte taken (one for a plain literal), and two text bytes at most for each. Assumes nothing.
+use Rattle.std.specs.Prelude.{if◌then◌else◌}
 use mathlib.Core.Path.{◌≡◌, refl}
 use mathlib.Core.Bool.{Bool, true, false}
 use mathlib.Core.List.{List, [], ◌∷◌, ◌++◌}
 use mathlib.Core.Option.{Option, none, some}
-use Prim.Native.Nat.{ℕ, zero, suc, ◌+◌, ◌-◌, ◌*◌, ◌≤◌, ◌<◌}
+use Prim.Native.Nat.{ℕ, zero, suc, ◌+◌, ◌*◌, ◌≤◌, ◌<◌}
 use native.Mathlib.Omega.{arith}
 use borrow.Author.Tests.{leb-false}
 use lib.ListN.{length, length-append, length-replicate}
 use Rattle.definition.specs.Numbers.{is_fstring}
-use Rattle.definition.specs.Chars.{if◌then◌else◌, ◌is◌, part, at_end, code, next}
+use Rattle.definition.specs.Chars.{◌is◌, part, at_end, code, next}
 use Rattle.definition.specs.Escapes.{Naming, Read, got, refused}
 use Rattle.definition.specs.Body.{Piece, literal, field, spec, Move, goes, stops, calls, ends, string_move, string_n, filled, Field, state, with_close, formatted, fresh, text_move, field_move, conversion_of, field_pieces, self_documenting, finished, specified, first_end, text_n, field_n, spec_n, enough, alone, read_body}
 use Rattle.definition.proofs.Moves.CharLaws.{next_past, next_in}

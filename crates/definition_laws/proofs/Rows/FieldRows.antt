@@ -1,4 +1,5 @@
 -- THE ROWS OF AN ACCEPTED LIST ARE ITS FIELDS, in record order. Assumes nothing.
+use Rattle.std.specs.Prelude.{if◌then◌else◌}
 use mathlib.Core.Path.{◌≡◌, refl, sym, ◌∙◌, ap, ap₂}
 use mathlib.Core.Bool.{Bool, true, false}
 use mathlib.Core.List.{List, [], ◌∷◌, ◌++◌, map}
@@ -9,7 +10,6 @@ use borrow.Author.Tests.{ne_eqb}
 use lib.Dec.{eqb}
 use lib.ListN.{length}
 use Rattle.definition.specs.Numbers.{is_fstring, is_bytes}
-use Rattle.definition.specs.Chars.{if◌then◌else◌}
 use Rattle.definition.specs.Escapes.{Naming, Read, got, refused}
 use Rattle.definition.specs.Body.{Piece, literal, field, spec, string_n, enough, alone, read_body}
 use Rattle.definition.specs.Records.{Role, top, raw, inner, touching, covers, Item, item, item_of, glue, merge, both_items, merged, record_at, laid, cover, Answer, answer_of}

@@ -1,5 +1,6 @@
 -- A FIELD'S SIGNS: each place is just after its `=`, `!`, `:` or `}`, past the field's beginning and in the body; exactly one reason fits, and the
 -- conversion is what it says. Assumes nothing.
+use Rattle.std.specs.Prelude.{if◌then◌else◌}
 use mathlib.Core.Path.{◌≡◌, refl, sym, ◌∙◌, subst}
 use mathlib.Core.Bool.{Bool, true, false, not}
 use mathlib.Core.List.{List, [], ◌∷◌, ◌++◌}
@@ -11,7 +12,7 @@ use lib.Dec.{ltb, eqb}
 use lib.ListN.{length, drop, length-drop}
 use lib.Seq.{get_or-drop}
 use Rattle.definition.specs.Numbers.{is_fstring, empty_expression}
-use Rattle.definition.specs.Chars.{if◌then◌else◌, ◌is◌, byte, part, at_end, code, next, char, before}
+use Rattle.definition.specs.Chars.{◌is◌, byte, part, at_end, code, next, char, before}
 use Rattle.definition.specs.Escapes.{Naming, Fault, fault, Read, got, refused, Meaning, escape}
 use Rattle.definition.specs.Body.{Signs, Piece, literal, field, spec, Move, goes, stops, calls, ends, with_escape, TextCase, deep, opens, last, doubled, lone, text_case, text_move, filled, Field, state, with_equals, with_bang, with_colon, with_close, fresh, add, documented, spaced, formatted, FieldCase, pair, converts, documents, formats, opener, closes, closer, quote, space, backslash, stray, outside, field_case, case_of, conversion_move, open_move, matching, close_move, quote_move, field_move, conversion_of, field_pieces, self_documenting, finished, specified, plain_run, first_end, text_n, field_n, spec_n, string_n, enough, alone, read_body}
 use Rattle.definition.specs.Rows.{reason, sign_at, signs_at}

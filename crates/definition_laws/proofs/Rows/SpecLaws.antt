@@ -1,4 +1,5 @@
 -- A FIELD'S SPEC IN A BODY: it has a `:` exactly if it has a spec, and the spec's pieces are what is written between that `:` and its `}`. Assumes nothing.
+use Rattle.std.specs.Prelude.{if◌then◌else◌}
 use mathlib.Core.Path.{◌≡◌, refl, sym, subst, ◌∙◌}
 use mathlib.Core.Bool.{Bool, true, false, or-true}
 use mathlib.Core.List.{List, [], ◌∷◌, ◌++◌, append-nil}
@@ -10,7 +11,7 @@ use lib.Dec.{leb, eqb}
 use lib.ListN.{length, take, drop, length-take, length-drop}
 use lib.Seq.{get_or-drop, get_or-take}
 use Rattle.definition.specs.Numbers.{is_fstring, empty_expression}
-use Rattle.definition.specs.Chars.{if◌then◌else◌, ◌is◌, byte, part, at_end, code, next, before}
+use Rattle.definition.specs.Chars.{◌is◌, byte, part, at_end, code, next, before}
 use Rattle.definition.specs.Escapes.{Naming, fault, Read, got, refused}
 use Rattle.definition.specs.Body.{Signs, Piece, literal, field, spec, Move, goes, stops, calls, ends, too_deep, text_case, text_move, filled, Field, state, with_colon, with_close, formatted, fresh, field_move, direct, conversion_of, field_pieces, self_documenting, finished, specified, plain_run, first_end, text_n, field_n, spec_n, string_n, enough, alone, read_body}
 use Rattle.definition.specs.Rows.{FieldSpec, absent, verbatim, nested, braced, written_spec}

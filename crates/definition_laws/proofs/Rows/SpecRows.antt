@@ -1,4 +1,5 @@
 -- THE SPECS OF AN ACCEPTED LIST: as its rows are written in the script and as its records have them, they are the same. Assumes nothing.
+use Rattle.std.specs.Prelude.{if◌then◌else◌}
 use mathlib.Core.Path.{◌≡◌, refl, sym, ◌∙◌, ap, ap₂}
 use mathlib.Core.Bool.{Bool, true, false}
 use mathlib.Core.List.{List, [], ◌∷◌, ◌++◌, map, append_assoc}
@@ -10,7 +11,7 @@ use lib.Dec.{eqb}
 use lib.ListN.{length, take, drop, length-append}
 use lib.Seq.{take-take, drop-drop, take-append_seam, drop-append_seam}
 use Rattle.definition.specs.Numbers.{is_bytes}
-use Rattle.definition.specs.Chars.{if◌then◌else◌, part}
+use Rattle.definition.specs.Chars.{part}
 use Rattle.definition.specs.Escapes.{Naming, Read, got, refused}
 use Rattle.definition.specs.Body.{Signs, Piece, literal, field, spec, read_body}
 use Rattle.definition.specs.Records.{Role, top, raw, inner, touching, Item, Record, item, item_of, glue, merge, both_items, merged, texts, record_at, laid, cover, Answer, answer_of}
@@ -116,9 +117,12 @@ module _ (S E u : ℕ) where
   unfolding record_specs laid record_at cover texts
   say_laid before nothing = refl
   say_laid before {xs = x ∷ xs} (other e h) =
-      rw (e, ← append_assoc before x.text (texts xs), ← length-append before x.text) (say_laid (before ++ x.text) h)
+      let k = say_laid (before ++ x.text) h in
+      rw e (rw (append_assoc before x.text (texts xs), length-append before x.text) at k)
   say_laid before {xs = x ∷ xs} (one e r s h) =
-      rw (e, ← append_assoc before x.text (texts xs), ← length-append before x.text) (ap₂ ◌∷◌ (items_laid (before ++ x.text) s) (say_laid (before ++ x.text) h))
+      let j = items_laid (before ++ x.text) s in
+      let k = say_laid (before ++ x.text) h in
+      rw e (ap₂ ◌∷◌ (rw (append_assoc before x.text (texts xs), length-append before x.text) at j) (rw (append_assoc before x.text (texts xs), length-append before x.text) at k))
 
 -- A PART OF A BODY is the script's
 take_drop : (i k : ℕ) (l : List ℕ) → drop i (take (i + k) l) ≡ take k (drop i l)

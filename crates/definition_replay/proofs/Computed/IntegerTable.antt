@@ -1,11 +1,12 @@
 -- Integers by a table, computed: what Python 3.11's own format() writes for a specification and a number (0 first), or 68 or 69 as is decided.
 -- Assumes nothing.
+use Rattle.std.specs.Prelude.{if◌then◌else◌}
 use Prim.Native.Nat.{ℕ}
 use mathlib.Core.Path.{◌≡◌, refl}
 use mathlib.Core.Bool.{true, false}
 use mathlib.Core.List.{List, [], ◌∷◌, map}
 use mathlib.Core.Option.{none, some}
-use Rattle.definition.specs.Chars.{if◌then◌else◌, ascii, same, table37, following, follow, width, next}
+use Rattle.definition.specs.Chars.{ascii, same, table37, following, follow, width, next}
 use Rattle.definition_replay.specs.Spec.{first, past, front, behind, pointed, past_pointed, fill_size, nothing, parts_of, spec_of, rounds}
 use Rattle.definition_replay.specs.Integers.{Integer, decimal_from, digits_n, digits, base_of, outside_of, form_in, form_of, figure, sign_of, prefix_of, head_of, grouped, group_size, figures, zero_pads, zeroed, least_of, numeral_of, copies, pad_of, left_of, inner_of, written}
 

@@ -8,13 +8,13 @@ use native.Mathlib.Omega.{arith}
 use lib.Dec.{ltb, eqb}
 use lib.ListN.{length, get_or, replicate, length-append, length-reverse}
 use borrow.Author.Tests.{ltb-true, ltb-false, eqb-true, eq-eqb, ne_eqb}
-use Rattle.definition.specs.Chars.{if◌then◌else◌, ◌is◌, ◌to◌}
+use Rattle.definition.specs.Chars.{◌is◌}
 use Rattle.definition.specs.Escapes.{hex_digit}
 use Rattle.definition_replay.specs.Spec.{groupings}
 use Rattle.definition_replay.specs.IsSpec.{optional}
 use Rattle.definition_replay.specs.Integers.{Integer, Form, base_of, figure, head_of, grouped, group_size, figures, copies}
 use Rattle.definition_replay.specs.IsInteger.{value, Below, leading, without, IsGrouped, IsWritten}
-use Rattle.definition.proofs.Moves.CharLaws.{cases, no, either, inside_yes, inside_not}
+use Rattle.definition.proofs.Moves.CharLaws.{cases, either, inside_yes, inside_not}
 use Rattle.definition_replay_laws.proofs.Integers.Digits.{leading_tail}
 
 -- none of these is b

@@ -1,4 +1,4 @@
--- THE GRAMMAR EXACTLY: a well_formed_lem text is read to parts if and only if it is the text of these, and they are the grammar's. Assumes nothing.
+-- THE GRAMMAR EXACTLY: a well-formed text is read to parts if and only if it is the text of these, and they are the grammar's. Assumes nothing.
 use mathlib.Core.Path.{◌≡◌, refl, sym, ◌∙◌, ap, subst}
 use mathlib.Core.Logic.{◌↔◌}
 use mathlib.Core.Bool.{Bool, true, false, ◌&&◌, ◌||◌, not}
@@ -9,10 +9,10 @@ use native.Mathlib.Omega.{arith}
 use lib.Dec.{eqb, ltb}
 use lib.ListN.{length}
 use borrow.Author.Tests.{eqb-true, eqb-false, ltb-true, ltb-false, not-true, lt-leb}
-use Rattle.definition.specs.Chars.{if◌then◌else◌, ◌is◌, byte, Range, ◌to◌, inside, table37, following, follow, width, next}
+use Rattle.definition.specs.Chars.{◌is◌, byte, Range, inside, table37, following, follow, width, next}
 use Rattle.definition_replay.specs.Spec.{Spec, aligns, nothing, spec_of}
 use Rattle.definition_replay.specs.IsSpec.{one, point, spelled, Legal}
-use Rattle.definition.proofs.Moves.CharLaws.{cases, no, inside_not, Utf8, between, width_ascii}
+use Rattle.definition.proofs.Moves.CharLaws.{cases, inside_not, Utf8, between, width_ascii}
 use Rattle.definition_replay_laws.proofs.Spec.SpecLaws.{is_each, both_true, spec_sound}
 use Rattle.definition_replay_laws.proofs.Spec.SpecWhole.{one_some, optional_cases, spec_whole}
 
@@ -59,7 +59,7 @@ wide_more s i h e = go (following table37 (byte s i)) refl
         cases (follow rs s (i + 1)) (λ t. let z : suc (length rs) ≡ 1 = rw (f, t, width) at e in absurd (omega arith))
         (λ t. let z : ◌≡◌ {A = ℕ} 0 1 = rw (f, t, width) at e in absurd (omega arith))
 
--- A FILL in front of its align, in well_formed_lem text, is well_formed_lem
+-- A FILL in front of its align, in well-formed text, is well-formed
 module _ (p : Spec) (l : Legal p) where
   align_ascii : (p.align is aligns) ≡ true → p.align < 0x80
   align_ascii e = ltb-true p.align 0x80 (is_each (λ b. ltb b 0x80) aligns p.align refl e)

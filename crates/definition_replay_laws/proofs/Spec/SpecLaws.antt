@@ -3,7 +3,7 @@ use mathlib.Core.Path.{◌≡◌, refl, sym, ◌∙◌, ap}
 use mathlib.Core.Bool.{Bool, true, false, ◌&&◌, ◌||◌, not}
 use mathlib.Core.List.{List, [], ◌∷◌, ◌++◌, append-nil}
 use mathlib.Core.Option.{Option, none, some}
-use Prim.Native.Nat.{ℕ, ◌+◌, ◌<◌}
+use Prim.Native.Nat.{ℕ, ◌<◌}
 use Prim.Native.Char.{code as code_of}
 use Prim.Native.String.{String, [] as []ˢ, ◌∷◌ as ◌∷ˢ◌}
 use native.Mathlib.Nat.{zero-add}
@@ -12,7 +12,7 @@ use lib.Dec.{eqb, ltb}
 use lib.ListN.{length, get_or, take, drop, take-append-drop}
 use lib.Seq.{drop-cons, get_or-take, length-take-le}
 use borrow.Author.Tests.{eq-eqb, ne_eqb, eqb-true, ltb-true}
-use Rattle.definition.specs.Chars.{◌is◌, byte, ◌to◌, next}
+use Rattle.definition.specs.Chars.{◌is◌, byte, next}
 use Rattle.definition_replay.specs.Spec.{Spec, aligns, signs, groupings, types, is_digit, first, past, front, behind, pointed, past_pointed, fill_size, all, nothing, behind_fill, behind_align, behind_sign, behind_z, behind_alternate, behind_nought, behind_width, behind_grouping, behind_precision, behind_type, parts_of, spec_of}
 use Rattle.definition_replay.specs.IsSpec.{one, point, optional, spelled, Legal}
 use Rattle.definition.proofs.Moves.CharLaws.{cases, no, either, Utf8, byte_in, next_same, next_past}

@@ -2,8 +2,8 @@
 use mathlib.Core.Path.{◌≡◌, refl, sym, ◌∙◌, ap}
 use mathlib.Core.Bool.{Bool, true, false, ◌&&◌, ◌||◌, not}
 use mathlib.Core.List.{List, [], ◌∷◌, ◌++◌, append-nil}
-use mathlib.Core.Option.{none, some}
-use Prim.Native.Nat.{ℕ, ◌+◌}
+use mathlib.Core.Option.{some}
+use Prim.Native.Nat.{ℕ}
 use Prim.Native.String.{String}
 use native.Mathlib.Nat.{zero-add}
 use native.Mathlib.Omega.{arith}
@@ -11,7 +11,7 @@ use lib.Dec.{eqb, ltb}
 use lib.ListN.{length, get_or, take, get_or-append}
 use lib.Seq.{take-append_seam, drop-append_seam, get_or-append_seam}
 use borrow.Author.Tests.{eqb-true, eqb-false, not-true, ltb-true, lt-ltb}
-use Rattle.definition.specs.Chars.{◌is◌, byte, ◌to◌, next}
+use Rattle.definition.specs.Chars.{◌is◌, byte, next}
 use Rattle.definition_replay.specs.Spec.{Spec, aligns, signs, groupings, types, is_digit, first, past, front, behind, pointed, past_pointed, fill_size, all, nothing, behind_fill, behind_align, behind_sign, behind_z, behind_alternate, behind_nought, behind_width, behind_grouping, behind_precision, parts_of, spec_of}
 use Rattle.definition_replay.specs.IsSpec.{one, point, optional, spelled, Legal}
 use Rattle.definition.proofs.Moves.CharLaws.{cases, no, either, inside_true, Utf8, next_same, next_ascii}

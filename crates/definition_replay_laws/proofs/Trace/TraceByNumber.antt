@@ -1,14 +1,15 @@
 -- A ROW READ NUMBER BY NUMBER, without its columns' texts, as code does: the same row. Assumes nothing.
+use Rattle.std.specs.Prelude.{if◌then◌else◌}
 use mathlib.Core.Path.{◌≡◌, refl, sym, ◌∙◌, ap, ap₂}
 use mathlib.Core.Bool.{Bool, true, false, ◌&&◌, not}
 use mathlib.Core.List.{List, [], ◌∷◌, ◌++◌, append_assoc}
 use mathlib.Core.Option.{Option, none, some}
-use Prim.Native.Nat.{ℕ, zero, suc, ◌+◌}
+use Prim.Native.Nat.{ℕ, zero, suc}
 use native.Mathlib.Omega.{arith}
 use lib.Dec.{eqb}
 use lib.ListN.{length}
 use borrow.Author.Tests.{eqb-true}
-use Rattle.definition.specs.Chars.{if◌then◌else◌, ◌is◌, byte, ◌to◌}
+use Rattle.definition.specs.Chars.{◌is◌, byte}
 use Rattle.definition_replay.specs.Spec.{is_digit, first, past, front, behind, all, nothing}
 use Rattle.definition_replay.specs.IsSpec.{one, optional}
 use Rattle.definition_replay.specs.Integers.{Integer, decimal}

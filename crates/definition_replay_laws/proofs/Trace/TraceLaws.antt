@@ -2,11 +2,11 @@
 use mathlib.Core.Path.{◌≡◌, refl, sym, ◌∙◌, ap, ap₂, subst}
 use mathlib.Core.Bool.{Bool, true, false, ◌&&◌, ◌||◌}
 use mathlib.Core.List.{List, [], ◌∷◌, ◌++◌, append_assoc}
-use Prim.Native.Nat.{ℕ, ◌+◌}
+use Prim.Native.Nat.{ℕ}
 use native.Mathlib.Omega.{arith}
 use lib.Dec.{eqb}
 use borrow.Author.Tests.{eqb-true}
-use Rattle.definition.specs.Chars.{if◌then◌else◌, ◌is◌, byte, ◌to◌}
+use Rattle.definition.specs.Chars.{◌is◌}
 use Rattle.definition_replay.specs.Spec.{front, behind, all}
 use Rattle.definition_replay.specs.Trace.{is_quote, is_text, in_quotes, Taken, taken, broken, more_of, quoted_case, quoted_from, column_of, Behind, comma, ends, other, behind_column}
 use Rattle.definition_replay.specs.IsTrace.{Column, bare, quoted, value_of, doubled, column_text, column_legal, Ending, line, last}

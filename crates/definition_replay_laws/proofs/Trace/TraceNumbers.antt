@@ -8,7 +8,7 @@ use native.Mathlib.Omega.{arith}
 use lib.Dec.{eqb}
 use lib.ListN.{length, length-map, length-reverse}
 use borrow.Author.Tests.{lt-ltb, not-false}
-use Rattle.definition.specs.Chars.{if◌then◌else◌, ◌is◌, same, next}
+use Rattle.definition.specs.Chars.{◌is◌, same, next}
 use Rattle.definition_replay.specs.Spec.{is_digit, first, past, front, behind, pointed, past_pointed, fill_size, all, nothing, parts_of}
 use Rattle.definition_replay.specs.IsSpec.{one}
 use Rattle.definition_replay.specs.Integers.{Integer, decimal_from, decimal, digits, Form, base_of, form_in, figure, sign_of, prefix_of, head_of, figures, zero_pads, zeroed, least_of, numeral_of, copies, pad_of, left_of, inner_of, written}

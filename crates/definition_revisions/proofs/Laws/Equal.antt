@@ -1,4 +1,5 @@
 -- EQUAL RECORDS, and what does not count among them: ranges, places and u marks. Assumes nothing.
+use Rattle.std.specs.Prelude.{if◌then◌else◌}
 use mathlib.Core.Path.{◌≡◌, refl, sym, ◌∙◌, ap, ap₂}
 use mathlib.Core.Bool.{true}
 use mathlib.Core.List.{List, [], ◌∷◌, map}
@@ -7,7 +8,7 @@ use native.Mathlib.Omega.{arith}
 use lib.Dec.{eqb}
 use lib.ListN.{take}
 use borrow.Author.Tests.{eqb-true, eq-eqb}
-use Rattle.definition.specs.Chars.{if◌then◌else◌, part}
+use Rattle.definition.specs.Chars.{part}
 use Rattle.definition.specs.Records.{Record}
 use Rattle.definition.specs.Words.{word, records_from, answer_from, held_from}
 use Rattle.definition.proofs.Moves.CharLaws.{cases}

@@ -1,4 +1,5 @@
 -- THE BACK IS COUNTED FORWARD: no walk backwards and no scratch. Assumes nothing.
+use Rattle.std.specs.Prelude.{if◌then◌else◌}
 use mathlib.Core.Path.{◌≡◌, refl, sym, ◌∙◌, ap}
 use mathlib.Core.List.{List, [], ◌∷◌, ◌++◌, reverse, reverse_aux, reverse-append}
 use Prim.Native.Nat.{ℕ, suc, ◌+◌, ◌-◌, ◌≤◌, min}
@@ -7,7 +8,6 @@ use native.Mathlib.Omega.{arith}
 use lib.Dec.{leb}
 use borrow.Author.Tests.{leb-true, leb-false}
 use lib.ListN.{length, take, drop, length-drop, length-reverse, take-append-drop}
-use Rattle.definition.specs.Chars.{if◌then◌else◌}
 use Rattle.definition_revisions.specs.Revisions.{Shape, same_item, run}
 use Rattle.definition.proofs.Moves.CharLaws.{cases}
 use Rattle.definition_revisions.proofs.Laws.Runs.{Items, run_yes, run_no, run_other}

@@ -1,9 +1,9 @@
--- THE ITEMS of well_formed_lem records: each is one, and together they are all records in order. Assumes nothing.
+-- THE ITEMS of well-formed records: each is one, and together they are all records in order. Assumes nothing.
 use mathlib.Core.Path.{◌≡◌, refl, sym, ◌∙◌, ap}
 use mathlib.Core.Bool.{Bool, true, false, ◌&&◌, beq}
 use mathlib.Core.List.{List, [], ◌∷◌, ◌++◌, map, append_assoc, append-nil}
 use mathlib.Core.Logic.{◌⊎◌, inl, inr}
-use Prim.Native.Nat.{ℕ, zero, suc, ◌+◌, ◌-◌, ◌≤◌}
+use Prim.Native.Nat.{ℕ, zero, suc, ◌+◌, ◌≤◌}
 use native.Mathlib.Nat.{le_of_suc-le-suc, not-suc-le-zero}
 use native.Mathlib.Omega.{arith}
 use lib.Dec.{eqb, leb}
@@ -73,6 +73,7 @@ items_passed n ps (s.field x y m qs xs e p f a b) k rest =
 -- AN ITEM IS THE FIRST of what begins with it
 pub items_first : (ps : List Shape) → AreItems 1 ps → (rest : List Shape) → items_from 0 (ps ++ rest) ≡ ps ∷ items_from 0 rest
 unfolding opened
+items_first [] a rest = elim a [ ]
 items_first (x ∷ ps) a rest =
     items_turn 0 x (ps ++ rest) ∙ sym (items_turn 1 x (ps ++ rest)) ∙ items_passed 1 (x ∷ ps) a 0 rest ∙ onto_first (x ∷ ps) [] (items_from 0 rest) ∙ ap (λ i. i ∷ items_from 0 rest) (append-nil (x ∷ ps))
 

@@ -1,13 +1,13 @@
 -- THE LIMIT OF A SCRIPT: one byte more than 1,048,576 is 49, and nothing else is told. Assumes nothing.
-use mathlib.Core.Path.{◌≡◌, refl}
+use mathlib.Core.Path.{◌≡◌}
 use mathlib.Core.List.{List, [], ◌∷◌}
 use Prim.Native.Nat.{ℕ, ◌<◌}
 use lib.ListN.{length}
 use Rattle.definition.specs.Escapes.{Naming}
 use Rattle.definition.specs.Entry.{refusal}
-use Rattle.definition_scripts.specs.Literals.{literals_from, listed, list_numbers, list_into, literals_into}
+use Rattle.definition_scripts.specs.Literals.{listed, list_numbers, list_into, literals_into}
 use Rattle.definition_scripts.specs.CutList.{cut_into}
-use Rattle.definition_scripts.specs.Listing.{fields_of, fields_call, fields_into, fields_numbers}
+use Rattle.definition_scripts.specs.Listing.{fields_call, fields_into, fields_numbers}
 use Rattle.definition_scripts_laws.proofs.Literals.LiteralSteps.{from_long}
 use Rattle.definition_scripts_laws.proofs.Cut.CutListLaws.{cut_long}
 use Rattle.definition_scripts_laws.proofs.Listing.ListingSteps.{fields_long}

@@ -1,4 +1,5 @@
 -- The cut of a script meets what a cut is. Assumes nothing.
+use Rattle.std.specs.Prelude.{if◌then◌else◌}
 use mathlib.Core.Path.{◌≡◌, refl, sym, subst, ◌∙◌, ap}
 use mathlib.Core.Bool.{Bool, true, false, not, ◌||◌}
 use mathlib.Core.List.{List}
@@ -8,7 +9,7 @@ use borrow.Author.Tests.{leb-true, leb-false, lt-leb, eqb-true, ltb-true, ltb-fa
 use lib.Dec.{ltb, leb, eqb}
 use lib.ListN.{length}
 use Rattle.definition.specs.Numbers.{prefix}
-use Rattle.definition.specs.Chars.{if◌then◌else◌, ◌is◌, byte, at_end}
+use Rattle.definition.specs.Chars.{◌is◌, byte, at_end}
 use Rattle.definition.specs.Entry.{Literal, refusal}
 use Rattle.definition.specs.Reading.{Outcome, accepts, refuses}
 use Rattle.definition_scripts.specs.Opening.{is_quote, no_kind, opens, is_sign, is_line_end, apart}

@@ -3,15 +3,14 @@ use mathlib.Core.Path.{◌≡◌, refl, sym, ◌∙◌, ap}
 use mathlib.Core.Bool.{Bool, true, false, ◌&&◌, not, ◌||◌}
 use mathlib.Core.List.{List, [], ◌∷◌}
 use mathlib.Core.Option.{Option, none, some}
-use Prim.Native.Nat.{ℕ, ◌+◌, ◌-◌, ◌≤◌, ◌<◌}
+use Prim.Native.Nat.{ℕ, ◌+◌, ◌-◌, ◌≤◌}
 use native.Mathlib.Omega.{arith}
 use borrow.Author.Tests.{le-ltb}
 use lib.ListN.{length, take, drop, length-take, length-drop, take-append-drop}
 use lib.Seq.{take-append-le, drop-append-le}
 use Rattle.definition.specs.Numbers.{is_bytes}
 use Rattle.definition.specs.Chars.{part}
-use Rattle.definition.specs.Entry.{Literal, place_of, body, Refusal, not_empty, not_many, first_bad, all_good, total, not_long, all_utf8, any_of, not_mixed, first_of, entry}
-use Rattle.definition_scripts.specs.IsRun.{IsLiteral}
+use Rattle.definition.specs.Entry.{Literal, body, Refusal, not_empty, not_many, first_bad, all_good, total, not_long, all_utf8, any_of, not_mixed, first_of, entry}
 use Rattle.definition_scripts.specs.IsCut.{Ending, IsCut, EachLiteral}
 use Rattle.definition_scripts.specs.Cut.{cut, cut_part}
 use Rattle.definition_scripts_laws.proofs.Literals.LiteralFound.{Lies, literal_lies, lies_good}

@@ -1,23 +1,22 @@
 -- THE LIST OF A SCRIPT IS COMPLETE IF IT HAS NO REFUSAL: what the auditor asked for. Assumes nothing.
-use mathlib.Core.Path.{◌≡◌, refl, sym, subst, ◌∙◌, ap}
+use mathlib.Core.Path.{◌≡◌, refl, subst, ap}
 use mathlib.Core.Bool.{Bool, true, false}
 use mathlib.Core.List.{List, [], ◌∷◌, ◌++◌, append-nil}
-use Prim.Native.Nat.{ℕ, suc, ◌+◌, ◌*◌, ◌/◌, ◌≤◌, ◌<◌}
+use Prim.Native.Nat.{ℕ, suc, ◌/◌, ◌≤◌}
 use native.Mathlib.Omega.{arith}
 use borrow.Author.Tests.{ltb-false}
 use lib.Dec.{ltb}
-use lib.ListN.{length, take, drop, length-append, length-drop, length-replicate}
+use lib.ListN.{length, take}
 use Rattle.definition.specs.Numbers.{read_otherwise}
 use Rattle.definition.specs.Escapes.{Naming}
 use Rattle.definition.specs.Entry.{Literal}
 use Rattle.definition.specs.Reading.{in_front}
 use Rattle.definition.specs.Words.{word}
-use Rattle.definition.specs.Rows.{Row, row_numbers}
+use Rattle.definition.specs.Rows.{Row}
 use Rattle.definition_scripts.specs.IsCut.{Ending, reaches_end, IsCut, EachLiteral}
 use Rattle.definition_scripts.specs.Cut.{Cut, cut, cut_part}
-use Rattle.definition_scripts.specs.Listing.{ListRow, of_field, of_refusal, ten_of, tens, all_read, broken_row, cut_rows, source_end, reached, otherwise, otherwise_row, source_rows, below, rows_of, refusals_in, Fields, fields, too_long, short, fields_of, fields_after, fields_call, fields_into, fields_numbers}
-use Rattle.definition_scripts_laws.specs.Complete.{Fielded, Covered, Likewise, Sources, none, source, Complete, Placed}
-use Rattle.definition.proofs.Moves.CharLaws.{cases}
+use Rattle.definition_scripts.specs.Listing.{ListRow, of_field, of_refusal, tens, all_read, broken_row, cut_rows, source_end, reached, otherwise, otherwise_row, source_rows, below, rows_of, refusals_in, Fields, fields_of, fields_after, fields_call, fields_into, fields_numbers}
+use Rattle.definition_scripts_laws.specs.Complete.{Covered, Likewise, Sources, none, source, Complete, Placed}
 use Rattle.definition_laws.proofs.Rows.SpecRows.{Begun}
 use Rattle.definition_scripts_laws.proofs.Cut.PartLaws.{part_cut_is, InPart, in_part, cut_is_part}
 use Rattle.definition_scripts_laws.proofs.Listing.SourceLaws.{Sourced, AllFit}

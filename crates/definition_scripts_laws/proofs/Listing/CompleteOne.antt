@@ -1,4 +1,5 @@
 -- ONLY ONE LIST IS COMPLETE FOR A SCRIPT. Assumes nothing.
+use Rattle.std.specs.Prelude.{if◌then◌else◌}
 use mathlib.Core.Path.{◌≡◌, refl, sym, subst, ◌∙◌, ap, ap₂}
 use mathlib.Core.Bool.{Bool, true, false}
 use mathlib.Core.List.{List, [], ◌∷◌, ◌++◌, map, append_assoc}
@@ -6,7 +7,6 @@ use Prim.Native.Nat.{ℕ, zero, suc, ◌+◌, ◌≤◌}
 use native.Mathlib.Omega.{arith}
 use lib.Dec.{eqb}
 use lib.ListN.{length, take, length-append}
-use Rattle.definition.specs.Chars.{if◌then◌else◌}
 use Rattle.definition.specs.Escapes.{Naming}
 use Rattle.definition.specs.Body.{Piece, literal, field, spec, read_body}
 use Rattle.definition.specs.Entry.{Literal, opening, place_of, body}

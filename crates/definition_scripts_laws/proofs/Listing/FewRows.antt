@@ -1,4 +1,5 @@
 -- A PART OF A SCRIPT HAS AT MOST AS MANY ROWS AS BYTES, those of all sources in it among them. Assumes nothing.
+use Rattle.std.specs.Prelude.{if◌then◌else◌}
 use mathlib.Core.Path.{◌≡◌, refl}
 use mathlib.Core.Bool.{Bool, true, false, not}
 use mathlib.Core.List.{List, [], ◌∷◌, map}
@@ -8,7 +9,6 @@ use borrow.Author.Tests.{ne_eqb}
 use lib.Dec.{ltb, eqb}
 use lib.ListN.{length, take, length-take}
 use Rattle.definition.specs.Numbers.{is_fstring, read_otherwise, unknown_prefix}
-use Rattle.definition.specs.Chars.{if◌then◌else◌}
 use Rattle.definition.specs.Escapes.{Naming}
 use Rattle.definition.specs.Body.{Signs, Piece, literal, field, spec, read_body}
 use Rattle.definition.specs.Records.{Answer}

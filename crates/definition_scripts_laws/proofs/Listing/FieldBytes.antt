@@ -1,4 +1,5 @@
 -- THE FIELDS OF A BODY have bytes of their own: each its `{`, its source and the sign that ends it; all together no more than the body has. Assumes nothing.
+use Rattle.std.specs.Prelude.{if◌then◌else◌}
 use mathlib.Core.Path.{◌≡◌, refl}
 use mathlib.Core.Bool.{Bool, true, false, ◌&&◌, not}
 use mathlib.Core.List.{List, [], ◌∷◌, ◌++◌}
@@ -9,7 +10,7 @@ use borrow.Author.Tests.{eqb-true}
 use lib.Dec.{ltb, eqb}
 use lib.ListN.{length, drop}
 use Rattle.definition.specs.Numbers.{is_fstring, empty_expression}
-use Rattle.definition.specs.Chars.{if◌then◌else◌, ◌is◌, at_end, part, code, next, before}
+use Rattle.definition.specs.Chars.{◌is◌, at_end, part, code, next, before}
 use Rattle.definition.specs.Escapes.{Naming, Fault, fault, Read, got, refused}
 use Rattle.definition.specs.Body.{Signs, Piece, literal, field, spec, Move, goes, stops, calls, ends, filled, Field, state, with_equals, with_bang, with_colon, with_close, fresh, add, documented, spaced, formatted, FieldCase, pair, converts, documents, formats, opener, closes, closer, quote, space, backslash, stray, outside, field_case, case_of, conversion_move, open_move, matching, close_move, quote_move, field_move, text_move, conversion_of, field_pieces, self_documenting, finished, specified, first_end, text_n, field_n, spec_n, string_n, enough, alone, read_body}
 use Rattle.definition.specs.Rows.{pieces_of}

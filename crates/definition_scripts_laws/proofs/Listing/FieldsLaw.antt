@@ -1,17 +1,17 @@
 -- THE ROWS OF EACH LITERAL in a list: the fields of its reading, or its one refusal. Assumes nothing.
+use Rattle.std.specs.Prelude.{if◌then◌else◌}
 use mathlib.Core.Path.{◌≡◌, refl, sym, ◌∙◌, ap}
 use mathlib.Core.Bool.{Bool, true, false, not}
-use mathlib.Core.List.{List, [], ◌∷◌, ◌++◌, map, append-nil, append_assoc}
-use Prim.Native.Nat.{ℕ, suc, ◌+◌}
+use mathlib.Core.List.{List, [], ◌∷◌, ◌++◌, map, append-nil}
+use Prim.Native.Nat.{ℕ, ◌+◌}
 use native.Mathlib.Omega.{arith}
 use borrow.Author.Tests.{not-false}
 use Rattle.definition.specs.Numbers.{is_fstring, unknown_prefix}
-use Rattle.definition.specs.Chars.{if◌then◌else◌}
 use Rattle.definition.specs.Escapes.{Naming}
 use Rattle.definition.specs.Records.{Answer}
 use Rattle.definition.specs.Entry.{Literal, Refusal}
 use Rattle.definition.specs.Reading.{Outcome, accepts, refuses, read}
-use Rattle.definition.specs.Rows.{Row, literal_rows, all_rows, row_field, record_fields, row_spec, record_specs}
+use Rattle.definition.specs.Rows.{literal_rows, all_rows, row_field, record_fields, row_spec, record_specs}
 use Rattle.definition_scripts.specs.IsCut.{Ending, reaches_end, breaks_off, EachLiteral}
 use Rattle.definition_scripts.specs.Keywords.{word_start, may_stand}
 use Rattle.definition_scripts.specs.Listing.{ListRow, of_field, of_refusal, read_rows, unknown_row, own_rows, all_read, broken_row, refusals_in}

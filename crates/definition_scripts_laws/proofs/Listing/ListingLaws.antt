@@ -1,7 +1,7 @@
 -- THE LIST OF A SCRIPT is the rows of its cut and then those of the source of each row of that same list, in order; running out of levels never shows. Assumes nothing.
-use mathlib.Core.Path.{◌≡◌, refl, sym, ◌∙◌, ap}
+use mathlib.Core.Path.{◌≡◌, sym, ◌∙◌, ap}
 use mathlib.Core.List.{List, [], ◌∷◌, ◌++◌, append_assoc}
-use Prim.Native.Nat.{ℕ, zero, suc, ◌+◌, ◌≤◌}
+use Prim.Native.Nat.{ℕ, zero, suc, ◌+◌}
 use native.Mathlib.Nat.{add-suc, suc-add, add-zero}
 use lib.ListN.{length}
 use Rattle.definition.specs.Escapes.{Naming}

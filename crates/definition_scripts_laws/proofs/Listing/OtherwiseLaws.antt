@@ -1,19 +1,19 @@
 -- WHERE NO 75 IS TOLD, nothing in a field's source and spec is read otherwise by Python; and what a 75 names is there. Assumes nothing.
-use mathlib.Core.Path.{◌≡◌, refl, sym, subst, ◌∙◌}
+use mathlib.Core.Path.{◌≡◌, refl, sym, ◌∙◌}
 use mathlib.Core.Bool.{Bool, true, false, ◌&&◌, not}
 use mathlib.Core.List.{List, [], ◌∷◌}
-use Prim.Native.Nat.{ℕ, ◌+◌, ◌-◌, ◌≤◌, ◌<◌}
+use Prim.Native.Nat.{ℕ, ◌-◌, ◌≤◌, ◌<◌}
 use native.Mathlib.Omega.{arith}
 use borrow.Author.Tests.{eqb-true, eqb-false, ne_eqb, ltb-true, ltb-false, leb-true, leb-false, not-true}
 use lib.Dec.{ltb, leb, eqb}
 use lib.ListN.{length}
-use Rattle.definition.specs.Chars.{if◌then◌else◌, ◌is◌, byte}
+use Rattle.definition.specs.Chars.{◌is◌, byte}
 use Rattle.definition.specs.Body.{Signs}
 use Rattle.definition.specs.Entry.{Literal}
 use Rattle.definition.specs.Rows.{Row}
 use Rattle.definition_scripts.specs.Opening.{opens, is_sign, first_at}
 use Rattle.definition_scripts.specs.IsRun.{body_end}
-use Rattle.definition_scripts.specs.IsCut.{Ending, reaches_end, EachLiteral}
+use Rattle.definition_scripts.specs.IsCut.{reaches_end, EachLiteral}
 use Rattle.definition_scripts.specs.Cut.{Cut}
 use Rattle.definition_scripts.specs.Listing.{source_end, reached, first_in, quoted_inside, first_odd, more_after, spec_backslash, least, otherwise}
 use Rattle.definition_scripts_laws.specs.Complete.{NoneIn, NoneOutside, Likewise, InGap, last, here, later, OneOf, this, another, SomeIn, ReadOtherwise, comment, backslash, quoted, after_equals, in_spec}

@@ -1,6 +1,7 @@
 -- A FIELD'S ROW STANDS WHERE ITS NUMBERS SAY, in the script: its signs, its conversion, and its source. Assumes nothing.
+use Rattle.std.specs.Prelude.{if◌then◌else◌}
 use mathlib.Core.Path.{◌≡◌, refl, sym, ◌∙◌, ap}
-use mathlib.Core.Bool.{Bool, true, false, not}
+use mathlib.Core.Bool.{true, not}
 use mathlib.Core.List.{List}
 use Prim.Native.Nat.{ℕ, zero, suc, ◌+◌, ◌-◌, ◌≤◌, ◌<◌}
 use native.Mathlib.Omega.{arith}
@@ -8,10 +9,10 @@ use borrow.Author.Tests.{eqb-true, eq-eqb, ne_eqb}
 use lib.Dec.{eqb}
 use lib.ListN.{length, drop}
 use lib.Seq.{get_or-take, get_or-drop}
-use Rattle.definition.specs.Chars.{if◌then◌else◌, ◌is◌, byte, code}
+use Rattle.definition.specs.Chars.{◌is◌, byte, code}
 use Rattle.definition.specs.Body.{Signs}
 use Rattle.definition.specs.Entry.{Literal, place_of, body}
-use Rattle.definition.specs.Rows.{reason, Row, sign_at, signs_at}
+use Rattle.definition.specs.Rows.{reason, sign_at, signs_at}
 use Rattle.definition_scripts.specs.Listing.{source_end}
 use Rattle.definition_scripts_laws.specs.Complete.{Placed}
 use Rattle.definition.proofs.Moves.CharLaws.{either, byte_in, code_is}

@@ -1,13 +1,13 @@
 -- THE WORD BEFORE A LITERAL is the longest one; it may stand there exactly if it is none, a keyword, or a number and a keyword; and what a 76 names is there. Assumes nothing.
 use mathlib.Core.Path.{◌≡◌, refl, sym, subst, ◌∙◌}
-use mathlib.Core.Bool.{Bool, true, false, ◌&&◌, ◌||◌}
+use mathlib.Core.Bool.{true, false, ◌&&◌}
 use mathlib.Core.List.{List, [], ◌∷◌}
 use Prim.Native.Nat.{ℕ, zero, suc, ◌+◌, ◌-◌, ◌≤◌, ◌<◌}
 use Prim.Native.String.{String}
 use native.Mathlib.Omega.{arith}
 use borrow.Author.Tests.{eqb-true, ltb-true, ltb-false}
 use lib.Dec.{ltb}
-use lib.ListN.{length, take, drop}
+use lib.ListN.{length}
 use lib.Seq.{drop-cons}
 use Rattle.definition.specs.Chars.{◌is◌, ascii, byte, part, ◌to◌, inside, same}
 use Rattle.definition.specs.Entry.{Literal}
@@ -29,6 +29,7 @@ one_spelled w (k ∷ ks) e f = either (same w (ascii k)) (is_one_of w ks) e (λ 
 
 spelled_one : (w : List ℕ) (k : String) (ks : List String) → Among k ks → w ≡ ascii k → is_one_of w ks ≡ true
 unfolding is_one_of
+spelled_one w k [] x e = elim x [ ]
 spelled_one w k (j ∷ ks) first e = rw (same_eq w (ascii k) e)
 spelled_one w k (j ∷ ks) (next a) e = cases (same w (ascii j)) (λ t. rw t) (λ t. rw t (spelled_one w k ks a e))
 

@@ -1,4 +1,5 @@
 -- What a call for literals leaves in its list buffer; and two that return the same numbers and leave the same list have one listing. Assumes nothing.
+use Rattle.std.specs.Prelude.{if◌then◌else◌}
 use mathlib.Core.Path.{◌≡◌, refl, sym, ◌∙◌, ap}
 use mathlib.Core.Bool.{Bool, true, false}
 use mathlib.Core.List.{List, ◌++◌}
@@ -9,7 +10,6 @@ use borrow.Author.Tests.{ltb-true, ltb-false, lt-ltb}
 use lib.Dec.{ltb, lit≤}
 use lib.ListN.{length, take}
 use lib.Seq.{take-append_seam}
-use Rattle.definition.specs.Chars.{if◌then◌else◌}
 use Rattle.definition.specs.Entry.{Literal, Refusal, refusal, sixes}
 use Rattle.definition.specs.Reading.{Outcome, accepts, refuses}
 use Rattle.definition.specs.Words.{word}

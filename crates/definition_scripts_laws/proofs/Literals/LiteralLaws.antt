@@ -1,4 +1,5 @@
 -- Where a body closes, and that it closes in one place. Assumes nothing.
+use Rattle.std.specs.Prelude.{if◌then◌else◌}
 use mathlib.Core.Path.{◌≡◌, refl, sym, ◌∙◌, ap}
 use mathlib.Core.Bool.{Bool, true, false, ◌&&◌, not, ◌||◌}
 use mathlib.Core.List.{List}
@@ -7,7 +8,7 @@ use native.Mathlib.Omega.{arith}
 use borrow.Author.Tests.{leb-true, leb-false, eqb-true, ne_eqb}
 use lib.Dec.{eqb}
 use lib.ListN.{length, get_or-eq_default}
-use Rattle.definition.specs.Chars.{if◌then◌else◌, ◌is◌, byte, at_end}
+use Rattle.definition.specs.Chars.{◌is◌, byte, at_end}
 use Rattle.definition_scripts.specs.Opening.{is_quote, quotes, quotes_at, breaks_at}
 use Rattle.definition_scripts.specs.IsRun.{Units, done, pair, single, Unclosed, to_end, to_newline}
 use Rattle.definition_scripts.specs.Literals.{BodyCase, over, takes, closes, breaks, plain, body_case, Closing, closed, fails, closing_n}

@@ -1,4 +1,5 @@
 -- What stands where a literal opens: the letters of its prefix, and its quote. Assumes nothing.
+use Rattle.std.specs.Prelude.{if◌then◌else◌}
 use mathlib.Core.Path.{◌≡◌, refl, sym, subst, ◌∙◌}
 use mathlib.Core.Bool.{Bool, true, false, ◌&&◌, ◌||◌}
 use mathlib.Core.List.{List}
@@ -8,7 +9,7 @@ use borrow.Author.Tests.{eqb-true, eqb-false, ltb-true, ltb-false}
 use lib.Dec.{eqb, ltb, lit≤}
 use lib.ListN.{length}
 use Rattle.definition.specs.Numbers.{prefix}
-use Rattle.definition.specs.Chars.{if◌then◌else◌, ◌is◌, byte, ◌to◌, inside}
+use Rattle.definition.specs.Chars.{◌is◌, byte, ◌to◌, inside}
 use Rattle.definition_scripts.specs.Opening.{is_quote, no_kind, one_letter, two_letters, opens, quotes_of, quote_of, is_word}
 use Rattle.definition.proofs.Moves.CharLaws.{cases, no, either, inside_true, byte_in}
 use Rattle.definition_laws.proofs.Moves.Cases.{and_both}

@@ -1,4 +1,5 @@
 -- What is passed over, what a run is, and that running out of moves never shows. Assumes nothing.
+use Rattle.std.specs.Prelude.{if◌then◌else◌}
 use mathlib.Core.Path.{◌≡◌, refl, sym, subst, ◌∙◌, ap}
 use mathlib.Core.Bool.{Bool, true, false}
 use mathlib.Core.List.{List, [], ◌∷◌}
@@ -8,7 +9,7 @@ use native.Mathlib.Omega.{arith, by_contra}
 use borrow.Author.Tests.{leb-true, leb-false, le-leb, lt-leb, eqb-true}
 use lib.Dec.{leb}
 use lib.ListN.{length, get_or-eq_default}
-use Rattle.definition.specs.Chars.{if◌then◌else◌, ◌is◌, byte}
+use Rattle.definition.specs.Chars.{◌is◌, byte}
 use Rattle.definition.specs.Entry.{Literal, Refusal, refusal}
 use Rattle.definition.specs.Reading.{Outcome, accepts, refuses}
 use Rattle.definition_scripts.specs.Opening.{no_kind, opens, is_space, is_sign, line_end}

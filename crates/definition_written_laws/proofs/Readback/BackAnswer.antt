@@ -1,16 +1,17 @@
 -- What an answer of a kind 1 body holds: the tree of its pieces, whose touching texts were joined. Assumes nothing.
+use Rattle.std.specs.Prelude.{if◌then◌else◌}
 use mathlib.Core.Path.{◌≡◌, refl, sym, ◌∙◌, ap, ap₂}
-use mathlib.Core.Bool.{true, false, ◌&&◌, false≢true}
+use mathlib.Core.Bool.{true, ◌&&◌, false≢true}
 use mathlib.Core.List.{List, [], ◌∷◌, ◌++◌, map, append_assoc, append-nil}
-use Prim.Native.Nat.{ℕ, zero, suc, ◌+◌, ◌-◌}
+use Prim.Native.Nat.{ℕ, zero, suc, ◌+◌}
 use native.Mathlib.Nat.{add-sub_cancel_left}
 use lib.Dec.{eqb}
 use lib.ListN.{length, length-append}
 use lib.Seq.{take-append_seam, drop-append_seam}
 use borrow.Author.Tests.{eqb-true, eq-eqb}
-use Rattle.definition.specs.Chars.{if◌then◌else◌, part, same}
+use Rattle.definition.specs.Chars.{part, same}
 use Rattle.definition.specs.Body.{Piece, literal, field, spec}
-use Rattle.definition.specs.Records.{top, inner, touching, covers, Item, item, item_of, glue, merge, both_items, merged, texts, record_at, laid, cover, Sort, joined, answer_of}
+use Rattle.definition.specs.Records.{inner, touching, covers, Item, item, item_of, glue, merge, both_items, merged, texts, record_at, laid, cover, Sort, joined, answer_of}
 use Rattle.definition_written.specs.Written.{Content, empty, says, puts, forms, first_parts, later_parts, next_parts, own_text, holding, content_from, content, filled_with, alike_after, alike, same_content}
 use Rattle.definition_laws.proofs.Moves.Cases.{and_both}
 use Rattle.definition_laws.proofs.Join.Seam.{glue_false}

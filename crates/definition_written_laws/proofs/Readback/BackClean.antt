@@ -1,4 +1,5 @@
 -- Every expression that is read is clean and not blank: an invariant of a field's moves, with what its bytes leave open. Assumes nothing.
+use Rattle.std.specs.Prelude.{if◌then◌else◌}
 use mathlib.Core.Path.{◌≡◌, refl, sym, ◌∙◌, ap, ap₂, subst}
 use mathlib.Core.Bool.{Bool, true, false, ◌&&◌, not, and-false}
 use mathlib.Core.List.{List, [], ◌∷◌, ◌++◌, append_assoc, append-nil}
@@ -8,8 +9,8 @@ use lib.Dec.{ltb, eqb}
 use lib.ListN.{length, take, drop, length-drop, length-append}
 use lib.Seq.{drop-cons, get_or-drop, get_or-take}
 use borrow.Author.Tests.{ltb-true, ltb-false, leb-false, le-leb, eqb-true, ne_eqb, not-false}
-use Rattle.definition.specs.Chars.{if◌then◌else◌, ◌is◌, byte, part, at_end, code, next, char, before}
-use Rattle.definition.specs.Body.{Signs, Bracket, Move, goes, ends, Field, state, fresh, add, documented, spaced, FieldCase, pair, converts, documents, formats, opener, closes, closer, quote, space, backslash, stray, field_case, outside, case_of, conversion_move, open_move, matching, close_move, quote_move, field_move, is_blank}
+use Rattle.definition.specs.Chars.{◌is◌, byte, part, at_end, code, next, char, before}
+use Rattle.definition.specs.Body.{Signs, Bracket, Move, goes, Field, state, fresh, add, documented, spaced, FieldCase, pair, converts, documents, formats, opener, closes, closer, quote, space, backslash, stray, field_case, outside, case_of, conversion_move, open_move, matching, close_move, quote_move, field_move, is_blank}
 use Rattle.definition.specs.Matched.{clear, quoted, see, see_all, settled, blank}
 use Rattle.definition_written.specs.ReadsBack.{is_open, few_open, clean}
 use Rattle.definition.proofs.Moves.CharLaws.{cases, no, byte_in, next_past, next_from, between, next_ascii, code_ascii, code_is, Utf8}

@@ -1,4 +1,5 @@
 -- A clean expression, with `!`, `:` or `}` behind it, is read as it stands. Assumes nothing.
+use Rattle.std.specs.Prelude.{if◌then◌else◌}
 use mathlib.Core.Path.{◌≡◌, refl, sym, ◌∙◌, ap, ap₂, subst}
 use mathlib.Core.Bool.{Bool, true, false, ◌&&◌, not, and-false, and-true, false≢true}
 use mathlib.Core.List.{List, [], ◌∷◌, ◌++◌, append_assoc, append-nil}
@@ -8,9 +9,9 @@ use lib.Seq.{get_or-drop, length-take-le}
 use lib.Dec.{ltb, leb, eqb}
 use lib.ListN.{length, take, drop, length-append, get_or-append, take-append-drop}
 use borrow.Author.Tests.{ltb-true, ltb-false, leb-true, leb-false, lt-ltb, lt-leb, eqb-true, ne_eqb, eq-eqb, not-true}
-use Rattle.definition.specs.Chars.{if◌then◌else◌, ◌is◌, byte, part, at_end, code, next, char, before}
+use Rattle.definition.specs.Chars.{◌is◌, byte, part, at_end, code, next, char, before}
 use Rattle.definition.specs.Escapes.{Naming}
-use Rattle.definition.specs.Body.{Signs, Bracket, goes, ends, Field, state, add, FieldCase, pair, converts, documents, formats, opener, closes, closer, quote, space, backslash, stray, field_case, outside, case_of, open_move, matching, close_move, quote_move, field_move, is_blank}
+use Rattle.definition.specs.Body.{Signs, Bracket, goes, Field, state, add, FieldCase, pair, converts, documents, formats, opener, closes, closer, quote, space, backslash, stray, field_case, outside, case_of, open_move, matching, close_move, quote_move, field_move, is_blank}
 use Rattle.definition.specs.Matched.{clear, quoted, closed, see, see_all, settled, blank_after, blank}
 use Rattle.definition_written.specs.ReadsBack.{is_open, few_open, clean}
 use Rattle.definition.proofs.Moves.CharLaws.{cases, no, next_past, between, next_ascii, code_ascii, code_is, Utf8}

@@ -1,18 +1,18 @@
 -- ONLY WHAT MAY BE READ BACK IS: the second half of 55's theorem. Assumes nothing.
 use mathlib.Core.Path.{◌≡◌, refl, sym, ◌∙◌, ap, ap₂, subst}
-use mathlib.Core.Bool.{Bool, true, false, ◌&&◌, not}
+use mathlib.Core.Bool.{Bool, true, false, ◌&&◌}
 use mathlib.Core.List.{List, [], ◌∷◌, ◌++◌, append_assoc, append-nil}
 use mathlib.Core.Option.{none, some}
-use Prim.Native.Nat.{ℕ, zero, suc, ◌+◌, ◌-◌, ◌≤◌, ◌<◌}
+use Prim.Native.Nat.{ℕ, zero, suc, ◌+◌, ◌≤◌, ◌<◌}
 use native.Mathlib.Omega.{arith}
 use lib.Dec.{leb, eqb}
 use lib.ListN.{length, drop, replicate, length-append}
 use lib.Seq.{drop-append_seam}
 use borrow.Author.Tests.{leb-false, le-leb, lt-ltb, eqb-true}
-use Rattle.definition.specs.Chars.{◌is◌, byte, part, at_end, code, next, before}
+use Rattle.definition.specs.Chars.{◌is◌, byte, part, at_end, code, next}
 use Rattle.definition.specs.Escapes.{Naming, Fault, fault, detail, Read, got, refused}
 use Rattle.definition.specs.Numbers.{unclosed_lbrace, expression_nested_too_deeply, in_field}
-use Rattle.definition.specs.Body.{Signs, with_close, with_colon, Piece, goes, ends, too_deep, filled, state, fresh, formatted, field_pieces, self_documenting, conversion_of, finished, specified, first_end, text_n, enough, read_body}
+use Rattle.definition.specs.Body.{Signs, with_close, with_colon, Piece, too_deep, filled, state, fresh, formatted, field_pieces, self_documenting, conversion_of, finished, specified, first_end, text_n, enough, read_body}
 use Rattle.definition.specs.Matched.{Seen, clear, quoted, broken, pairs, closed, see, see_all, braceless}
 use Rattle.definition.specs.Words.{is_conversion}
 use Rattle.definition_written.specs.Written.{Content, empty, says, puts, forms, Where, top, early, late, past_field, spelled_byte, spelled_text, spelled_conversion, spelled, filled_with, alike_after, alike}

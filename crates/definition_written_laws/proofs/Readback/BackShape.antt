@@ -3,13 +3,13 @@ use mathlib.Core.Path.{◌≡◌, refl, sym, ◌∙◌, ap, ap₂, subst}
 use mathlib.Core.Bool.{Bool, true, false}
 use mathlib.Core.List.{List, [], ◌∷◌, ◌++◌, map, append_assoc, append-nil}
 use mathlib.Core.Option.{Option, none, some}
-use Prim.Native.Nat.{ℕ, zero, suc, ◌+◌, ◌-◌, ◌≤◌}
+use Prim.Native.Nat.{ℕ, zero, suc, ◌≤◌}
 use native.Mathlib.Omega.{arith}
 use lib.ListN.{length, drop, replicate}
 use lib.Seq.{drop-append_seam}
-use Rattle.definition.specs.Chars.{◌is◌, at_end, next, char}
+use Rattle.definition.specs.Chars.{at_end, next, char}
 use Rattle.definition.specs.Escapes.{Naming, Fault, Read, got, refused, Meaning, escape, meant}
-use Rattle.definition.specs.Body.{Signs, with_close, Piece, literal, field, spec, Move, goes, stops, calls, ends, TextCase, deep, opens, last, doubled, lone, text_case, text_move, with_escape, filled, Bracket, Field, state, fresh, formatted, outside, field_move, conversion_of, field_pieces, self_documenting, finished, specified, text_n, field_n, spec_n}
+use Rattle.definition.specs.Body.{Signs, with_close, Piece, literal, Move, goes, stops, calls, ends, TextCase, deep, opens, last, doubled, lone, text_case, text_move, with_escape, filled, Bracket, Field, state, fresh, formatted, outside, field_move, conversion_of, field_pieces, self_documenting, finished, specified, text_n, field_n, spec_n}
 use Rattle.definition.specs.Records.{item_of}
 use Rattle.definition_written.specs.Written.{Content, empty, says, puts, forms, filled_with, alike_after, alike}
 use Rattle.definition.proofs.Moves.CharLaws.{cases, Utf8}

@@ -3,12 +3,12 @@ use mathlib.Core.Path.{◌≡◌, ◌∙◌}
 use mathlib.Core.Bool.{true, false}
 use mathlib.Core.List.{List, [], ◌++◌}
 use mathlib.Core.Option.{none}
-use Prim.Native.Nat.{ℕ, suc, ◌+◌, ◌-◌, ◌≤◌, ◌<◌}
+use Prim.Native.Nat.{ℕ, suc, ◌+◌, ◌≤◌, ◌<◌}
 use native.Mathlib.Omega.{arith}
 use lib.ListN.{length}
 use Rattle.definition.specs.Chars.{◌is◌, code, next}
 use Rattle.definition.specs.Escapes.{Naming, Fault, Read, got, refused}
-use Rattle.definition.specs.Body.{Piece, goes, calls, ends, filled, Field, formatted, fresh, text_move, field_move, finished, specified, first_end, text_n, field_n, spec_n, enough}
+use Rattle.definition.specs.Body.{Piece, goes, calls, ends, filled, Field, formatted, fresh, text_move, field_move, finished, specified, first_end, text_n, field_n, spec_n}
 use Rattle.definition.proofs.Moves.CharLaws.{next_past, next_in}
 use Rattle.definition_laws.proofs.Moves.Steps.{text_goes, text_ends, text_got, text_refused, field_goes, field_ends, field_got, field_refused, first_piece, spec_calls, spec_ends}
 use Rattle.definition_laws.proofs.Moves.Fuel.{first_in_lem, text_fuel, field_fuel, spec_fuel}

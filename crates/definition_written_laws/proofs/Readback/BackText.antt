@@ -8,7 +8,7 @@ use lib.Dec.{ltb, leb, eqb}
 use lib.ListN.{length, drop, length-drop, length-append}
 use lib.Seq.{drop-cons, get_or-drop, drop-drop, take-append_seam, drop-append_seam}
 use borrow.Author.Tests.{ltb-true, ltb-false, lt-leb, eqb-true, ne_eqb}
-use Rattle.definition.specs.Chars.{◌is◌, byte, part, code, next, char, utf8}
+use Rattle.definition.specs.Chars.{byte, part, code, next, char, utf8}
 use Rattle.definition.specs.Escapes.{Naming, got, stands, simple, hex, escape_case, escape, hex_digit, hex_from, scalar, encode, meant}
 use Rattle.definition.specs.Body.{Piece, goes, TextCase, doubled, too_deep, text_case, text_move, with_escape}
 use Rattle.definition_written.specs.Written.{Where, top, early, late, spelled_byte, spelled_text}

@@ -1,8 +1,8 @@
--- The spelling of well_formed_lem texts is well_formed_lem. Assumes nothing.
+-- The spelling of well-formed texts is well-formed. Assumes nothing.
 use mathlib.Core.Path.{◌≡◌, refl, sym, ◌∙◌, ap, subst}
 use mathlib.Core.Bool.{true}
 use mathlib.Core.List.{List, [], ◌∷◌, ◌++◌, append_assoc, append-nil}
-use Prim.Native.Nat.{ℕ, zero, suc, ◌+◌, ◌≤◌, ◌<◌}
+use Prim.Native.Nat.{ℕ, zero, suc, ◌≤◌, ◌<◌}
 use native.Mathlib.Omega.{arith}
 use lib.Dec.{ltb, eqb}
 use lib.ListN.{length}
@@ -79,7 +79,7 @@ conversion_chars (suc c) h =
     let u : (suc c is "sar") ≡ true = rw (ne_eqb (suc c) 0 (λ z. omega arith)) at h in
     ascii_more 33 (omega arith) (ascii_more (suc c) (one_of_lem (λ x. x < 0x80) "sar" (suc c) (omega arith, (omega arith, (omega arith, tt))) u) no_char)
 
--- ALL THAT IS HELD: texts and expressions are well_formed_lem, and conversions are such
+-- ALL THAT IS HELD: texts and expressions are well-formed, and conversions are such
 abbrev pub Proper : Content → Type 0
 Proper empty = Unit {0}
 Proper (says t p) = Chars t × Proper p
