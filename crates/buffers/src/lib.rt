@@ -1,7 +1,14 @@
 // Writes into lent buffers: what would stand past the end is left out.
-ghost use Rattle.std.specs.Prelude.{◌≡◌, [], ◌∷◌, ◌-◌, min, length, replicate};
+#![tactic(auto)]
+
+ghost use Rattle.std.specs.Prelude.{◌≡◌, [], ◌∷◌, ◌-◌, ◌<◌, IfOk, min, length, take, replicate};
+ghost use Rattle.std.specs.Io.{ReadsAtMost};
+ghost use Rattle.std.specs.Io.KnownBytes.{Consumes, IsAtEnd};
 ghost use Rattle.definition.specs.Chars.{part};
 ghost use Rattle.buffers.specs.Over.{over};
+
+use std::io;
+use std::io::Read;
 
 // The lesser of two numbers.
 pub fn least(a: usize, b: usize) -> usize
@@ -98,4 +105,21 @@ pub fn add_spaces(text: &mut [u8], used: usize, count: usize)
     let from = least(used, text.len());
     let to = from + least(count, text.len() - from);
     fill(&mut text[from..to], b' ');
+}
+
+// Reads until a buffer is full or the input ends, and says how many bytes that is.
+pub fn read_full<R: Read>(input: &mut R, buffer: &mut [u8]) -> io::Result<usize>
+    ensures bound { ReadsAtMost result buffer.new }
+    ensures bytes { IfOk result (λ n. Consumes (R.remaining input.old) (R.remaining input.new) (take n buffer.new)) }
+    ensures end { IfOk result (λ n. n < length buffer.new → IsAtEnd (R.remaining input.new)) }
+{
+    let mut done = 0;
+    while done < buffer.len() {
+        let n = input.read(&mut buffer[done..])?;
+        if n == 0 {
+            return Ok(done);
+        }
+        done += n;
+    }
+    Ok(done)
 }

@@ -1,11 +1,14 @@
 // Reads one body of an f-string from standard input and writes its lines.
-use libc::{STDIN_FILENO, STDOUT_FILENO};
+#![tactic(auto)]
+
+use buffers::read_full;
+use std::io;
 
 // A body has at most 1,024 bytes; one more shows that it is too long.
-fn main() {
+fn main(rt: HostRuntime) -> io::Result<()> {
     let mut body = [0; 1025];
-    let n = io::read_full(STDIN_FILENO, &mut body);
+    let n = read_full(&mut rt.stdin(), &mut body)?;
     let mut out = [0; lines::LONGEST];
     let used = lines::body_lines(&body[..n], &mut out);
-    io::write_all(STDOUT_FILENO, &out[..used]);
+    rt.write_all(&out[..used])
 }

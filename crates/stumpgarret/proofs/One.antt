@@ -75,7 +75,7 @@ scripts_one look look' script buffer script' buffer' answer left c c' =
     (λ k. sym (twelve_word (fields_numbers (fields_into look script buffer).listed) k)
     ∙ ap (λ l. word l k) (sym c.numbered ∙ c'.numbered)
     ∙ twelve_word (fields_numbers (fields_into look' script' buffer').listed) k)
-    (sym c.rows_left ∙ c'.rows_left_lem)
+    (sym c.rows_left_lem ∙ c'.rows_left_lem)
 
 pub replays_one : (look look' : Naming) (script ns trace words text output script' ns' trace' words' text' output' answer left-words left-text left-output : List ℕ)
     → ReplayIs (replay_numbers look script ns trace words text output) answer left-words left-text left-output

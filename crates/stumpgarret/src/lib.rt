@@ -1,4 +1,6 @@
-// The C interface: flat numbers in, twelve numbers out.
+// The calls of the C interface, which stumpgarret_c exports: flat numbers in, twelve numbers out.
+#![tactic(auto)]
+
 ghost use Rattle.std.specs.Prelude.{◌≡◌, [], ◌∷◌};
 ghost use Rattle.definition.specs.Escapes.{held_names};
 ghost use Rattle.definition.specs.Reading.{read_numbers};
@@ -25,8 +27,7 @@ use revisions::compare;
 use strings::{parse_named, parse_searched, parse_signs, parse_strings};
 
 // Reads the literals whose numbers are listed, six for each, from a script into both buffers, and answers in twelve numbers.
-#[unsafe(no_mangle)]
-pub extern "C" fn stumpgarret_read(
+pub fn stumpgarret_read(
     script: &[u8],
     literals: &[u32],
     words: &mut [u32],
@@ -39,50 +40,35 @@ pub extern "C" fn stumpgarret_read(
 }
 
 // Reads the literals as `stumpgarret_read` does, writes the row of each field, ten numbers for each, and answers in twelve numbers.
-#[unsafe(no_mangle)]
-pub extern "C" fn stumpgarret_signs(
-    script: &[u8],
-    literals: &[u32],
-    rows: &mut [u32],
-    answer: &mut [u32; 12],
-)
+pub fn stumpgarret_signs(script: &[u8], literals: &[u32], rows: &mut [u32], answer: &mut [u32; 12])
     ensures { SignsIs (signs_numbers held_names script.now literals.now rows.old) answer.new rows.new }
 {
     *answer = answers::of_reading(parse_signs(script, literals, rows));
 }
 
 // Lists the adjacent literals of a script from an offset on, six numbers for each, and answers in twelve numbers.
-#[unsafe(no_mangle)]
-pub extern "C" fn stumpgarret_literals(
-    script: &[u8],
-    offset: u32,
-    numbers: &mut [u32],
-    answer: &mut [u32; 12],
-)
+pub fn stumpgarret_literals(script: &[u8], offset: u32, numbers: &mut [u32], answer: &mut [u32; 12])
     ensures { ListIs (literals_into script.now offset numbers.old) answer.new numbers.new }
 {
     *answer = twelve::of_literals(list_literals(script, offset, numbers));
 }
 
 // Lists every literal of a script, six numbers for each, and answers in twelve numbers.
-#[unsafe(no_mangle)]
-pub extern "C" fn stumpgarret_cut(script: &[u8], numbers: &mut [u32], answer: &mut [u32; 12])
+pub fn stumpgarret_cut(script: &[u8], numbers: &mut [u32], answer: &mut [u32; 12])
     ensures { ListIs (cut_into script.now numbers.old) answer.new numbers.new }
 {
     *answer = twelve::of_literals(list_cut(script, numbers));
 }
 
 // Lists every field of a script, a row of ten numbers for each, and answers in twelve numbers.
-#[unsafe(no_mangle)]
-pub extern "C" fn stumpgarret_fields(script: &[u8], rows: &mut [u32], answer: &mut [u32; 12])
+pub fn stumpgarret_fields(script: &[u8], rows: &mut [u32], answer: &mut [u32; 12])
     ensures { FieldsIs (fields_into held_names script.now rows.old) answer.new rows.new }
 {
     *answer = answers::of_fields(list_fields(script, rows));
 }
 
 // Lists them as `stumpgarret_fields` does, with the names of a file, which is checked with its index once.
-#[unsafe(no_mangle)]
-pub extern "C" fn stumpgarret_fields_named(
+pub fn stumpgarret_fields_named(
     script: &[u8],
     file: &[u8],
     index: &[u32],
@@ -95,24 +81,21 @@ pub extern "C" fn stumpgarret_fields_named(
 }
 
 // Builds the index of a file of names at the front of a list, and answers in twelve numbers.
-#[unsafe(no_mangle)]
-pub extern "C" fn stumpgarret_names_build(file: &[u8], index: &mut [u32], answer: &mut [u32; 12])
+pub fn stumpgarret_names_build(file: &[u8], index: &mut [u32], answer: &mut [u32; 12])
     ensures { IndexIs (build_into file.now index.old) answer.new index.new }
 {
     *answer = twelve::of_index(names::build(file, index));
 }
 
 // Checks that a list is the index of a file of names, and answers in twelve numbers.
-#[unsafe(no_mangle)]
-pub extern "C" fn stumpgarret_names_check(file: &[u8], index: &[u32], answer: &mut [u32; 12])
+pub fn stumpgarret_names_check(file: &[u8], index: &[u32], answer: &mut [u32; 12])
     ensures { answer.new ≡ twelve (index_numbers (check file.now index.now)) }
 {
     *answer = twelve::of_index(names::check(file, index));
 }
 
 // Reads the literals as `stumpgarret_read` does, with the names of a file, which is checked with its index after the entry checks.
-#[unsafe(no_mangle)]
-pub extern "C" fn stumpgarret_read_named(
+pub fn stumpgarret_read_named(
     script: &[u8],
     literals: &[u32],
     file: &[u8],
@@ -127,8 +110,7 @@ pub extern "C" fn stumpgarret_read_named(
 }
 
 // Reads the literals as `stumpgarret_read` does, with names searched in a file by whatever index is lent.
-#[unsafe(no_mangle)]
-pub extern "C" fn stumpgarret_read_searched(
+pub fn stumpgarret_read_searched(
     script: &[u8],
     literals: &[u32],
     file: &[u8],
@@ -143,8 +125,7 @@ pub extern "C" fn stumpgarret_read_searched(
 }
 
 // Replays a trace through the template that the literals are, reading it into words and text, a line for each row, and answers in twelve numbers.
-#[unsafe(no_mangle)]
-pub extern "C" fn stumpgarret_replay(
+pub fn stumpgarret_replay(
     script: &[u8],
     literals: &[u32],
     trace: &[u8],
@@ -159,8 +140,7 @@ pub extern "C" fn stumpgarret_replay(
 }
 
 // Tells the parts of a format specification in twelve numbers.
-#[unsafe(no_mangle)]
-pub extern "C" fn stumpgarret_spec(spec: &[u8], answer: &mut [u32; 12])
+pub fn stumpgarret_spec(spec: &[u8], answer: &mut [u32; 12])
     ensures { answer.new ≡ spec_numbers spec.now }
 {
     *answer = formats::tell(spec);
@@ -168,8 +148,7 @@ pub extern "C" fn stumpgarret_spec(spec: &[u8], answer: &mut [u32; 12])
 
 // Compares two answers that were read, each lent as its words, its text and the twelve numbers of its reading, lists what lies between by item number, and answers
 // in twelve numbers.
-#[unsafe(no_mangle)]
-pub extern "C" fn stumpgarret_compare(
+pub fn stumpgarret_compare(
     words: &[u32],
     text: &[u8],
     reading: &[u32; 12],
@@ -185,8 +164,7 @@ pub extern "C" fn stumpgarret_compare(
 }
 
 // Writes the body of a joined answer, which is lent as its words, its text and the twelve numbers of its reading, and answers in twelve numbers.
-#[unsafe(no_mangle)]
-pub extern "C" fn stumpgarret_write(
+pub fn stumpgarret_write(
     words: &[u32],
     text: &[u8],
     reading: &[u32; 12],
@@ -199,26 +177,14 @@ pub extern "C" fn stumpgarret_write(
 }
 
 // Checks cut offsets in a body of kind 1 whose pieces may have so many bytes, and answers in twelve numbers.
-#[unsafe(no_mangle)]
-pub extern "C" fn stumpgarret_cuts_check(
-    body: &[u8],
-    limit: u32,
-    offsets: &[u32],
-    answer: &mut [u32; 12],
-)
+pub fn stumpgarret_cuts_check(body: &[u8], limit: u32, offsets: &[u32], answer: &mut [u32; 12])
     ensures { answer.new ≡ twelve (checked body.now limit offsets.now ∷ []) }
 {
     *answer = twelve::of_check(cuts::check(body, limit, offsets));
 }
 
 // Plans cuts of a body of kind 1 into pieces of at most so many bytes, at the front of a list, and answers in twelve numbers.
-#[unsafe(no_mangle)]
-pub extern "C" fn stumpgarret_cuts_plan(
-    body: &[u8],
-    limit: u32,
-    offsets: &mut [u32],
-    answer: &mut [u32; 12],
-)
+pub fn stumpgarret_cuts_plan(body: &[u8], limit: u32, offsets: &mut [u32], answer: &mut [u32; 12])
     ensures { PlanIs (plan_into body.now limit offsets.old) answer.new offsets.new }
 {
     *answer = answers::of_plan(plans::plan(body, limit, offsets));

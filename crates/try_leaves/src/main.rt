@@ -1,84 +1,87 @@
 // Tries the leaves on the vectors of standard input, which expected.py made, and writes a line for each of what they gave.
+#![tactic(auto)]
+
+use buffers::read_full;
 use escapes::Escaped;
-use libc::{STDIN_FILENO, STDOUT_FILENO};
+use std::io;
 use utf8::{Cursor, Step};
 
 // Writes a text.
-fn put(text: &[u8]) {
-    io::write_all(STDOUT_FILENO, text);
+fn put(rt: &impl Print, text: &[u8]) -> io::Result<()> {
+    rt.write_all(text)
 }
 
 // Writes a number after a space.
-fn put_number(n: usize) {
-    put(b" ");
-    io::print_decimal(STDOUT_FILENO, n as u64);
+fn put_number(rt: &impl Print, n: usize) -> io::Result<()> {
+    print!(rt; " {n}")
 }
 
 // Each character by `peek` and by `next_char`, and where it ends; then `peek` at the end.
-fn put_chars(s: &[u8]) {
+fn put_chars(rt: &impl Print, s: &[u8]) -> io::Result<()> {
     let mut cursor = Cursor { at: 0 };
     let mut left = s.len();
     while left > 0 {
-        put_number(cursor.peek(s) as usize);
+        put_number(rt, cursor.peek(s) as usize)?;
         let Step::Char(c, next) = cursor.next_char(s) else {
-            return;
+            return Ok(());
         };
-        put_number(c as usize);
-        put_number(next.at);
+        put_number(rt, c as usize)?;
+        put_number(rt, next.at)?;
         cursor = next;
         left -= 1;
     }
-    put_number(cursor.peek(s) as usize);
+    put_number(rt, cursor.peek(s) as usize)
 }
 
 // What an escape stands for, and its numbers.
-fn put_escaped(answer: Escaped) {
+fn put_escaped(rt: &impl Print, answer: Escaped) -> io::Result<()> {
     match answer {
         Escaped::Code(c, k) => {
-            put(b"code");
-            put_number(c as usize);
-            put_number(k.at);
+            put(rt, b"code")?;
+            put_number(rt, c as usize)?;
+            put_number(rt, k.at)
         }
         Escaped::Kept(k) => {
-            put(b"kept");
-            put_number(k.at);
+            put(rt, b"kept")?;
+            put_number(rt, k.at)
         }
         Escaped::Gone(k) => {
-            put(b"gone");
-            put_number(k.at);
+            put(rt, b"gone")?;
+            put_number(rt, k.at)
         }
         Escaped::Refused(r) => {
-            put(b"refused");
-            put_number(r.number as usize);
-            put_number(r.at);
+            put(rt, b"refused")?;
+            put_number(rt, r.number as usize)?;
+            put_number(rt, r.at)
         }
     }
 }
 
-// One vector: `b` the class of each byte, `c` the well_formed_lem prefix, the bytes that begin a character and the characters, else the escape of a kind at an index.
-fn try_one(sort: u8, kind: u8, at: usize, s: &[u8]) {
+// One vector: `b` the class of each byte, `c` the well-formed prefix, the bytes that begin a character and the characters, else the escape of a kind at an index.
+fn try_one(rt: &impl Print, sort: u8, kind: u8, at: usize, s: &[u8]) -> io::Result<()> {
     match sort {
         b'b' => {
-            put(b"class");
+            put(rt, b"class")?;
             if 0 < s.len() {
-                put_number(utf8::class(s[0]));
+                put_number(rt, utf8::class(s[0]))?;
             }
         }
         b'c' => {
-            put(b"formed");
+            put(rt, b"formed")?;
             let formed = prefixes::well_formed(s);
-            put_number(formed.len);
-            put_number(formed.chars);
-            put_number(counts::heads(s));
-            put_chars(s);
+            put_number(rt, formed.len)?;
+            put_number(rt, formed.chars)?;
+            put_number(rt, counts::heads(s))?;
+            put_chars(rt, s)?;
         }
         _ => {
             let file = [0u8; 0];
             let index = [0u32; 0];
-            put_escaped(escapes::parse_escaped_char(s, Cursor { at }, kind as u32, &file, &index));
+            let answer = escapes::parse_escaped_char(s, Cursor { at }, kind as u32, &file, &index);
+            put_escaped(rt, answer)?;
         }
     }
-    put(b"\n");
+    put(rt, b"\n")
 }
 
 // A byte as a number.
@@ -87,27 +90,29 @@ fn wide(b: u8) -> usize {
 }
 
 // A vector is four bytes, its sort, kind, index and length, and so many bytes.
-fn try_all(input: &[u8]) {
+fn try_all(rt: &impl Print, input: &[u8]) -> io::Result<()> {
     let mut i = 0;
     while i < input.len() {
         let left = input.len() - i;
         if left < 4 {
-            return;
+            return Ok(());
         }
         let from = i + 4;
         let len = wide(input[i + 3]);
         if left - 4 < len {
-            return;
+            return Ok(());
         }
         let to = from + len;
-        try_one(input[i], input[i + 1], wide(input[i + 2]), &input[from..to]);
+        let at = wide(input[i + 2]);
+        try_one(rt, input[i], input[i + 1], at, &input[from..to])?;
         i = to;
     }
+    Ok(())
 }
 
 // All of standard input, as much as fits.
-fn main() {
-    let mut space = io::large_buffer();
-    let n = io::read_full(STDIN_FILENO, &mut space);
-    try_all(&space[..n]);
+fn main(rt: HostRuntime) -> io::Result<()> {
+    let mut space = [0; 65536];
+    let n = read_full(&mut rt.stdin(), &mut space)?;
+    try_all(&rt, &space[..n])
 }

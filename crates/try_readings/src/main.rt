@@ -5,9 +5,12 @@
 // case: how many list numbers and script pieces it has and how many words and text bytes it lends, the list, and the pieces. A
 // piece is how often it stands in the script, how many bytes it has, and the bytes. What is written of a case is three lines: the
 // twelve numbers, the words and the text as they are afterwards, where N*C stands for N elements that are C.
+#![tactic(auto)]
+
 ghost use Rattle.std.specs.Prelude.{◌≤◌, ◌≡◌, length};
 
-use libc::{STDIN_FILENO, STDOUT_FILENO};
+use buffers::read_full;
+use std::io;
 use stumpgarret::stumpgarret_read;
 
 const FILL_WORD: u32 = 0xA5A5A5A5;
@@ -85,7 +88,7 @@ fn put_times(script: &mut [u8], from: usize, piece: &[u8], times: u32) -> usize 
 }
 
 // How far the input and the script are used.
-#[derive(Drop)]
+#[derive(Clone, Copy)]
 struct Taken {
     at: usize,
     used: usize,
@@ -113,102 +116,107 @@ fn take_script(input: &[u8], from: usize, count: u32, script: &mut [u8]) -> Take
 }
 
 // Writes a text.
-fn put(text: &[u8]) {
-    io::write_all(STDOUT_FILENO, text);
+fn put(rt: &impl Print, text: &[u8]) -> io::Result<()> {
+    rt.write_all(text)
 }
 
 // A run of equal elements.
-#[derive(Drop)]
+#[derive(Clone, Copy)]
 struct Run {
     count: u32,
     element: u32,
 }
 
 // Writes a run after a space; of none, nothing.
-fn put_run(run: Run) {
-    if run.count == 0 {
-        return;
+fn put_run(rt: &impl Print, run: Run) -> io::Result<()> {
+    let count = run.count;
+    let element = run.element;
+    match count {
+        0 => Ok(()),
+        1 => print!(rt; " {element}"),
+        _ => print!(rt; " {count}*{element}"),
     }
-    put(b" ");
-    if run.count != 1 {
-        io::print_decimal(STDOUT_FILENO, run.count as u64);
-        put(b"*");
-    }
-    io::print_decimal(STDOUT_FILENO, run.element as u64);
 }
 
 // The run with one more element; if that is another one, the run is written and a new one begins.
-fn next(run: Run, element: u32) -> Run {
+fn next(rt: &impl Print, run: Run, element: u32) -> io::Result<Run> {
     if element == run.element {
         if run.count < 0xFFFFFFFF {
-            return Run {
+            return Ok(Run {
                 count: run.count + 1,
                 element,
-            };
+            });
         }
     }
-    put_run(run);
-    Run { count: 1, element }
+    put_run(rt, run)?;
+    Ok(Run { count: 1, element })
 }
 
 // Writes words in a line, as runs.
-fn put_words(words: &[u32]) {
+fn put_words(rt: &impl Print, words: &[u32]) -> io::Result<()> {
     let mut run = Run {
         count: 0,
         element: 0,
     };
     let mut i = 0;
     while i < words.len() {
-        run = next(run, words[i]);
+        run = next(rt, run, words[i])?;
         i += 1;
     }
-    put_run(run);
-    put(b"\n");
+    put_run(rt, run)?;
+    put(rt, b"\n")
 }
 
 // Writes bytes in a line, as runs.
-fn put_bytes(bytes: &[u8]) {
+fn put_bytes(rt: &impl Print, bytes: &[u8]) -> io::Result<()> {
     let mut run = Run {
         count: 0,
         element: 0,
     };
     let mut i = 0;
     while i < bytes.len() {
-        run = next(run, wide(bytes[i]));
+        run = next(rt, run, wide(bytes[i]))?;
         i += 1;
     }
-    put_run(run);
-    put(b"\n");
+    put_run(rt, run)?;
+    put(rt, b"\n")
 }
 
 // Writes the twelve numbers in a line.
-fn put_answer(answer: &[u32; 12]) {
-    put(b"answer");
-    put_words(answer);
+fn put_answer(rt: &impl Print, answer: &[u32; 12]) -> io::Result<()> {
+    put(rt, b"answer")?;
+    put_words(rt, answer)
 }
 
 // Reads a case with filled buffers, and writes what it gave.
-fn read_case(script: &[u8], list: &[u32], words: &mut [u32], text: &mut [u8]) {
+fn read_case(
+    rt: &impl Print,
+    script: &[u8],
+    list: &[u32],
+    words: &mut [u32],
+    text: &mut [u8],
+) -> io::Result<()> {
     let mut answer = [FILL_WORD; 12];
     buffers::fill_words(words, FILL_WORD);
     buffers::fill(text, FILL_BYTE);
     stumpgarret_read(script, list, words, text, &mut answer);
-    put_answer(&answer);
-    put(b"words");
-    put_words(words);
-    put(b"text");
-    put_bytes(text);
+    put_answer(rt, &answer)?;
+    put(rt, b"words")?;
+    put_words(rt, words)?;
+    put(rt, b"text")?;
+    put_bytes(rt, text)
 }
 
 // Takes a case and reads it, and says where the next one begins.
 fn run_case(
+    rt: &impl Print,
     input: &[u8],
     at: usize,
     list: &mut [u32],
     script: &mut [u8],
     words: &mut [u32],
     text: &mut [u8],
-) -> usize {
+) -> io::Result<usize> {
     let numbers = number_at(input, at);
     let pieces = number_at(input, forward(input, at, 4));
     let lent_words = number_at(input, forward(input, at, 8)) as usize;
@@ -220,31 +228,33 @@ fn run_case(
     let words_end = least(lent_words, words.len());
     let text_end = least(lent_bytes, text.len());
     read_case(
+        rt,
         &script[..script_end],
         &list[..list_end],
         &mut words[..words_end],
         &mut text[..text_end],
-    );
-    taken.at
+    )?;
+    Ok(taken.at)
 }
 
 // Every case of the list that begins at an index; says where the list ends.
 fn run_list(
+    rt: &impl Print,
     input: &[u8],
     from: usize,
     list: &mut [u32],
     script: &mut [u8],
     words: &mut [u32],
     text: &mut [u8],
-) -> usize {
+) -> io::Result<usize> {
     let count = number_at(input, from);
     let mut at = forward(input, from, 4);
     let mut i = 0;
     while i < count {
-        at = run_case(input, at, list, script, words, text);
+        at = run_case(rt, input, at, list, script, words, text)?;
         i += 1;
     }
-    at
+    Ok(at)
 }
 
 // Room for a body of 1 MiB and some more.
@@ -268,27 +278,30 @@ fn records() -> [u32; 65536]
     [0; 65536]
 }
 
-fn main() {
+fn main(rt: HostRuntime) -> io::Result<()> {
     let mut input = large();
     let mut list = numbers();
     let mut script = large();
     let mut words = records();
     let mut text = large();
-    let n = io::read_full(STDIN_FILENO, &mut input);
+    let n = read_full(&mut rt.stdin(), &mut input)?;
     let rest = run_list(
+        &rt,
         &input[..n],
         0,
         &mut list,
         &mut script,
         &mut words,
         &mut text,
-    );
+    )?;
     run_list(
+        &rt,
         &input[..n],
         rest,
         &mut list,
         &mut script,
         &mut words,
         &mut text,
-    );
+    )?;
+    Ok(())
 }

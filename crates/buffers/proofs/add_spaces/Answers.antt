@@ -1,0 +1,10 @@
+use borrow.Author.Rules.{rules}
+use native.Mathlib.Omega.{arith}
+use Prim.Native.Nat.{◌+◌, ◌-◌}
+use Rattle.buffers.proofs.Over.{over_filled}
+use Rattle.buffers.proofs.add_spaces.Goals as goal
+
+pub returns : goal.returns
+returns c =
+    let from = c.least-from.result in
+    over_filled _ _ from (from + c.least.result - from) c.args.count 32 c.least-from.ensures (omega arith) c.fill.ensures

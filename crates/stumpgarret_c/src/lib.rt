@@ -1,0 +1,221 @@
+// The C interface: each call of stumpgarret under its name, as the static library exports it.
+#![tactic(auto)]
+
+ghost use Rattle.std.specs.Prelude.{◌≡◌, [], ◌∷◌};
+ghost use Rattle.definition.specs.Escapes.{held_names};
+ghost use Rattle.definition.specs.Reading.{read_numbers};
+ghost use Rattle.definition.specs.Rows.{signs_numbers};
+ghost use Rattle.definition_scripts.specs.Literals.{literals_into};
+ghost use Rattle.definition_scripts.specs.CutList.{cut_into};
+ghost use Rattle.definition_scripts.specs.Listing.{fields_into};
+ghost use Rattle.definition_names.specs.Names.{check, build_into, index_numbers, searched};
+ghost use Rattle.definition_names.specs.NamedReading.{named_numbers, fields_named_into};
+ghost use Rattle.definition_replay.specs.SpecNumbers.{spec_numbers};
+ghost use Rattle.definition_replay.specs.Replay.{replay_numbers};
+ghost use Rattle.definition_formed.specs.Formed.{lent};
+ghost use Rattle.definition_revisions.specs.Revisions.{compare_into};
+ghost use Rattle.definition_written.specs.Written.{written_into};
+ghost use Rattle.definition_cuts.specs.Cuts.{checked};
+ghost use Rattle.definition_cuts.specs.Plan.{plan_into};
+ghost use Rattle.answers.specs.Twelve.{twelve};
+ghost use Rattle.stumpgarret.specs.Calls.{CallIs, SignsIs, ListIs, FieldsIs, IndexIs, ReplayIs, CompareIs, WriteIs, PlanIs};
+
+// Reads the literals whose numbers are listed, six for each, from a script into both buffers, and answers in twelve numbers.
+#[unsafe(no_mangle)]
+pub extern "C" fn stumpgarret_read(
+    script: &[u8],
+    literals: &[u32],
+    words: &mut [u32],
+    text: &mut [u8],
+    answer: &mut [u32; 12],
+)
+    ensures { CallIs (read_numbers held_names script.now literals.now words.old text.old) answer.new words.new text.new }
+{
+    stumpgarret::stumpgarret_read(script, literals, words, text, answer);
+}
+
+// Reads the literals as `stumpgarret_read` does, writes the row of each field, ten numbers for each, and answers in twelve numbers.
+#[unsafe(no_mangle)]
+pub extern "C" fn stumpgarret_signs(
+    script: &[u8],
+    literals: &[u32],
+    rows: &mut [u32],
+    answer: &mut [u32; 12],
+)
+    ensures { SignsIs (signs_numbers held_names script.now literals.now rows.old) answer.new rows.new }
+{
+    stumpgarret::stumpgarret_signs(script, literals, rows, answer);
+}
+
+// Lists the adjacent literals of a script from an offset on, six numbers for each, and answers in twelve numbers.
+#[unsafe(no_mangle)]
+pub extern "C" fn stumpgarret_literals(
+    script: &[u8],
+    offset: u32,
+    numbers: &mut [u32],
+    answer: &mut [u32; 12],
+)
+    ensures { ListIs (literals_into script.now offset numbers.old) answer.new numbers.new }
+{
+    stumpgarret::stumpgarret_literals(script, offset, numbers, answer);
+}
+
+// Lists every literal of a script, six numbers for each, and answers in twelve numbers.
+#[unsafe(no_mangle)]
+pub extern "C" fn stumpgarret_cut(script: &[u8], numbers: &mut [u32], answer: &mut [u32; 12])
+    ensures { ListIs (cut_into script.now numbers.old) answer.new numbers.new }
+{
+    stumpgarret::stumpgarret_cut(script, numbers, answer);
+}
+
+// Lists every field of a script, a row of ten numbers for each, and answers in twelve numbers.
+#[unsafe(no_mangle)]
+pub extern "C" fn stumpgarret_fields(script: &[u8], rows: &mut [u32], answer: &mut [u32; 12])
+    ensures { FieldsIs (fields_into held_names script.now rows.old) answer.new rows.new }
+{
+    stumpgarret::stumpgarret_fields(script, rows, answer);
+}
+
+// Lists them as `stumpgarret_fields` does, with the names of a file, which is checked with its index once.
+#[unsafe(no_mangle)]
+pub extern "C" fn stumpgarret_fields_named(
+    script: &[u8],
+    file: &[u8],
+    index: &[u32],
+    rows: &mut [u32],
+    answer: &mut [u32; 12],
+)
+    ensures { FieldsIs (fields_named_into file.now index.now script.now rows.old) answer.new rows.new }
+{
+    stumpgarret::stumpgarret_fields_named(script, file, index, rows, answer);
+}
+
+// Builds the index of a file of names at the front of a list, and answers in twelve numbers.
+#[unsafe(no_mangle)]
+pub extern "C" fn stumpgarret_names_build(file: &[u8], index: &mut [u32], answer: &mut [u32; 12])
+    ensures { IndexIs (build_into file.now index.old) answer.new index.new }
+{
+    stumpgarret::stumpgarret_names_build(file, index, answer);
+}
+
+// Checks that a list is the index of a file of names, and answers in twelve numbers.
+#[unsafe(no_mangle)]
+pub extern "C" fn stumpgarret_names_check(file: &[u8], index: &[u32], answer: &mut [u32; 12])
+    ensures { answer.new ≡ twelve (index_numbers (check file.now index.now)) }
+{
+    stumpgarret::stumpgarret_names_check(file, index, answer);
+}
+
+// Reads the literals as `stumpgarret_read` does, with the names of a file, which is checked with its index after the entry checks.
+#[unsafe(no_mangle)]
+pub extern "C" fn stumpgarret_read_named(
+    script: &[u8],
+    literals: &[u32],
+    file: &[u8],
+    index: &[u32],
+    words: &mut [u32],
+    text: &mut [u8],
+    answer: &mut [u32; 12],
+)
+    ensures { CallIs (named_numbers file.now index.now script.now literals.now words.old text.old) answer.new words.new text.new }
+{
+    stumpgarret::stumpgarret_read_named(script, literals, file, index, words, text, answer);
+}
+
+// Reads the literals as `stumpgarret_read` does, with names searched in a file by whatever index is lent.
+#[unsafe(no_mangle)]
+pub extern "C" fn stumpgarret_read_searched(
+    script: &[u8],
+    literals: &[u32],
+    file: &[u8],
+    index: &[u32],
+    words: &mut [u32],
+    text: &mut [u8],
+    answer: &mut [u32; 12],
+)
+    ensures { CallIs (read_numbers (searched file.now index.now) script.now literals.now words.old text.old) answer.new words.new text.new }
+{
+    stumpgarret::stumpgarret_read_searched(script, literals, file, index, words, text, answer);
+}
+
+// Replays a trace through the template that the literals are, reading it into words and text, a line for each row, and answers in twelve numbers.
+#[unsafe(no_mangle)]
+pub extern "C" fn stumpgarret_replay(
+    script: &[u8],
+    literals: &[u32],
+    trace: &[u8],
+    words: &mut [u32],
+    text: &mut [u8],
+    output: &mut [u8],
+    answer: &mut [u32; 12],
+)
+    ensures { ReplayIs (replay_numbers held_names script.now literals.now trace.now words.old text.old output.old) answer.new words.new text.new output.new }
+{
+    stumpgarret::stumpgarret_replay(script, literals, trace, words, text, output, answer);
+}
+
+// Tells the parts of a format specification in twelve numbers.
+#[unsafe(no_mangle)]
+pub extern "C" fn stumpgarret_spec(spec: &[u8], answer: &mut [u32; 12])
+    ensures { answer.new ≡ spec_numbers spec.now }
+{
+    stumpgarret::stumpgarret_spec(spec, answer);
+}
+
+// Compares two answers that were read, each lent as its words, its text and the twelve numbers of its reading, lists what lies between by item number, and answers
+// in twelve numbers.
+#[unsafe(no_mangle)]
+pub extern "C" fn stumpgarret_compare(
+    words: &[u32],
+    text: &[u8],
+    reading: &[u32; 12],
+    others: &[u32],
+    other: &[u8],
+    figures: &[u32; 12],
+    list: &mut [u32],
+    answer: &mut [u32; 12],
+)
+    ensures { CompareIs (compare_into (lent reading.now words.now text.now) (lent figures.now others.now other.now) list.old) answer.new list.new }
+{
+    stumpgarret::stumpgarret_compare(words, text, reading, others, other, figures, list, answer);
+}
+
+// Writes the body of a joined answer, which is lent as its words, its text and the twelve numbers of its reading, and answers in twelve numbers.
+#[unsafe(no_mangle)]
+pub extern "C" fn stumpgarret_write(
+    words: &[u32],
+    text: &[u8],
+    reading: &[u32; 12],
+    body: &mut [u8],
+    answer: &mut [u32; 12],
+)
+    ensures { WriteIs (written_into held_names (lent reading.now words.now text.now) body.old) answer.new body.new }
+{
+    stumpgarret::stumpgarret_write(words, text, reading, body, answer);
+}
+
+// Checks cut offsets in a body of kind 1 whose pieces may have so many bytes, and answers in twelve numbers.
+#[unsafe(no_mangle)]
+pub extern "C" fn stumpgarret_cuts_check(
+    body: &[u8],
+    limit: u32,
+    offsets: &[u32],
+    answer: &mut [u32; 12],
+)
+    ensures { answer.new ≡ twelve (checked body.now limit offsets.now ∷ []) }
+{
+    stumpgarret::stumpgarret_cuts_check(body, limit, offsets, answer);
+}
+
+// Plans cuts of a body of kind 1 into pieces of at most so many bytes, at the front of a list, and answers in twelve numbers.
+#[unsafe(no_mangle)]
+pub extern "C" fn stumpgarret_cuts_plan(
+    body: &[u8],
+    limit: u32,
+    offsets: &mut [u32],
+    answer: &mut [u32; 12],
+)
+    ensures { PlanIs (plan_into body.now limit offsets.old) answer.new offsets.new }
+{
+    stumpgarret::stumpgarret_cuts_plan(body, limit, offsets, answer);
+}
