@@ -1,4 +1,6 @@
 // A literal that is read alone, and its rows written behind so many: those of its fields, or its refusal, with 76 before them.
+#![tactic(auto)]
+
 ghost use Rattle.std.specs.Prelude.{◌≡◌, true, ◌<◌};
 ghost use Rattle.definition.specs.Numbers.{is_fstring};
 ghost use Rattle.definition_scripts.specs.Listing.{read_rows, own_rows};
@@ -12,7 +14,7 @@ use strings::parse_window;
 use told::{Told, put_refusal, put_rows, put_unknown};
 
 // What a literal gives that is read alone: so many fields, or its refusal.
-#[derive(Drop)]
+#[derive(Clone, Copy)]
 pub enum Alone {
     Fields(usize),
     Refused(Told),

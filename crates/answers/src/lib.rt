@@ -1,4 +1,6 @@
 // What the calls answer that read literals, list fields, replay a trace, write a body back or plan cuts; and each answer in the twelve numbers of the C interface.
+#![tactic(auto)]
+
 ghost use Rattle.std.specs.Prelude.{◌≡◌};
 ghost use Rattle.answers.specs.Twelve.{twelve, reading_says, fields_says, replay_says, writing_says, plan_says};
 
@@ -12,7 +14,7 @@ const TOO_LITTLE_CUT_ROOM: u32 = 74;
 
 // An acceptance: its sort (0 plain, 1 joined, 2 bytes), u mark, first start, last end, how many records and text bytes it has, and how many
 // characters were read.
-#[derive(Drop)]
+#[derive(Clone, Copy)]
 pub struct Answer {
     pub sort: u32,
     pub mark: u32,
@@ -24,14 +26,14 @@ pub struct Answer {
 }
 
 // An acceptance, or the first refusal.
-#[derive(Drop)]
+#[derive(Clone, Copy)]
 pub enum Outcome {
     Accepted(Answer),
     Refused(Refusal),
 }
 
 // A list: its rows, how many of them are refusals, the literals of the script, and how far it was cut.
-#[derive(Drop)]
+#[derive(Clone, Copy)]
 pub struct List {
     pub rows: u32,
     pub refusals: u32,
@@ -40,7 +42,7 @@ pub struct List {
 }
 
 // A list; or that the script is too long, the number of what is wrong with a file of names or its index, or how many rows a buffer does not hold.
-#[derive(Drop)]
+#[derive(Clone, Copy)]
 pub enum Fields {
     Listed(List),
     TooLong,
@@ -49,7 +51,7 @@ pub enum Fields {
 }
 
 // The lines that were written: the template's reading, how many rows there are, and how many bytes their lines have.
-#[derive(Drop)]
+#[derive(Clone, Copy)]
 pub struct Lines {
     pub reading: Answer,
     pub rows: u32,
@@ -57,14 +59,14 @@ pub struct Lines {
 }
 
 // A refusal of 68 to 73, and what is told of it: the field or the row, from 0, or the bytes that are needed; at most 4,294,967,295.
-#[derive(Drop)]
+#[derive(Clone, Copy)]
 pub struct Stop {
     pub number: u32,
     pub told: u32,
 }
 
 // A replay: the lines; the template's own refusal; or one of 68 to 73.
-#[derive(Drop)]
+#[derive(Clone, Copy)]
 pub enum Replay {
     Replayed(Lines),
     Unread(Refusal),
@@ -72,21 +74,21 @@ pub enum Replay {
 }
 
 // A refusal to write a body back: its number, and how many bytes are needed, 0 for none told.
-#[derive(Drop)]
+#[derive(Clone, Copy)]
 pub struct Unwritten {
     pub number: u32,
     pub needed: u32,
 }
 
 // How many bytes were written, or a refusal.
-#[derive(Drop)]
+#[derive(Clone, Copy)]
 pub enum Writing {
     Wrote(u32),
     Stopped(Unwritten),
 }
 
 // A plan: how many cuts it has; there is none; or the list is short, and how many there are.
-#[derive(Drop)]
+#[derive(Clone, Copy)]
 pub enum Planned {
     Cuts(u32),
     Nothing,

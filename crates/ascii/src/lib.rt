@@ -1,3 +1,5 @@
+#![tactic(auto)]
+
 // Runs of ASCII bytes: how far they go from the front of a text, by blocks. Nothing is written here.
 ghost use Rattle.std.specs.Prelude.{◌≡◌, ◌<◌, ◌≤◌, max, length};
 ghost use Rattle.ascii.specs.Runs.{Ascii, AsciiEnd, all_ascii};

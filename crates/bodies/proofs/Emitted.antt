@@ -1,4 +1,5 @@
 -- Emitting items one by one, and closing what is held, is laying them out. Assumes nothing.
+use Rattle.std.specs.Prelude.{if◌then◌else◌}
 use mathlib.Core.Path.{◌≡◌, refl, sym, ◌∙◌, ap, ap₂}
 use mathlib.Core.Bool.{Bool, true, false, true≢false, false≢true}
 use mathlib.Core.List.{List, [], ◌∷◌, ◌++◌, map}
@@ -6,7 +7,6 @@ use Prim.Native.Nat.{ℕ, zero, suc, ◌+◌, ◌-◌, ◌*◌, ◌≤◌, ◌<�
 use native.Mathlib.Nat.{add-zero}
 use native.Mathlib.Omega.{arith}
 use lib.ListN.{length, length-append}
-use Rattle.definition.specs.Chars.{if◌then◌else◌}
 use Rattle.definition.specs.Records.{Role, top, raw, inner, touching, covers, Item, item, item_of, words_of, glue, merge, both_items, merged, texts, record_at, laid, cover}
 use Rattle.definition.specs.Reading.{all_words}
 use Rattle.definition.specs.Numbers.{is_bytes}

@@ -1,5 +1,6 @@
 -- A list of literals is read one body after the other. Assumes nothing.
-use mathlib.Core.Path.{◌≡◌, refl, sym, ◌∙◌, ap}
+use Rattle.std.specs.Prelude.{if◌then◌else◌}
+use mathlib.Core.Path.{◌≡◌, refl, sym, ◌∙◌, ap, ap₂}
 use mathlib.Core.Bool.{Bool, true, false}
 use mathlib.Core.List.{List, [], ◌∷◌, ◌++◌, map, append-nil, append_assoc}
 use Prim.Native.Nat.{ℕ, ◌+◌, ◌-◌, ◌*◌, ◌≤◌, ◌<◌}
@@ -8,8 +9,9 @@ use native.Mathlib.Omega.{arith}
 use lib.Dec.{eqb}
 use lib.ListN.{length, drop, length-take}
 use Rattle.definition.specs.Numbers.{is_fstring, mismatched_delimiter}
-use Rattle.definition.specs.Chars.{if◌then◌else◌}
 use Rattle.definition.specs.Counts.{counted}
+use Rattle.definition.specs.Counts as dc
+use Rattle.definition.specs.Entry as en
 use Rattle.definition.specs.Escapes.{Naming, Fault, got, refused}
 use Rattle.definition.specs.Escapes as d
 use Rattle.definition.specs.Body.{literal, text_n, string_n, enough, alone, read_body}
@@ -111,6 +113,10 @@ count_fits script l taken k e =
     let h = rw (← e) at (counted_small s taken) in
     (omega arith, omega arith, omega arith)
 
+-- a fault's refusal by what was counted up to it, and the characters before
+abbrev refused_by : ℕ → en.Literal → d.Fault → dc.Count → ℕ → en.Refusal
+refused_by i l x c b = record { number = x.number; literal = i; place = place_of l x.taken; a = x.a; b = x.b; opened = opened_at l x; line = c.line; column = c.column; chars = b + c.chars }
+
 -- a refusal that stands in a literal, after good ones, is told as it is
 pub refused_told : (script ns : List ℕ) (i : ℕ) (l : Descriptor) (x : Refusal) (k : Count) (before : ℕ) → Stands script l x.taken x.opened → First script ns i
     → count_of k ≡ counted (body script (described l)) x.taken → before ≡ all_chars script (literals ns 0 i)
@@ -128,7 +134,7 @@ refused_told script ns i l x k before S F e q =
       chars = omega (arith, f.0, S.small, q, chars_most script (literals ns 0 i), F.short);
     }
     )
-    ∙ rw (e, q) refl
+    ∙ ap₂ (refused_by i (described l) (fault_of x)) e q
   where
     named : (t : Bool) → (if t then place_of (described l) x.opened else 0) < 4294967296
     named true = S.bracket

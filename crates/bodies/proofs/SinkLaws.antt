@@ -1,4 +1,5 @@
 -- What each write does to the counters and buffers is what emitting does. Assumes nothing.
+use Rattle.std.specs.Prelude.{if◌then◌else◌}
 use mathlib.Core.Path.{◌≡◌, refl, sym, ◌∙◌, ap}
 use mathlib.Core.Bool.{Bool, true, false}
 use mathlib.Core.List.{List, [], ◌∷◌, ◌++◌, map, map-append, append_assoc}
@@ -7,7 +8,7 @@ use native.Mathlib.Omega.{arith}
 use lib.ListN.{length, length-append, take, replicate, length-replicate}
 use Rattle.definition.specs.Records.{Item, item, item_of, inner, raw, top, covers, words_of, record_at}
 use Rattle.definition.specs.Numbers.{is_bytes}
-use Rattle.definition.specs.Chars.{if◌then◌else◌, part}
+use Rattle.definition.specs.Chars.{part}
 use Rattle.definition.specs.Body.{Signs, Piece, literal, field, spec, filled, direct, self_documenting}
 use Rattle.buffers.proofs.Over.{over_nil, over_append, over_before, over_part, over_again, length_over}
 use lib.Dec.{eqb}

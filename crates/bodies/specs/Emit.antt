@@ -1,6 +1,5 @@
 -- What writing an item does to the buffers and the counters.
-use Rattle.std.specs.Prelude.{ℕ, ◌+◌, ◌-◌, ◌*◌, ◌≡◌, Bool, true, false, List, [], ◌∷◌, length}
-use Rattle.definition.specs.Chars.{if◌then◌else◌}
+use Rattle.std.specs.Prelude.{ℕ, ◌+◌, ◌-◌, ◌*◌, ◌≡◌, Bool, true, false, List, [], ◌∷◌, length, if◌then◌else◌}
 use Rattle.definition.specs.Records.{Role, Item, covers, words_of, record_at}
 use Rattle.buffers.specs.Over.{over}
 

@@ -1,8 +1,8 @@
 -- A list of literals that is read: what is written of it, and what a call for all of it answers and leaves, by the definition's reading.
-use Rattle.std.specs.Prelude.{ℕ, ◌+◌, ◌*◌, ◌/◌, ◌≤◌, ◌<◌, ◌≡◌, false, List, length, take, drop}
+use Rattle.std.specs.Prelude.{ℕ, ◌+◌, ◌*◌, ◌/◌, ◌≤◌, ◌<◌, ◌≡◌, false, List, length, take, drop, if◌then◌else◌}
 use Rattle.std.proofs.Math.Option.{none, some}
 use Rattle.definition.specs.Numbers.{is_bytes, not_sixes}
-use Rattle.definition.specs.Chars.{if◌then◌else◌, well_formed}
+use Rattle.definition.specs.Chars.{well_formed}
 use Rattle.definition.specs.Records.{Role, top, raw, Item, Answer, answer_of}
 use Rattle.definition.specs.Escapes.{Naming, Fault}
 use Rattle.definition.specs.Entry.{Literal, sixes, opening, place_of, body, Refusal, refusal, moved, total, any_of, first_start}
@@ -61,7 +61,7 @@ pub record Stands (script : List ℕ) (l : Descriptor) (taken opened : ℕ) : Ty
   pub place : place_of (described l) taken < 4294967296
   pub bracket : place_of (described l) opened < 4294967296
 
--- the first k literals are good, well_formed_lem up to their ends, and not too long
+-- the first k literals are good, well-formed up to their ends, and not too long
 pub record First (script ns : List ℕ) (k : ℕ) : Type 0 where
   pub good : (i : ℕ) → i < k → Good script (literal_at ns i)
   pub formed : (i : ℕ) → i < k → let s = body script (literal_at ns i) in length s ≤ well_formed s

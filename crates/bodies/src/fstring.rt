@@ -18,14 +18,14 @@ use texts::{Run, text_run};
 use utf8::Cursor;
 
 // A text, field or spec that was read up to a cursor and written, with the count of fields so far; or a refusal.
-#[derive(Drop)]
+#[derive(Clone, Copy)]
 pub(crate) enum Read {
     Done(Cursor, Sink, usize),
     Refused(Refusal),
 }
 
 // A run of bytes that was written, up to a cursor, and the used length.
-#[derive(Drop)]
+#[derive(Clone, Copy)]
 struct Raw {
     at: Cursor,
     used: usize,

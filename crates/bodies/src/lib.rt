@@ -1,4 +1,6 @@
 // Bodies of literals read to records, one text and rows: the first refusal, or all in order.
+#![tactic(auto)]
+
 mod fstring;
 
 ghost use Rattle.std.specs.Prelude.{◌≡◌, [], ◌<◌, ◌≤◌, length};
@@ -31,7 +33,7 @@ use utf8::Cursor;
 use wholes::{refused_in, text_alone, whole_between};
 
 // A list that was checked, read and written: what its top-level records carry, and how many records, text bytes, fields and characters it has.
-#[derive(Drop)]
+#[derive(Clone, Copy)]
 pub struct Written {
     pub kind: u32,
     pub mark: u32,
@@ -43,14 +45,14 @@ pub struct Written {
     pub chars: u32,
 }
 
-#[derive(Drop)]
+#[derive(Clone, Copy)]
 pub enum Reading {
     Done(Written),
     Refused(entry::Refusal),
 }
 
 // Where a field ends, after its `}`; it is refused; none opens there; or the body is over the size limit.
-#[derive(Drop)]
+#[derive(Clone, Copy)]
 pub enum FieldEnd {
     At(usize),
     Refused,
@@ -59,7 +61,7 @@ pub enum FieldEnd {
 }
 
 // A list that was read and written, with the count of its fields; or the first refusal.
-#[derive(Drop)]
+#[derive(Clone, Copy)]
 pub(crate) enum Listed {
     Done(Sink, usize),
     Refused(entry::Refusal),

@@ -1,6 +1,5 @@
 -- The open brackets of a field, as they lie in places.
-use Rattle.std.specs.Prelude.{ℕ, zero, suc, ◌-◌, ◌/◌, ◌%◌, ◌||◌, List, [], ◌∷◌, eqb, ltb, get_or}
-use Rattle.definition.specs.Chars.{if◌then◌else◌}
+use Rattle.std.specs.Prelude.{ℕ, zero, suc, ◌-◌, ◌/◌, ◌%◌, ◌||◌, List, [], ◌∷◌, eqb, ltb, get_or, if◌then◌else◌}
 use Rattle.definition.specs.Body.{Bracket}
 use Rattle.brackets.specs.declared.Opener.{Opener}
 

@@ -1,9 +1,11 @@
+#![tactic(auto)]
+
 // The open brackets of a field, each with the bytes taken just after it as one number; 64 places for them.
 ghost use Rattle.std.specs.Prelude.{◌≡◌, ◌%◌};
 ghost use Rattle.brackets.specs.Brackets.{unpacked, bracket_of, innermost_of};
 
 // An open bracket, and the bytes taken just after it.
-#[derive(Drop)]
+#[derive(Clone, Copy)]
 pub struct Opener {
     pub bracket: u32,
     pub taken: u32,

@@ -1,4 +1,5 @@
 -- The checks 4 to 7 in one pass: what holds before each literal. Assumes nothing.
+use Rattle.std.specs.Prelude.{if◌then◌else◌}
 use mathlib.Core.Path.{◌≡◌, refl, sym, ◌∙◌, ap, subst}
 use mathlib.Core.Bool.{Bool, true, false}
 use mathlib.Core.List.{List, [], ◌∷◌}
@@ -9,7 +10,6 @@ use native.Mathlib.Numerals.{add-one}
 use native.Mathlib.Omega.{arith}
 use borrow.Author.Tests.{le-ltb}
 use Rattle.definition.specs.Numbers.{is_bytes}
-use Rattle.definition.specs.Chars.{if◌then◌else◌}
 use Rattle.definition.specs.Entry.{Literal, Refusal, bad, ill_formed, first_bad, total, any_of, all_good, not_long, all_utf8, not_mixed, first_of}
 use Rattle.definition.specs.Reading.{accepts, all_chars, outcome_of}
 use Rattle.definition.proofs.Moves.CharLaws.{cases}

@@ -1,7 +1,8 @@
 // The entry checks 1 to 7: 4 to 7 in one pass, and in order only if not all pass.
-ghost use Rattle.std.specs.Prelude.{◌≡◌};
+#![tactic(auto)]
+
+ghost use Rattle.std.specs.Prelude.{◌≡◌, if◌then◌else◌};
 ghost use Rattle.definition.specs.Numbers.{is_bytes};
-ghost use Rattle.definition.specs.Chars.{if◌then◌else◌};
 ghost use Rattle.definition.specs.Reading.{all_chars, outcome_of};
 ghost use Rattle.entry.specs.declared.Class.TheVariants.{Bytes, Others};
 ghost use Rattle.entry.specs.Answers.{described, six, says, later_checks, check_numbers};
@@ -12,7 +13,7 @@ use entry::{Checked, Class, Descriptor, is_bad, is_of, literal_at, refuse};
 use refusals::in_order;
 
 // What one pass says: so many characters pass 4 to 7; or not all do.
-#[derive(Drop)]
+#[derive(Clone, Copy)]
 enum Passing {
     Chars(u32),
     Not,

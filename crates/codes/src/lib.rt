@@ -1,4 +1,6 @@
 // A code's UTF-8 bytes written into a lent buffer: what would stand past the end is left out.
+#![tactic(auto)]
+
 ghost use Rattle.std.specs.Prelude.{◌≡◌, ◌+◌, ◌%◌, length};
 ghost use Rattle.definition.specs.Chars.{utf8};
 ghost use Rattle.buffers.specs.Over.{over};

@@ -1,6 +1,6 @@
 -- The bytes that begin a character.
-use Rattle.std.specs.Prelude.{ℕ, zero, suc, ◌+◌, List}
-use Rattle.definition.specs.Chars.{if◌then◌else◌, byte, ◌to◌, inside}
+use Rattle.std.specs.Prelude.{ℕ, zero, suc, ◌+◌, List, if◌then◌else◌}
+use Rattle.definition.specs.Chars.{byte, ◌to◌, inside}
 
 -- 1 for a byte that may begin a character, which all but 80 to BF may
 unfoldable pub head_of : ℕ → ℕ

@@ -1,4 +1,6 @@
 // What is counted of a text: its characters and lines up to a place, and the bytes that begin a character. Nothing is written here.
+#![tactic(auto)]
+
 ghost use Rattle.std.specs.Prelude.{◌≡◌, ◌&&◌, leb, ◌+◌, ◌-◌, ◌<◌, ◌≤◌, length};
 ghost use Rattle.definition.specs.Counts.{more, counted};
 ghost use Rattle.counts.specs.Counts.{count_of};
@@ -7,7 +9,7 @@ ghost use Rattle.counts.specs.Heads.{head_of, heads_from};
 use utf8::{Cursor, Step};
 
 // What was counted of a text: characters, line ends, and the characters since the last one.
-#[derive(Drop)]
+#[derive(Clone, Copy)]
 pub struct Count {
     pub chars: usize,
     pub line: usize,
@@ -101,7 +103,7 @@ fn heads_between(s: &[u8], from: usize, to: usize) -> usize
     n + heads_near(s, i, to) as usize
 }
 
-// How many bytes of a text begin a character: of well_formed_lem text, how many characters it has.
+// How many bytes of a text begin a character: of well-formed text, how many characters it has.
 pub fn heads(s: &[u8]) -> usize
     ensures { result ≡ heads_from (length s.now) s.now 0 }
 {

@@ -1,4 +1,5 @@
 -- Cuts checked, token by token. Assumes nothing.
+use Rattle.std.specs.Prelude.{if◌then◌else◌}
 use mathlib.Core.Path.{◌≡◌, refl, sym, ap, ◌∙◌}
 use mathlib.Core.Bool.{Bool, true, false, ◌&&◌, not}
 use mathlib.Core.List.{List, [], ◌∷◌}
@@ -10,7 +11,7 @@ use borrow.Author.Tests.{lt-ltb, le-ltb, lt-leb, le-leb, eq-eqb, ne_eqb}
 use lib.Dec.{ltb, leb, eqb}
 use lib.ListN.{length, drop, get_or, drop_of_length-le}
 use lib.Seq.{drop-cons}
-use Rattle.definition.specs.Chars.{if◌then◌else◌, byte, ◌to◌, inside, well_formed}
+use Rattle.definition.specs.Chars.{byte, ◌to◌, inside, well_formed}
 use Rattle.definition_cuts.specs.Tokens.{token_end}
 use Rattle.definition_cuts_laws.specs.Standing.{octal_at}
 use Rattle.cuts.specs.OnePass.{Cursor, in_token, check_at}

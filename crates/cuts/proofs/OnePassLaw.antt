@@ -1,4 +1,5 @@
 -- THE ONE PASS is the check. Assumes nothing.
+use Rattle.std.specs.Prelude.{if◌then◌else◌}
 use mathlib.Core.Path.{◌≡◌, refl, sym, ◌∙◌, ap, ap₂}
 use mathlib.Core.Bool.{Bool, true, false, ◌&&◌, ◌||◌, not}
 use mathlib.Core.List.{List, [], ◌∷◌, map}
@@ -8,7 +9,7 @@ use native.Mathlib.Omega.{arith}
 use borrow.Author.Tests.{ltb-true, ltb-false, le-ltb, lt-ltb, leb-true, leb-false, ne_eqb}
 use lib.Dec.{ltb, leb, eqb}
 use lib.ListN.{length}
-use Rattle.definition.specs.Chars.{if◌then◌else◌, at_end, well_formed}
+use Rattle.definition.specs.Chars.{at_end, well_formed}
 use Rattle.definition_cuts.specs.Cuts.{rise, pieces, all_short, checked}
 use Rattle.definition_cuts.specs.Tokens.{token_end, with_first, boundaries_n}
 use Rattle.definition_cuts_laws.specs.Standing.{Standing, between, among_digits, within, octal_at, standing_n, standing, none_within, all_between, is_some, checked_by_tokens}

@@ -1,4 +1,5 @@
 -- A body's pieces, cut by cut; and which number the check gives. Assumes nothing.
+use Rattle.std.specs.Prelude.{if◌then◌else◌}
 use mathlib.Core.Path.{◌≡◌, refl, sym, ap, ◌∙◌}
 use mathlib.Core.Bool.{Bool, true, false, ◌&&◌, ◌||◌, not}
 use mathlib.Core.List.{List, [], ◌∷◌}
@@ -10,7 +11,7 @@ use borrow.Author.Tests.{le-ltb, lt-leb, le-leb, ltb-true, leb-false}
 use lib.Dec.{ltb, leb}
 use lib.ListN.{length, drop, get_or, length-drop, drop_of_length-le}
 use lib.Seq.{drop-cons}
-use Rattle.definition.specs.Chars.{if◌then◌else◌, part, well_formed}
+use Rattle.definition.specs.Chars.{part, well_formed}
 use Rattle.definition.specs.Reading.{read_alone}
 use Rattle.definition.specs.Escapes.{held_names}
 use Rattle.definition_cuts.specs.Cuts.{rise, pieces, all_short, all_read, is_read, join_all, equal, checked}

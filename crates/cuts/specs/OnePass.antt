@@ -1,8 +1,8 @@
 -- The check of cuts in one pass over a body's tokens: what the code does, shown to be the definition of definition_cuts.
-use Rattle.std.specs.Prelude.{ℕ, zero, suc, ◌+◌, Bool, true, false, ◌&&◌, ◌||◌, not, List, [], ◌∷◌, ltb, leb, eqb, length}
+use Rattle.std.specs.Prelude.{ℕ, zero, suc, ◌+◌, Bool, true, false, ◌&&◌, ◌||◌, not, List, [], ◌∷◌, ltb, leb, eqb, length, if◌then◌else◌}
 use Rattle.std.proofs.Math.Option.{Option, none, some}
 use Rattle.definition.specs.Numbers.{piece_refused, readings_differ}
-use Rattle.definition.specs.Chars.{if◌then◌else◌, at_end, well_formed}
+use Rattle.definition.specs.Chars.{at_end, well_formed}
 use Rattle.definition_cuts.specs.Cuts.{pieces, all_short}
 use Rattle.definition_cuts.specs.Tokens.{token_end}
 use Rattle.definition_cuts_laws.specs.Standing.{octal_at}

@@ -1,4 +1,6 @@
 // Long templates broken over lines: the check of cut offsets in a body of kind 1.
+#![tactic(auto)]
+
 ghost use Rattle.std.specs.Prelude.{◌≡◌, true, false, ◌≤◌, ◌<◌, length, drop};
 ghost use Rattle.definition.specs.Chars.{well_formed};
 ghost use Rattle.definition.specs.Escapes.{held_names};
@@ -48,7 +50,7 @@ fn octal_at(s: &[u8], at: usize) -> bool
 }
 
 // The cut after those of a token, and whether one stood among octal digits; or one stands within the token.
-#[derive(Drop)]
+#[derive(Clone, Copy)]
 enum Passing {
     At(usize, bool),
     Inside,
@@ -83,7 +85,7 @@ fn pass_token(s: &[u8], i: usize, j: usize, cuts: &[u32], from: usize, flag: boo
 }
 
 // Whether one of the cuts stood among octal digits; or one stands within a token, or a token is refused.
-#[derive(Drop)]
+#[derive(Clone, Copy)]
 enum Verdict {
     Passed(bool),
     Refused,

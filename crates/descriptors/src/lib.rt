@@ -1,4 +1,6 @@
 // An entry over a lent list of descriptors: it gives what the entry over their numbers gives.
+#![tactic(auto)]
+
 ghost use Rattle.std.specs.Prelude.{◌≡◌, map, ◌*◌, ◌<◌, ◌≤◌, min, take};
 ghost use Rattle.definition.specs.Escapes.{held_names};
 ghost use Rattle.definition.specs.Reading.{read_into, read_numbers};

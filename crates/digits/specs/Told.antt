@@ -1,6 +1,5 @@
 -- Digits as a number of 32 bits.
-use Rattle.std.specs.Prelude.{ℕ, ◌+◌, ◌-◌, ◌*◌, min, List, [], ◌∷◌, eqb}
-use Rattle.definition.specs.Chars.{if◌then◌else◌}
+use Rattle.std.specs.Prelude.{ℕ, ◌+◌, ◌-◌, ◌*◌, min, List, [], ◌∷◌, eqb, if◌then◌else◌}
 
 -- after a digit more
 unfoldable pub more_told : (told d : ℕ) → ℕ

@@ -1,4 +1,6 @@
 // Digits read as a number, and counted.
+#![tactic(auto)]
+
 ghost use Rattle.std.specs.Prelude.{◌≡◌, ◌≤◌, length, drop};
 ghost use Rattle.definition_replay.specs.Spec.{is_digit, front, behind};
 ghost use Rattle.definition_replay.specs.Integers.{digits};
@@ -6,7 +8,7 @@ ghost use Rattle.definition_replay.specs.SpecNumbers.{told_of};
 ghost use Rattle.digits.specs.Told.{more_value, told_at};
 
 // Digits that were read: 0 for none, else 1 more than their value, at most 4,294,967,295; and where they end.
-#[derive(Drop)]
+#[derive(Clone, Copy)]
 pub struct Number {
     pub told: u32,
     pub next: usize,

@@ -1,6 +1,6 @@
 -- Where a field opens in a body of kind 1, and where one ends behind its spec.
-use Rattle.std.specs.Prelude.{ℕ, ◌≡◌, Bool, List, []}
-use Rattle.definition.specs.Chars.{if◌then◌else◌, at_end, next}
+use Rattle.std.specs.Prelude.{ℕ, ◌≡◌, Bool, List, [], if◌then◌else◌}
+use Rattle.definition.specs.Chars.{at_end, next}
 use Rattle.definition.specs.Numbers.{unclosed_lbrace, empty_expression, in_field}
 use Rattle.definition.specs.Escapes.{held_names, fault, detail}
 use Rattle.definition.specs.Body.{calls, text_move}

@@ -1,4 +1,6 @@
 // The edges of a field: whether one opens at a place, and where one ends behind its spec.
+#![tactic(auto)]
+
 ghost use Rattle.std.specs.Prelude.{◌≡◌, ◌<◌, length};
 ghost use Rattle.definition.specs.Escapes.{fault};
 ghost use Rattle.marks.specs.Marks.{refusal};
@@ -10,7 +12,7 @@ use marks::{Refusal, Unclosed, unclosed_brace};
 use utf8::{Cursor, Step};
 
 // Where a field ends, after its `}`; or why it is refused there.
-#[derive(Drop)]
+#[derive(Clone, Copy)]
 pub enum End {
     At(Cursor),
     Refused(Refusal),

@@ -1,4 +1,5 @@
 -- What is known of numbers that pass the checks, and what flat numbers read as by them. Assumes nothing.
+use Rattle.std.specs.Prelude.{if◌then◌else◌}
 use mathlib.Core.Path.{◌≡◌, refl, sym, ◌∙◌}
 use mathlib.Core.Bool.{Bool, true, false, ◌||◌}
 use mathlib.Core.List.{List, [], ◌∷◌}
@@ -11,7 +12,7 @@ use borrow.Author.Tests.{ltb-false, eqb-true, eqb-false}
 use lib.Dec.{ltb, eqb}
 use lib.ListN.{length, length-take, length-drop}
 use Rattle.definition.specs.Numbers.{not_sixes, bad_descriptor, too_many_literals, bodies_too_long, not_utf8}
-use Rattle.definition.specs.Chars.{if◌then◌else◌, well_formed}
+use Rattle.definition.specs.Chars.{well_formed}
 use Rattle.definition.specs.Escapes.{Naming}
 use Rattle.definition.specs.Entry.{Literal, sixes, opening, place_of, body, Refusal, refusal, not_empty, not_many, first_bad, bad, all_good, total, not_long, formed, ill_formed, all_utf8, not_mixed, first_of, entry}
 use Rattle.definition.specs.Reading.{accepts, refuses, all_chars, and_then, read_literal, read_from, answered, read, roomed, called, read_into, read_numbers, numbers_by}
@@ -72,7 +73,7 @@ module _ (script ns : List ℕ) (n : ℕ) where
   unfolding all_good
   good_at e i h = not_bad script (end_before ns i) (literal_at ns i) (none_at ns n (bad script) why e i h)
 
-  -- 6 found none: each body is well_formed_lem up to its end
+  -- 6 found none: each body is well-formed up to its end
   formed_at : all_utf8 script (literals ns 0 n) ≡ none → (i : ℕ) → i < n → let s = body script (literal_at ns i) in length s ≤ well_formed s
   unfolding all_utf8 ill_formed formed
   formed_at e i h = ltb-false _ _ (none_at ns n (ill_formed script) (why_not script) e i h)

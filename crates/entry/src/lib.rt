@@ -1,4 +1,6 @@
 // What is lent: the literals' descriptors, and the room with its checks 30 and 31. Nothing is written here.
+#![tactic(auto)]
+
 ghost use Rattle.std.specs.Prelude.{◌≡◌, ◌||◌, eqb, get_or};
 ghost use Rattle.definition.specs.Numbers.{prefix};
 ghost use Rattle.definition.specs.Entry.{refusal, opening, place_of, bad, any_of};
@@ -7,7 +9,7 @@ ghost use Rattle.entry.specs.Answers.{described, says, is_of};
 ghost use Rattle.entry.specs.Literals.{literal_at, literals};
 
 // A literal's descriptor: six numbers.
-#[derive(Drop)]
+#[derive(Clone, Copy)]
 pub struct Descriptor {
     pub kind: u32,
     pub triple: u32,
@@ -19,7 +21,7 @@ pub struct Descriptor {
 
 // A refusal: its number, the literal's index from 0, the place, two details, the place just after the bracket that it names, and its own
 // place's line and column in the literal's body.
-#[derive(Drop)]
+#[derive(Clone, Copy)]
 pub struct Refusal {
     pub number: u32,
     pub literal: u32,
@@ -33,14 +35,14 @@ pub struct Refusal {
 }
 
 // What a check says: how much passed, literals or characters or records; or the refusal.
-#[derive(Drop)]
+#[derive(Clone, Copy)]
 pub enum Checked {
     Passed(u32),
     Refused(Refusal),
 }
 
 // A class of kinds.
-#[derive(Drop)]
+#[derive(Clone, Copy)]
 pub enum Class {
     FStrings,
     Bytes,

@@ -1,5 +1,6 @@
 -- What the character after a backslash asks for, where no single key tells it.
 -- Assumes nothing.
+use Rattle.std.specs.Prelude.{if◌then◌else◌}
 use mathlib.Core.Path.{◌≡◌, refl}
 use mathlib.Core.Bool.{Bool, true, false, ◌&&◌}
 use mathlib.Core.List.{List, [], ◌∷◌}
@@ -8,7 +9,7 @@ use native.Mathlib.Omega.{arith}
 use borrow.Author.Tests.{lt-leb, ne_eqb}
 use lib.Dec.{T, leb, eqb, lit≤}
 use Rattle.definition.specs.Numbers.{is_bytes, non_ascii_in_bytes}
-use Rattle.definition.specs.Chars.{if◌then◌else◌, ascii, ◌is◌}
+use Rattle.definition.specs.Chars.{ascii, ◌is◌}
 use Rattle.definition.specs.Escapes.{Naming, fault, got, refused, stays, octal_digit, octal_from, octal, foreign, other, escape_case, escape}
 use Rattle.utf8.specs.declared.Cursor.{Cursor}
 use Rattle.definition.proofs.Moves.CharLaws.{inside_yes}

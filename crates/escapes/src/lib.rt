@@ -1,20 +1,23 @@
 // Escapes: Python 3.11 Language Reference, "String and Bytes literals". Nothing is written here: an answer says what to write.
+#![tactic(auto)]
+
 ghost use Rattle.std.specs.Prelude.{◌≡◌, ◌<◌, ◌≤◌};
 ghost use Rattle.definition.specs.Numbers.{is_bytes};
 ghost use Rattle.definition.specs.Escapes.{fault, refused, octal_digit, octal_from, scalar, hex_from, unicode_name, escape};
 ghost use Rattle.escapes.specs.Answers.{says, names_by};
 
+use searches::first_of;
 use utf8::{Cursor, Step};
 
 // A refusal's number, and the bytes taken at its place.
-#[derive(Drop)]
+#[derive(Clone, Copy)]
 pub struct Refusal {
     pub number: u32,
     pub at: usize,
 }
 
 // What an escape stands for, with the cursor after it: a code; the backslash and the character as they are; nothing. Or a refusal.
-#[derive(Drop)]
+#[derive(Clone, Copy)]
 pub enum Escaped {
     Code(u32, Cursor),
     Kept(Cursor),
@@ -144,7 +147,7 @@ fn parse_unicode_name(s: &[u8], from: Cursor, file: &[u8], index: &[u32]) -> Esc
     }
     let start = inner.at;
     let n = s.len();
-    let end = bytes::scan::find(s, start, n, 0x7D);
+    let end = first_of(s, start, b'}', b'}', b'}');
     if n <= end {
         return refuse(STRING_ERROR, n);
     }

@@ -1,6 +1,5 @@
 -- The scan of an expression as the code keeps it: a quote or 0, and the open brackets in a stack of 64.
-use Rattle.std.specs.Prelude.{ℕ, zero, suc, ◌≤◌, ◌<◌, ◌≡◌, false, List, [], ◌∷◌, eqb, length, get_or}
-use Rattle.definition.specs.Chars.{if◌then◌else◌}
+use Rattle.std.specs.Prelude.{ℕ, zero, suc, ◌≤◌, ◌<◌, ◌≡◌, false, List, [], ◌∷◌, eqb, length, get_or, if◌then◌else◌}
 use Rattle.definition.specs.Matched.{Seen, clear, quoted}
 use Rattle.definition_written.specs.ReadsBack.{few_open}
 

@@ -1,4 +1,6 @@
 // Expressions and texts byte by byte: whether an expression is clean, whether a text is blank or has no brace.
+#![tactic(auto)]
+
 ghost use Rattle.std.specs.Prelude.{◌≡◌, ◌&&◌, true, false, [], ◌≤◌, ◌<◌, ◌+◌, eqb, length};
 ghost use Rattle.definition.specs.Chars.{◌is◌, byte};
 ghost use Rattle.definition.specs.Matched.{clear, see, pairs, blank, braceless};
@@ -9,7 +11,7 @@ use marks::{brace_from, is_blank};
 use utf8::{Cursor, Step};
 
 // The quote of the run that a scan is in, 0 outside of runs, and how many brackets are open; over 64 for an expression that is not clean.
-#[derive(Drop)]
+#[derive(Clone, Copy)]
 struct Scan {
     quote: u8,
     depth: usize,

@@ -1,4 +1,5 @@
 -- The form of a text from its parts. Assumes nothing.
+use Rattle.std.specs.Prelude.{if◌then◌else◌}
 use mathlib.Core.Path.{◌≡◌, refl, sym, ◌∙◌, ap}
 use mathlib.Core.Bool.{Bool, true, false, ◌&&◌, not}
 use mathlib.Core.List.{List, [], ◌∷◌}
@@ -9,7 +10,7 @@ use lib.Dec.{eqb}
 use lib.ListN.{length, take, drop_of_length-le}
 use lib.Seq.{drop-cons}
 use borrow.Author.Tests.{ne_eqb, eq-eqb, lt-ltb, le-ltb}
-use Rattle.definition.specs.Chars.{if◌then◌else◌, ◌is◌}
+use Rattle.definition.specs.Chars.{◌is◌}
 use Rattle.definition_replay.specs.Spec.{nothing, parts_of, behind_type, spec_of}
 use Rattle.definition_replay.specs.Integers.{decimal, decimal_from, base_of, outside_of, form_in, form_of}
 use Rattle.definition_replay.specs.Replay.{made, stopped, column, form_made}

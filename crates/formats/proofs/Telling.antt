@@ -1,4 +1,5 @@
 -- What is told of a text, and an integer written by it. Assumes nothing.
+use Rattle.std.specs.Prelude.{if◌then◌else◌}
 use mathlib.Core.Path.{◌≡◌, refl, sym, ◌∙◌, ap}
 use mathlib.Core.Bool.{Bool, true, false, ◌&&◌, ◌||◌, not}
 use mathlib.Core.List.{List, [], ◌∷◌}
@@ -8,7 +9,7 @@ use lib.Dec.{eqb}
 use lib.ListN.{length, take, length-take}
 use borrow.Rule.Slice.PartMut.{mid_of}
 use borrow.Author.Tests.{ne_eqb, eq-eqb, eqb-true}
-use Rattle.definition.specs.Chars.{if◌then◌else◌, ◌is◌}
+use Rattle.definition.specs.Chars.{◌is◌}
 use Rattle.definition_replay.specs.Spec.{nothing, parts_of, rounds}
 use Rattle.definition_replay.specs.SpecNumbers.{told_of, flag_of, spec_numbers}
 use Rattle.definition_replay.specs.Integers.{Integer, written}

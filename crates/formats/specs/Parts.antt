@@ -1,7 +1,7 @@
 -- The parts of a text as the code tells them.
-use Rattle.std.specs.Prelude.{ℕ, ◌≤◌, ◌<◌, ◌≡◌, List, [], ◌∷◌, ◌&&◌, ◌||◌, not, eqb, length, take, drop}
+use Rattle.std.specs.Prelude.{ℕ, ◌≤◌, ◌<◌, ◌≡◌, List, [], ◌∷◌, ◌&&◌, ◌||◌, not, eqb, length, take, drop, if◌then◌else◌}
 use Prim.Native.String.{String}
-use Rattle.definition.specs.Chars.{if◌then◌else◌, ◌is◌}
+use Rattle.definition.specs.Chars.{◌is◌}
 use Rattle.definition_replay.specs.Spec.{aligns, signs, groupings, types, fill_size, fill_code, pointed, parts_of, behind_type}
 use Rattle.definition_replay.specs.Integers.{Integer, base_of, written}
 use Rattle.definition_replay.specs.Replay.{Made, made, stopped, Part, stands, column, form_made}

@@ -1,6 +1,8 @@
 // Format specifications, by the mini-language of Python 3.11's library reference.
-ghost use Rattle.std.specs.Prelude.{◌≡◌, ◌&&◌, not, ◌+◌, ◌-◌, ◌<◌, ◌≤◌, min, eqb, length, drop};
-ghost use Rattle.definition.specs.Chars.{if◌then◌else◌, ◌is◌};
+#![tactic(auto)]
+
+ghost use Rattle.std.specs.Prelude.{◌≡◌, ◌&&◌, not, ◌+◌, ◌-◌, ◌<◌, ◌≤◌, min, eqb, length, drop, if◌then◌else◌};
+ghost use Rattle.definition.specs.Chars.{◌is◌};
 ghost use Rattle.definition_replay.specs.Spec.{aligns, signs, groupings, types, first, past, past_pointed, fill_size, fill_code};
 ghost use Rattle.formats.specs.Parts.{set_of, PartsIs, point_told, FormIs, rounds_from, written_as};
 ghost use Rattle.definition_replay.specs.SpecNumbers.{flag_of, spec_numbers};
@@ -16,7 +18,7 @@ const OUTSIDE_SET: u32 = 69;
 
 // The parts of a text: a part of one character by its code, 0 where there is none; the fill by its bytes and its code; width and precision by
 // what is told of their digits. And where the parts end.
-#[derive(Drop)]
+#[derive(Clone, Copy)]
 pub(crate) struct Parts {
     fill: usize,
     code: u32,
@@ -33,14 +35,14 @@ pub(crate) struct Parts {
 }
 
 // A character that was taken, 0 for none, and where the next one stands.
-#[derive(Drop)]
+#[derive(Clone, Copy)]
 pub(crate) struct One {
     code: u8,
     next: usize,
 }
 
 // A fill's bytes and its code.
-#[derive(Drop)]
+#[derive(Clone, Copy)]
 pub(crate) struct Fill {
     size: usize,
     code: u32,
@@ -249,7 +251,7 @@ fn read(s: &[u8]) -> Parts
 }
 
 // The form of a text: 0, or the number of a refusal; the bytes of the fill in front of the text, else 0 and the fill by itself; and the form but for its fill.
-#[derive(Drop)]
+#[derive(Clone, Copy)]
 pub struct Form {
     pub number: u32,
     pub fill: usize,

@@ -1,4 +1,6 @@
 // Whether an answer that is lent is well formed: by the record rules, ranges, places, u marks and touching literals aside, its texts UTF-8.
+#![tactic(auto)]
+
 ghost use Rattle.std.specs.Prelude.{◌≡◌, false, ◌+◌, ◌*◌, ◌≤◌, min, get_or};
 ghost use Rattle.definition.specs.Chars.{part};
 ghost use Rattle.definition.specs.Words.{owing, is_conversion, fits, has_spec, no_bytes, sorted, sort_from};
@@ -25,7 +27,7 @@ fn owing(owed: u64, parts: u32) -> u64
 }
 
 // The words of a record that are looked at; a literal has its u mark for a mode.
-#[derive(Drop)]
+#[derive(Clone, Copy)]
 pub struct Head {
     pub kind: u32,
     pub offset: u32,

@@ -1,9 +1,11 @@
+#![tactic(auto)]
+
 // The form of an integer but for its fill, and the base of its type.
 ghost use Rattle.std.specs.Prelude.{◌≡◌};
 ghost use Rattle.definition_replay.specs.Integers.{base_of};
 
 // A form but for its fill.
-#[derive(Drop)]
+#[derive(Clone, Copy)]
 pub struct Shape {
     pub align: u8,
     pub sign: u8,

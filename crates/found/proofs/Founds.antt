@@ -1,4 +1,5 @@
 -- The literal that opens at a place: where its quotes, its body and its end lie. Assumes nothing.
+use Rattle.std.specs.Prelude.{if◌then◌else◌}
 use mathlib.Core.Path.{◌≡◌, refl, sym, subst, ◌∙◌, ap}
 use mathlib.Core.Bool.{Bool, true, false, ◌&&◌, not, ◌||◌}
 use mathlib.Core.List.{List}
@@ -8,7 +9,7 @@ use borrow.Author.Tests.{eq-eqb}
 use lib.Dec.{eqb}
 use lib.ListN.{length, get_or}
 use Rattle.definition.specs.Numbers.{prefix}
-use Rattle.definition.specs.Chars.{if◌then◌else◌, byte}
+use Rattle.definition.specs.Chars.{byte}
 use Rattle.definition.specs.Reading.{accepts}
 use Rattle.definition_scripts.specs.Opening.{is_quote, opens, quotes_of, tripled, quotes, quotes_at}
 use Rattle.definition_scripts.specs.Literals.{Closing, closed, closing, closed_at, literal_at}

@@ -1,4 +1,6 @@
 // The literal that opens at a place of a script, and the next one of the script's cut.
+#![tactic(auto)]
+
 ghost use Rattle.std.specs.Prelude.{◌≡◌};
 ghost use Rattle.definition.specs.Numbers.{prefix};
 ghost use Rattle.definition_scripts.specs.Opening.{quotes};
@@ -9,7 +11,7 @@ use gaps::near;
 use scans::{Closing, NO_KIND, closing_from, comment_end, opens, tripled};
 
 // A literal: six numbers.
-#[derive(Drop)]
+#[derive(Clone, Copy)]
 pub struct Literal {
     pub kind: u32,
     pub triple: u32,
@@ -20,21 +22,21 @@ pub struct Literal {
 }
 
 // A refusal: its number and place.
-#[derive(Drop)]
+#[derive(Clone, Copy)]
 pub struct Refusal {
     pub number: u32,
     pub place: u32,
 }
 
 // The literal that opens at a place, or why it never closes.
-#[derive(Drop)]
+#[derive(Clone, Copy)]
 pub(crate) enum Found {
     Literal(Literal),
     Refused(Refusal),
 }
 
 // What stands at a place, or what a cut has next: a literal, one that never closes, none; or the script is too long.
-#[derive(Drop)]
+#[derive(Clone, Copy)]
 pub enum Next {
     Literal(Literal),
     Broken(Refusal),

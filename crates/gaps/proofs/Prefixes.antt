@@ -1,10 +1,11 @@
 -- Each letter of a prefix is a word's byte. Assumes nothing.
+use Rattle.std.specs.Prelude.{if◌then◌else◌}
 use mathlib.Core.Path.{◌≡◌, refl, sym, ◌∙◌}
 use mathlib.Core.Bool.{Bool, true, false, ◌&&◌, ◌||◌}
 use Prim.Native.Nat.{ℕ}
 use borrow.Author.Tests.{ne_eqb}
 use lib.Dec.{eqb}
-use Rattle.definition.specs.Chars.{if◌then◌else◌, ◌is◌}
+use Rattle.definition.specs.Chars.{◌is◌}
 use Rattle.definition.proofs.Moves.CharLaws.{no}
 use Rattle.definition_scripts.specs.Opening.{no_kind, is_word, one_letter, two_letters}
 

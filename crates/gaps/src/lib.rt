@@ -1,4 +1,6 @@
 // The gaps between the literals of a script that is cut: where the next literal begins, or the next comment, or the script ends.
+#![tactic(auto)]
+
 ghost use Rattle.std.specs.Prelude.{◌≡◌, ◌≤◌};
 ghost use Rattle.definition_scripts.specs.Opening.{first_at};
 ghost use Rattle.definition_scripts.specs.Cut.{begins};

@@ -2,19 +2,19 @@
 -- Assumes nothing.
 use mathlib.Core.Path.{◌≡◌, refl, sym, subst, ap, ◌∙◌}
 use mathlib.Core.Bool.{Bool, true, false, ◌&&◌}
-use mathlib.Core.List.{List, [], ◌∷◌, ◌++◌, append-nil, append_assoc}
-use Prim.Native.Nat.{ℕ, zero, suc, ◌+◌, ◌-◌, ◌≤◌, ◌<◌}
+use mathlib.Core.List.{List, [], ◌++◌, append-nil, append_assoc}
+use Prim.Native.Nat.{ℕ, ◌+◌, ◌-◌, ◌≤◌, ◌<◌}
 use native.Mathlib.Nat.{sub_self}
-use native.Mathlib.Numerals.{add-one, sub-one}
+use native.Mathlib.Numerals.{add-one}
 use native.Mathlib.Omega.{arith}
 use borrow.Author.Tests.{ltb-true, ltb-false, lt-ltb, le-ltb, le-leb, lt-leb, eq-eqb, ne_eqb, eqb-true, eqb-false}
 use lib.Dec.{ltb, eqb}
 use lib.ListN.{length, get_or, set, drop, length-take, length-drop}
-use lib.Seq.{take-add, drop-drop, get_or-set_same, get_or-set_other}
+use lib.Seq.{take-add, drop-drop}
 use Rattle.definition.specs.Numbers.{unclosed_lbrace, invalid_conversion_flag, empty_expression, unmatched, unterminated_string, too_many_brackets, after_bang, after_conversion, after_equals, in_field}
-use Rattle.definition.specs.Chars.{if◌then◌else◌, ◌is◌, byte, part, code, next, char, before}
+use Rattle.definition.specs.Chars.{◌is◌, byte, part, code, next, char, before}
 use Rattle.definition.specs.Escapes.{fault, detail}
-use Rattle.definition.specs.Body.{Bracket, wrong, Move, goes, stops, calls, ends, Field, state, with_equals, with_bang, is_blank, add, documented, spaced, FieldCase, pair, converts, documents, formats, opener, closes, closer, quote, space, backslash, stray, plain, outside, field_case, case_of, conversion_move, open_move, matching, close_move, quote_move, field_move}
+use Rattle.definition.specs.Body.{Bracket, wrong, Move, goes, stops, calls, ends, Field, state, with_equals, with_bang, is_blank, add, documented, spaced, FieldCase, pair, converts, documents, formats, opener, closes, closer, quote, space, backslash, stray, field_case, case_of, conversion_move, open_move, matching, close_move, quote_move, field_move}
 use Rattle.definition.proofs.Moves.CharLaws.{cases, no, byte_in, code_is, next_ascii, next_past, next_in}
 use Rattle.definition_laws.proofs.Moves.Cases.{Tells, told}
 use Rattle.utf8.specs.declared.Cursor.{Cursor}

@@ -1,5 +1,6 @@
 -- The turns of a field's head, one after the other: what the definition gives from here is what it gives from the start.
 -- Assumes nothing.
+use Rattle.std.specs.Prelude.{if◌then◌else◌}
 use mathlib.Core.Path.{◌≡◌, refl, sym, subst, ap, ◌∙◌}
 use mathlib.Core.Bool.{Bool, true, false, ◌&&◌, false≢true}
 use mathlib.Core.List.{List, [], ◌++◌, append-nil}
@@ -9,7 +10,7 @@ use borrow.Author.Tests.{leb-true, leb-false, lt-leb, ne_eqb, eq-eqb, ltb-true, 
 use lib.Dec.{eqb, leb, ltb}
 use lib.ListN.{length, length-append}
 use Rattle.definition.specs.Numbers.{empty_expression}
-use Rattle.definition.specs.Chars.{if◌then◌else◌, byte, ◌to◌, inside, next, white_space}
+use Rattle.definition.specs.Chars.{byte, ◌to◌, inside, next, white_space}
 use Rattle.definition.specs.Escapes.{Naming, fault, refused}
 use mathlib.Core.Option.{none}
 use Rattle.definition.specs.Body.{Move, goes, stops, calls, ends, Field, state, fresh, is_blank, plain, field_case, field_move, finished, field_n, enough}

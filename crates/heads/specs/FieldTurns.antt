@@ -1,9 +1,9 @@
 -- A field's head as the code reads it, in the definition's terms.
-use Rattle.std.specs.Prelude.{ℕ, zero, suc, ◌+◌, ◌*◌, ◌/◌, ◌%◌, ◌^◌, ◌≤◌, ◌<◌, ◌≡◌, Bool, true, false, ◌&&◌, List, [], ◌∷◌, ◌++◌, ltb, eqb, length, get_or}
+use Rattle.std.specs.Prelude.{ℕ, ◌+◌, ◌*◌, ◌^◌, ◌≤◌, ◌<◌, ◌≡◌, Bool, true, false, ◌&&◌, List, [], ◌++◌, ltb, eqb, length, if◌then◌else◌}
 use Rattle.definition.specs.Numbers.{bodies_too_long, empty_expression}
-use Rattle.definition.specs.Chars.{if◌then◌else◌, byte, part, next}
+use Rattle.definition.specs.Chars.{byte, part, next}
 use Rattle.definition.specs.Escapes.{Naming, fault, refused}
-use Rattle.definition.specs.Body.{Bracket, signs, Move, goes, stops, calls, ends, Field, state, fresh, field_move, field_n, enough}
+use Rattle.definition.specs.Body.{signs, Move, goes, stops, calls, ends, Field, state, fresh, field_move, field_n, enough}
 use Rattle.definition_laws.proofs.Moves.Moves.{field_size}
 use Rattle.buffers.specs.Over.{over}
 use Rattle.utf8.specs.declared.Cursor.{Cursor}

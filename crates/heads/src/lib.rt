@@ -1,4 +1,6 @@
 // A replacement field's head: from after its `{` up to and including the `}` or `:` that ends it.
+#![tactic(auto)]
+
 ghost use Rattle.std.specs.Prelude.{◌≡◌, List, ℕ, ◌^◌, ◌≤◌, ◌<◌, length};
 ghost use Rattle.definition.specs.Chars.{code};
 ghost use Rattle.definition.specs.Escapes.{fault};
@@ -33,14 +35,14 @@ const UNTERMINATED_STRING: u32 = 27;
 const TOO_MANY_BRACKETS: u32 = 28;
 
 // A head that was read, with the number of its field's parts, 0 if a `}` ends it and 1 if a `:` does; or a refusal.
-#[derive(Drop)]
+#[derive(Clone, Copy)]
 pub enum Opened {
     Ended(Head, u32),
     Refused(Refusal),
 }
 
 // A head so far, with the number of open brackets; of the expression, what stands from `run` on is not written yet.
-#[derive(Drop)]
+#[derive(Clone, Copy)]
 struct State {
     at: usize,
     run: usize,
@@ -54,7 +56,7 @@ struct State {
 }
 
 // What a character does: the head goes on, a `:` or a `}` ends it, or it is refused.
-#[derive(Drop)]
+#[derive(Clone, Copy)]
 enum Turn {
     On(State),
     Formats(Head),

@@ -1,4 +1,5 @@
 -- The held names by their lengths. Assumes nothing.
+use Rattle.std.specs.Prelude.{if◌then◌else◌}
 use mathlib.Core.Path.{◌≡◌, refl, sym, ◌∙◌}
 use mathlib.Core.Bool.{Bool, true, false}
 use mathlib.Core.List.{List, [], ◌∷◌}
@@ -7,7 +8,7 @@ use Prim.Native.String.{String}
 use borrow.Author.Tests.{eq-eqb, ne_eqb}
 use lib.Dec.{eqb}
 use lib.ListN.{length}
-use Rattle.definition.specs.Chars.{ascii, same, if◌then◌else◌}
+use Rattle.definition.specs.Chars.{ascii, same}
 use Rattle.definition.specs.Escapes.{held, lookup}
 use Rattle.definition.proofs.Moves.CharLaws.{cases, no, same_true, same_refl}
 

@@ -1,6 +1,8 @@
 // The code of a character by its name, among those that are held.
-ghost use Rattle.std.specs.Prelude.{◌≡◌};
-ghost use Rattle.definition.specs.Chars.{same, if◌then◌else◌};
+#![tactic(auto)]
+
+ghost use Rattle.std.specs.Prelude.{◌≡◌, if◌then◌else◌};
+ghost use Rattle.definition.specs.Chars.{same};
 ghost use Rattle.definition.specs.Escapes.{held, lookup};
 
 // What stands where there is no code.

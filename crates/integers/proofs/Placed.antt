@@ -1,4 +1,5 @@
 -- Figures written the units first, one at a time. Assumes nothing.
+use Rattle.std.specs.Prelude.{if◌then◌else◌}
 use mathlib.Core.Path.{◌≡◌, refl, sym, ◌∙◌, ap, subst}
 use mathlib.Core.Bool.{Bool, true, false}
 use mathlib.Core.List.{List, [], ◌∷◌, ◌++◌, append-nil, append_assoc, reverse, reverse-append}
@@ -9,7 +10,6 @@ use lib.Dec.{eqb, leb}
 use lib.ListN.{length, get_or, take, length-append}
 use lib.Seq.{take-suc}
 use borrow.Author.Tests.{ne_eqb, eq-eqb, lt-ltb, le-ltb, le-leb, lt-leb, leb-true, leb-false}
-use Rattle.definition.specs.Chars.{if◌then◌else◌}
 use Rattle.definition_replay.specs.Integers.{digits, base_of, figure, grouped, group_size, figures, zeroed, copies}
 use Rattle.definition_replay_laws.proofs.Integers.IntegerSteps.{digits_last, digits_more, zeroed_done, zeroed_more}
 use Rattle.definition.proofs.Moves.CharLaws.{cases}

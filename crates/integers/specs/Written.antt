@@ -1,6 +1,6 @@
 -- Figures one at a time, in the definition's terms.
-use Rattle.std.specs.Prelude.{ℕ, zero, suc, ◌+◌, ◌-◌, Bool, true, false, ◌&&◌, not, List, [], ◌∷◌, ◌++◌, map, reverse, leb, eqb, length}
-use Rattle.definition.specs.Chars.{if◌then◌else◌, same}
+use Rattle.std.specs.Prelude.{ℕ, zero, suc, ◌+◌, ◌-◌, Bool, true, false, ◌&&◌, not, List, [], ◌∷◌, ◌++◌, map, reverse, leb, eqb, length, if◌then◌else◌}
+use Rattle.definition.specs.Chars.{same}
 use Rattle.definition_replay.specs.Integers.{Integer, digits, Form, base_of, figure, sign_of, grouped, figures, zeroed, written}
 use Rattle.forms.specs.declared.Shape.{Shape}
 

@@ -1,4 +1,6 @@
 // Integers by a format specification: figures are written the units first.
+#![tactic(auto)]
+
 ghost use Rattle.std.specs.Prelude.{◌≡◌, ◌+◌, ◌-◌, ◌/◌, ◌%◌, ◌<◌, ◌≤◌, true, [], ◌∷◌, reverse, length, take};
 ghost use Rattle.definition_replay.specs.Integers.{digits, base_of, figure, copies, sign_of, left_of, inner_of, written};
 ghost use Rattle.buffers.specs.Over.{over};
@@ -8,7 +10,7 @@ use digits::count_ten;
 use forms::{Shape, anew, base_of};
 
 // Figures that were written: their bytes, and how many are to come before the next separator.
-#[derive(Drop)]
+#[derive(Clone, Copy)]
 pub(crate) struct Run {
     bytes: usize,
     come: usize,
@@ -59,7 +61,7 @@ fn come_after(size: usize, come: usize) -> usize
 }
 
 // A number's last digit in a base, and the number before it.
-#[derive(Drop)]
+#[derive(Clone, Copy)]
 pub(crate) struct Split {
     rest: u32,
     digit: u8,

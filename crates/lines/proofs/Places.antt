@@ -1,4 +1,5 @@
 -- Lines of records that lie in words are the lines of the records, and their lengths. Assumes nothing.
+use Rattle.std.specs.Prelude.{if◌then◌else◌}
 use mathlib.Core.Path.{◌≡◌, refl, sym, ◌∙◌, ap, ap₂}
 use mathlib.Core.Bool.{Bool, true, false}
 use mathlib.Core.List.{List, [], ◌∷◌, ◌++◌, append_assoc, append-nil}
@@ -10,7 +11,7 @@ use borrow.Author.Tests.{eqb-true, eqb-false}
 use lib.Dec.{eqb}
 use lib.ListN.{length, get_or, length-append}
 use lib.Seq.{get_or-append-add}
-use Rattle.definition.specs.Chars.{if◌then◌else◌, ascii, part}
+use Rattle.definition.specs.Chars.{ascii, part}
 use Rattle.definition.specs.Records.{Record, words_of}
 use Rattle.definition.specs.Reading.{all_words}
 use Rattle.definition_laws.proofs.Moves.Moves.{part_short}

@@ -1,4 +1,5 @@
 -- Lines of fields that lie in words and rows are the definition's, and their lengths; what a call over one body leaves are the body's. Assumes nothing.
+use Rattle.std.specs.Prelude.{if◌then◌else◌}
 use mathlib.Core.Path.{◌≡◌, refl, sym, ◌∙◌, ap, ap₂, subst}
 use mathlib.Core.Bool.{Bool, true, false}
 use mathlib.Core.List.{List, [], ◌∷◌, ◌++◌, map, append_assoc, append-nil}
@@ -13,7 +14,7 @@ use lib.Dec.{ltb, eqb}
 use lib.ListN.{length, take, drop, get_or, length-append, length-drop}
 use lib.Seq.{get_or-drop, drop-drop, drop-append_seam, take_at}
 use Rattle.definition.specs.Numbers.{bodies_too_long}
-use Rattle.definition.specs.Chars.{if◌then◌else◌, ascii, part}
+use Rattle.definition.specs.Chars.{ascii, part}
 use Rattle.definition.specs.Escapes.{held_names}
 use Rattle.definition.specs.Records.{Record, Answer, words_of}
 use Rattle.definition.specs.Entry.{Literal, sixes, one_more, total}

@@ -1,6 +1,6 @@
 -- What the code writes of fields: the lines of those that lie in words, with their rows.
-use Rattle.std.specs.Prelude.{ℕ, zero, suc, ◌+◌, ◌*◌, ◌≤◌, ◌<◌, ◌≡◌, Bool, List, [], ◌++◌, eqb, length, get_or}
-use Rattle.definition.specs.Chars.{if◌then◌else◌, part}
+use Rattle.std.specs.Prelude.{ℕ, zero, suc, ◌+◌, ◌*◌, ◌≤◌, ◌<◌, ◌≡◌, Bool, List, [], ◌++◌, eqb, length, get_or, if◌then◌else◌}
+use Rattle.definition.specs.Chars.{part}
 use Rattle.definition_lines.specs.Why.{why_line, body_why}
 use Rattle.buffers.specs.Over.{over}
 use Rattle.lines.specs.Written.{longest}

@@ -1,4 +1,6 @@
 // The lines of a body, written: RFC 8259 objects for its records, or for its refusal.
+#![tactic(auto)]
+
 pub mod why;
 
 ghost use Rattle.std.specs.Prelude.{◌≡◌, min, length};

@@ -11,7 +11,7 @@ use objects::why::put_why;
 use strings::{parse_signs, parse_strings};
 
 // How much is written: the used bytes, and of how many fields.
-#[derive(Drop)]
+#[derive(Clone, Copy)]
 struct Written {
     used: usize,
     fields: usize,

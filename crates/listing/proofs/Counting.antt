@@ -1,4 +1,5 @@
 -- Rows counted with those of their sources. Assumes nothing.
+use Rattle.std.specs.Prelude.{if◌then◌else◌}
 use mathlib.Core.Path.{◌≡◌, refl, sym, ◌∙◌, ap, ap₂}
 use mathlib.Core.Bool.{Bool, true, false, not}
 use mathlib.Core.List.{List, [], ◌∷◌, ◌++◌, append_assoc}
@@ -11,7 +12,6 @@ use lib.Dec.{leb, ltb}
 use lib.ListN.{length, take, drop, get_or, length-append, length-take, length-drop, take-append-drop}
 use lib.Seq.{take-nil, drop-nil, drop-drop}
 use Rattle.definition.specs.Numbers.{is_fstring, read_otherwise, unknown_prefix}
-use Rattle.definition.specs.Chars.{if◌then◌else◌}
 use Rattle.definition.specs.Escapes.{Naming}
 use Rattle.definition.specs.Entry as d
 use Rattle.definition.specs.Reading.{in_front}

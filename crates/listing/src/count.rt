@@ -17,7 +17,7 @@ use sources::{Field, lesser, source_end};
 use told::{put_otherwise, put_unknown};
 
 // How many rows a literal has in all, and how many are some of them with those of their sources.
-#[derive(Drop)]
+#[derive(Clone, Copy)]
 pub(crate) struct Window {
     pub(crate) all: usize,
     pub(crate) rows: usize,

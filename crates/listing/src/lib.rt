@@ -1,4 +1,6 @@
 // Every field of a whole script: its rows, level by level.
+#![tactic(auto)]
+
 mod count;
 mod rows;
 

@@ -14,7 +14,7 @@ use told::{Told, put_otherwise, put_refusal};
 const REFUSAL: u32 = 5;
 
 // How many rows there are after a part was cut, how many literals it has, and how far it was cut.
-#[derive(Drop)]
+#[derive(Clone, Copy)]
 pub(crate) struct Part {
     pub(crate) count: usize,
     pub(crate) literals: u32,

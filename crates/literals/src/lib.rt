@@ -1,4 +1,6 @@
 // The adjacent literals of a script from an offset on, and what is passed over after each; every literal of a script: each as a list.
+#![tactic(auto)]
+
 ghost use Rattle.std.specs.Prelude.{◌≡◌, List, ℕ, ◌*◌, ◌≤◌, length};
 ghost use Rattle.definition.specs.Reading.{zeros};
 ghost use Rattle.definition_scripts.specs.Literals as s;
@@ -13,7 +15,7 @@ use scans::{NO_KIND, line_end, opens};
 use words::byte_at;
 
 // Literals that are listed: how many, and two numbers more: of a run the end of the last one and where it stopped, of a cut how far it went and the number it ended with.
-#[derive(Drop)]
+#[derive(Clone, Copy)]
 pub struct Listed {
     pub count: u32,
     pub to: u32,
@@ -21,7 +23,7 @@ pub struct Listed {
 }
 
 // What a call gives: literals; why there are none; or how many numbers their list needs that are not lent.
-#[derive(Drop)]
+#[derive(Clone, Copy)]
 pub enum Listing {
     Lists(Listed),
     Refused(Refusal),
@@ -29,7 +31,7 @@ pub enum Listing {
 }
 
 // What stands between literals at an index: a space, tab or newline; a comment; or something else.
-#[derive(Drop)]
+#[derive(Clone, Copy)]
 pub(crate) enum BlankCase {
     Space,
     Comment,
@@ -37,7 +39,7 @@ pub(crate) enum BlankCase {
 }
 
 // Literals whose list is written as far as there is room, or the first refusal.
-#[derive(Drop)]
+#[derive(Clone, Copy)]
 pub(crate) enum Ran {
     Done(Listed),
     Refused(Refusal),

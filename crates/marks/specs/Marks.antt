@@ -1,8 +1,8 @@
 -- What the answers about characters and fields are, by the definition's sets and numbers.
-use Rattle.std.specs.Prelude.{ℕ, Bool, ◌&&◌, ◌||◌, [], eqb, leb}
+use Rattle.std.specs.Prelude.{ℕ, Bool, ◌&&◌, ◌||◌, [], eqb, leb, if◌then◌else◌}
 use Rattle.std.proofs.Math.Option.{none, some}
 use Rattle.definition.specs.Numbers.{is_bytes, after_bang, after_conversion, after_equals, in_field, last_brace}
-use Rattle.definition.specs.Chars.{if◌then◌else◌, ◌is◌, ◌to◌, inside}
+use Rattle.definition.specs.Chars.{◌is◌, ◌to◌, inside}
 use Rattle.definition.specs.Escapes.{Fault}
 use Rattle.definition.specs.Body.{FieldCase, pair, converts, documents, formats, opener, closes, closer, quote, space, backslash, stray, plain, conversion_of}
 use Rattle.marks.specs.declared.Refusal.{Refusal}

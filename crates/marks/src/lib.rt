@@ -1,7 +1,9 @@
 // What characters and bytes are in a text, a field or a spec, and why a brace counts as unclosed. Nothing is written here.
-ghost use Rattle.std.specs.Prelude.{◌≡◌, ◌&&◌, not, ◌+◌, eqb, leb, drop};
+#![tactic(auto)]
+
+ghost use Rattle.std.specs.Prelude.{◌≡◌, ◌&&◌, not, ◌+◌, eqb, leb, drop, if◌then◌else◌};
 ghost use Rattle.definition.specs.Numbers.{is_bytes, is_raw, unclosed_lbrace};
-ghost use Rattle.definition.specs.Chars.{if◌then◌else◌, ◌is◌, code, before};
+ghost use Rattle.definition.specs.Chars.{◌is◌, code, before};
 ghost use Rattle.definition.specs.Escapes.{detail};
 ghost use Rattle.definition.specs.Body.{pair, is_blank, sign_case, matching, first_end};
 ghost use Rattle.marks.specs.Marks.{special, case_is, plain_case, passing, converted, reason_of, refusal};
@@ -10,7 +12,7 @@ use escapes::is_any_bytes;
 use utf8::Cursor;
 
 // Why a body is refused: the number, the bytes taken just after the bracket that it names and at its place, two details.
-#[derive(Drop)]
+#[derive(Clone, Copy)]
 pub struct Refusal {
     pub number: u32,
     pub opened: u32,
@@ -20,7 +22,7 @@ pub struct Refusal {
 }
 
 // Why a brace counts as unclosed: the body ends right after `!`; the character after a conversion is neither `}` nor `:`, or there is none; something not allowed follows a self-documenting `=`; the body ends elsewhere inside a field; a `{` at depth 0 is the last character.
-#[derive(Drop)]
+#[derive(Clone, Copy)]
 pub enum Unclosed {
     AfterBang,
     AfterConversion,
@@ -30,7 +32,7 @@ pub enum Unclosed {
 }
 
 // What a character is in a field.
-#[derive(Drop)]
+#[derive(Clone, Copy)]
 pub enum Class {
     Pair,
     Converts,

@@ -1,4 +1,6 @@
 // Names from a lent file: its lines, its index built and checked, and names looked up.
+#![tactic(auto)]
+
 ghost use Rattle.std.specs.Prelude.{◌≡◌, ◌≤◌, ◌<◌, ◌^◌, eqb, length};
 ghost use Rattle.std.proofs.Math.Option.{none};
 ghost use Rattle.definition.specs.Chars.{byte};
@@ -14,28 +16,28 @@ ghost use Rattle.names.specs.Answers.{Steps, count_of, StartsIs, FilledOf, Sized
 pub const NO_NAMES: [u8; 1] = *b";";
 
 // What a call for an index gives: how many entries it has, or a refusal's number.
-#[derive(Drop)]
+#[derive(Clone, Copy)]
 pub enum Answer {
     Entries(u32),
     Refused(u32),
 }
 
 // The value of the hex digits up to a `;`, and where that stands.
-#[derive(Drop)]
+#[derive(Clone, Copy)]
 pub(crate) struct Digits {
     value: u32,
     mark: usize,
 }
 
 // Where a line ends, and how many `;` it has.
-#[derive(Drop)]
+#[derive(Clone, Copy)]
 pub(crate) struct Ends {
     end: usize,
     marks: usize,
 }
 
 // What a line is, with the offset of the next one.
-#[derive(Drop)]
+#[derive(Clone, Copy)]
 pub(crate) enum Line {
     Malformed,
     Nameless(usize),
@@ -43,21 +45,21 @@ pub(crate) enum Line {
 }
 
 // How many lines have a name.
-#[derive(Drop)]
+#[derive(Clone, Copy)]
 pub(crate) enum Counted {
     Wrong,
     Names(u32),
 }
 
 // How many lines of a run have a name, and where the run ended.
-#[derive(Drop)]
+#[derive(Clone, Copy)]
 pub(crate) struct Filled {
     used: usize,
     next: usize,
 }
 
 // Whether the names of a run are distinct and not those of later lines, and where the run ended.
-#[derive(Drop)]
+#[derive(Clone, Copy)]
 pub(crate) struct Run {
     apart: bool,
     next: usize,

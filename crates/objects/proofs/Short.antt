@@ -1,4 +1,5 @@
 -- How long lines are, and lines from the front of a buffer on. Assumes nothing.
+use Rattle.std.specs.Prelude.{if◌then◌else◌}
 use mathlib.Core.Path.{◌≡◌, refl, sym, ◌∙◌, ap}
 use mathlib.Core.Bool.{Bool, true, false}
 use mathlib.Core.List.{List, [], ◌++◌}
@@ -7,7 +8,7 @@ use native.Mathlib.Omega.{arith}
 use borrow.Author.Tests.{lt-ltb, le-ltb}
 use lib.Dec.{eqb, ltb}
 use lib.ListN.{length, length-append}
-use Rattle.definition.specs.Chars.{if◌then◌else◌, ascii}
+use Rattle.definition.specs.Chars.{ascii}
 use Rattle.definition_lines.specs.Lines.{literal_line, field_line, spec_line, refusal_line, line_of}
 use Rattle.definition_lines.specs.Why.{written_end, reason_end, why_line}
 use Rattle.buffers.proofs.Over.{over_nil}

@@ -1,4 +1,5 @@
 -- Laws of writing bytes after bytes, of decimal numbers and of escaped text. Assumes nothing.
+use Rattle.std.specs.Prelude.{if◌then◌else◌}
 use mathlib.Core.Path.{◌≡◌, refl, sym, ◌∙◌, ap}
 use mathlib.Core.Bool.{Bool, true, false}
 use mathlib.Core.List.{List, [], ◌∷◌, ◌++◌, append_assoc, append-nil}
@@ -9,7 +10,7 @@ use borrow.Author.Tests.{ltb-false, lt-ltb, le-ltb}
 use lib.Dec.{ltb}
 use lib.ListN.{length, take, drop, get_or, length-append, take-append-drop}
 use lib.Seq.{take-suc}
-use Rattle.definition.specs.Chars.{if◌then◌else◌, ascii, ◌is◌}
+use Rattle.definition.specs.Chars.{ascii, ◌is◌}
 use Rattle.buffers.proofs.Over.{over_nil, over_append}
 use Rattle.definition_lines.specs.Lines.{decimal_n, decimal, hex_code, escaped, escaped_text}
 use Rattle.objects.specs.Written.{Adds}

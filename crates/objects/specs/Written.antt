@@ -1,6 +1,5 @@
 -- What the code writes: bytes over a buffer.
-use Rattle.std.specs.Prelude.{ℕ, ◌+◌, ◌<◌, ◌≡◌, List, [], ltb, length}
-use Rattle.definition.specs.Chars.{if◌then◌else◌}
+use Rattle.std.specs.Prelude.{ℕ, ◌+◌, ◌<◌, ◌≡◌, List, [], ltb, length, if◌then◌else◌}
 use Rattle.buffers.specs.Over.{over}
 
 -- bytes that are written over a buffer from the used length on: the buffer and the used length afterwards

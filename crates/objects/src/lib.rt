@@ -1,4 +1,6 @@
 // A line of a body, written: an RFC 8259 object for a record, for a refusal, or for why a field has its conversion.
+#![tactic(auto)]
+
 pub mod why;
 
 ghost use Rattle.std.specs.Prelude.{◌≡◌, [], ◌∷◌, ◌++◌, ◌<◌, length};

@@ -1,3 +1,5 @@
+#![tactic(auto)]
+
 // Offsets of cuts, and the bytes that stand there.
 ghost use Rattle.std.specs.Prelude.{◌≡◌, length};
 ghost use Rattle.definition.specs.Chars.{◌to◌, inside};

@@ -1,6 +1,5 @@
 -- The open specs as the code keeps them.
-use Rattle.std.specs.Prelude.{ℕ, zero, suc, Bool, List, [], ◌∷◌, eqb}
-use Rattle.definition.specs.Chars.{if◌then◌else◌}
+use Rattle.std.specs.Prelude.{ℕ, zero, suc, Bool, List, [], ◌∷◌, eqb, if◌then◌else◌}
 use Rattle.definition_written.specs.Written.{Where, top, early, late}
 use Rattle.definition_written.specs.Passes.{Open, opened}
 use Rattle.opens.specs.declared.Opens.{Opens}

@@ -1,4 +1,6 @@
 // The specs that are open at a record of a body written back, what reads back in them, and which bytes are doubled outside.
+#![tactic(auto)]
+
 ghost use Rattle.std.specs.Prelude.{◌≡◌, false, ◌&&◌, ◌≤◌, ◌-◌, eqb};
 ghost use Rattle.definition.specs.Chars.{◌is◌, byte};
 ghost use Rattle.definition_written.specs.ReadsBack.{text_reads, field_reads};
@@ -9,7 +11,7 @@ use expressions::{is_blank_text, is_braceless, is_clean};
 
 // The specs that are open, at most two: the parts of the inner one that are to come, whether a field came in it, and the same of the outer one. A
 // depth of 3 says that the body reads back otherwise.
-#[derive(Drop)]
+#[derive(Clone, Copy)]
 pub struct Opens {
     pub depth: usize,
     pub left: u32,

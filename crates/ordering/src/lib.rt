@@ -1,4 +1,6 @@
 // The lines of a file by their names: a list of their offsets sorted in place, and a name searched in one.
+#![tactic(auto)]
+
 ghost use Rattle.std.specs.Prelude.{◌≡◌, ◌+◌, ◌≤◌, ◌<◌, eqb, length, drop, get_or};
 ghost use Rattle.definition.specs.Chars.{byte};
 ghost use Rattle.definition_names.specs.Names.{at_most, first_field, name_at, bound, entry_of};

@@ -1,4 +1,6 @@
 // Where a run of plain bytes ends: by blocks where the first eight are plain, else byte by byte. Nothing is written here.
+#![tactic(auto)]
+
 ghost use Rattle.std.specs.Prelude.{◌≡◌, ◌&&◌, not, true, ◌≤◌, ◌<◌, ltb, length};
 ghost use Rattle.definition.specs.Chars.{byte};
 ghost use Rattle.marks.specs.Marks.{special};

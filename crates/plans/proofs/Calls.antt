@@ -1,4 +1,5 @@
 -- Which plan there is, and what a call of the planner gives. Assumes nothing.
+use Rattle.std.specs.Prelude.{if◌then◌else◌}
 use mathlib.Core.Path.{◌≡◌, refl, sym, ap, ◌∙◌}
 use mathlib.Core.Bool.{Bool, true, false, ◌||◌}
 use mathlib.Core.List.{List, [], ◌∷◌}
@@ -8,7 +9,7 @@ use native.Mathlib.Omega.{arith}
 use borrow.Author.Tests.{lt-ltb, le-ltb, leb-true, leb-false}
 use lib.Dec.{ltb, leb}
 use lib.ListN.{length, replicate}
-use Rattle.definition.specs.Chars.{if◌then◌else◌, well_formed}
+use Rattle.definition.specs.Chars.{well_formed}
 use Rattle.definition.specs.Reading.{zeros}
 use Rattle.definition_cuts.specs.Plan.{plan, roomed_plan, plan_after, plan_into, plan_numbers}
 use Rattle.plans.specs.OnePass.{plan_loop, planned, plan_at}

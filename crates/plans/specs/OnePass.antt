@@ -1,7 +1,7 @@
 -- The plan in one pass over a body's tokens: what the code does, shown to be the definition of definition_cuts.
-use Rattle.std.specs.Prelude.{ℕ, zero, suc, ◌+◌, true, false, ◌||◌, List, [], ltb, leb, length}
+use Rattle.std.specs.Prelude.{ℕ, zero, suc, ◌+◌, true, false, ◌||◌, List, [], ltb, leb, length, if◌then◌else◌}
 use Rattle.std.proofs.Math.Option.{Option, none, some}
-use Rattle.definition.specs.Chars.{if◌then◌else◌, at_end, well_formed}
+use Rattle.definition.specs.Chars.{at_end, well_formed}
 use Rattle.definition_cuts.specs.Tokens.{token_end, with_first}
 
 -- a piece began at `start`, and tokens were read up to i; n bounds the tokens

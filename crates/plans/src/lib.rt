@@ -1,4 +1,6 @@
 // Long templates broken over lines: the planner of cuts in a body of kind 1.
+#![tactic(auto)]
+
 ghost use Rattle.std.specs.Prelude.{◌≤◌, ◌<◌, length};
 ghost use Rattle.definition.specs.Chars.{well_formed};
 ghost use Rattle.definition_cuts.specs.Plan.{plan_into};
@@ -17,7 +19,7 @@ const LARGEST_BODY: usize = 1048576;
 const F_STRING: u32 = 1;
 
 // How many cuts a plan has; or there is none.
-#[derive(Drop)]
+#[derive(Clone, Copy)]
 enum Made {
     Cuts(usize),
     Nothing,

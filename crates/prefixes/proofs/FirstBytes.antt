@@ -1,4 +1,5 @@
--- The characters of well_formed_lem text are the bytes that begin one. Assumes nothing.
+-- The characters of well-formed text are the bytes that begin one. Assumes nothing.
+use Rattle.std.specs.Prelude.{if◌then◌else◌}
 use mathlib.Core.Path.{◌≡◌, refl, sym, ◌∙◌, ap, subst}
 use mathlib.Core.Bool.{Bool, true, false}
 use mathlib.Core.List.{List}
@@ -7,7 +8,7 @@ use native.Mathlib.Omega.{arith}
 use borrow.Author.Tests.{lt-leb, leb-true, leb-false}
 use lib.Dec.{leb}
 use lib.ListN.{length}
-use Rattle.definition.specs.Chars.{if◌then◌else◌, byte, ◌to◌, inside, width, next, formed_from, well_formed}
+use Rattle.definition.specs.Chars.{byte, ◌to◌, inside, width, next, formed_from, well_formed}
 use Rattle.definition.specs.Counts.{counted}
 use Rattle.definition.proofs.Moves.CharLaws.{cases, inside_true, inside_yes, inside_not, tail_none, between, width_in, width_end, next_past}
 use Rattle.definition_laws.proofs.Moves.Counted.{Reached, start, step, counted_none, step_chars}

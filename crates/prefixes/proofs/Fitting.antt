@@ -1,4 +1,5 @@
--- Bytes of which each fits the three before it are well_formed_lem up to the start of the character that they leave open. Assumes nothing.
+-- Bytes of which each fits the three before it are well-formed up to the start of the character that they leave open. Assumes nothing.
+use Rattle.std.specs.Prelude.{if◌then◌else◌}
 use mathlib.Core.Path.{◌≡◌, refl, sym, ◌∙◌, ap, subst}
 use mathlib.Core.Bool.{Bool, true, false, ◌&&◌, ◌||◌, not}
 use mathlib.Core.List.{List, [], ◌∷◌}
@@ -6,10 +7,10 @@ use Prim.Native.Nat.{ℕ, zero, suc, ◌+◌, ◌-◌, ◌≤◌, ◌<◌}
 use native.Mathlib.Omega.{arith}
 use borrow.Author.Tests.{le-leb, lt-leb, leb-true, leb-false, ne_eqb, eq-eqb, eqb-true, eqb-false, lt-ltb, le-ltb, ltb-true, ltb-false}
 use lib.Dec.{T, leb, ltb, eqb, eqb→eq}
-use lib.ListN.{length, get_or}
-use Rattle.definition.specs.Chars.{if◌then◌else◌, byte, ◌to◌, inside, table37, ascii, follow, width}
+use lib.ListN.{length, get_or, replicate}
+use Rattle.definition.specs.Chars.{byte, ◌to◌, inside, table37, ascii, follow, width}
 use Rattle.definition.proofs.Moves.CharLaws.{cases, no, inside_yes, inside_not, inside_true, width_ascii, byte_is}
-use Rattle.utf8.specs.Classes.{classes, row_from, class_of, ranges}
+use Rattle.utf8.specs.Classes.{row_from, class_of, ranges}
 use Rattle.ascii.specs.Runs.{Below}
 use Rattle.prefixes.specs.Formed.{Formed}
 use Rattle.prefixes.specs.Fits.{is_due, Fits, AllFit, Fitting, last_start}
@@ -67,7 +68,7 @@ high b = eqb (get_or highs (class_of b) 0) (most b)
 
 rule_holds : (b : ℕ) → b < 256 → T (not (inside (0xC2 to 0xF4) b) || some_class b && many b && low b && high b)
 unfolding ascii class_of row_from table37
-rule_holds b h = at (λ k x. not (inside (0xC2 to 0xF4) k) || some_class k && many k && low k && high k) classes tt b h
+rule_holds b h = at (λ k x. not (inside (0xC2 to 0xF4) k) || some_class k && many k && low k && high k) (replicate 256 0) tt b h
 
 wide : (s : List ℕ) (i : ℕ) → 0xC2 ≤ byte s i → byte s i ≤ 0xF4 → width s i ≡ (if follow (ranges (more_after (byte s i)) (least (byte s i)) (most (byte s i))) s (i + 1) then more_after (byte s i) + 1 else 0)
 wide s i h k =
@@ -267,7 +268,7 @@ due_bytes s i w d =
     due_free (byte s i) (byte s (i + 1)) (byte s (i + 2))
     (rw (← byte_is s i (omega arith), ← byte_is s (i + 1) (omega arith), ← byte_is s (i + 2) (omega arith)) d)
 
--- what fits after the end of a character is well_formed_lem, but for a character that is open at the end
+-- what fits after the end of a character is well-formed, but for a character that is open at the end
 pub fitted : (s : List ℕ) (at i j : ℕ) → at ≡ i + 3 → Fitting s i j → is_due (get_or s i 0) (get_or s (i + 1) 0) (get_or s (i + 2) 0) ≡ false → Formed s at → Formed s (last_start s j)
 fitted s at i j e f d t =
     let w = f.within in

@@ -1,4 +1,4 @@
--- The longest well_formed_lem prefix, character by character and over runs of ASCII. Assumes nothing.
+-- The longest well-formed prefix, character by character and over runs of ASCII. Assumes nothing.
 use native.Mathlib.Omega.{arith}
 use Prim.Native.Nat.{ℕ, zero, suc, pred, ◌+◌, ◌-◌, ◌≤◌, ◌<◌}
 use mathlib.Core.Path.{◌≡◌, refl, ◌∙◌, subst}
@@ -48,7 +48,7 @@ past s i j a f =
 pub begun : (s : List ℕ) (i : ℕ) → Ascii s 0 i → Formed s i
 begun s i a = past s 0 i a (record { fuel = length s; enough = omega arith; within = omega arith; same = refl })
 
--- at the end, or before what is not well_formed_lem, the prefix ends
+-- at the end, or before what is not well-formed, the prefix ends
 pub ended : (s : List ℕ) (i : ℕ) → Formed s i → (i < length s → width s i ≡ 0) → well_formed s ≡ i
 unfolding well_formed
 ended s i f h =

@@ -1,6 +1,6 @@
 -- Table 3-7 by neighbours: which byte may stand after three others.
-use Rattle.std.specs.Prelude.{ℕ, ◌+◌, ◌≤◌, ◌<◌, ◌≡◌, Bool, ◌||◌, List, leb, length}
-use Rattle.definition.specs.Chars.{if◌then◌else◌, ◌to◌, inside, byte}
+use Rattle.std.specs.Prelude.{ℕ, ◌+◌, ◌≤◌, ◌<◌, ◌≡◌, Bool, ◌||◌, List, leb, length, if◌then◌else◌}
+use Rattle.definition.specs.Chars.{◌to◌, inside, byte}
 
 -- after z, y and x a character is open
 unfoldable pub is_due : ℕ → ℕ → ℕ → Bool

@@ -1,6 +1,8 @@
-// The well_formed_lem prefix of a text: by blocks, and character by character where one does not fit. Nothing is written here.
-ghost use Rattle.std.specs.Prelude.{◌≡◌, true, false, ◌&&◌, leb, eqb, ◌+◌, ◌<◌, ◌≤◌, length};
-ghost use Rattle.definition.specs.Chars.{if◌then◌else◌, byte, width, well_formed};
+// The well-formed prefix of a text: by blocks, and character by character where one does not fit. Nothing is written here.
+#![tactic(auto)]
+
+ghost use Rattle.std.specs.Prelude.{◌≡◌, true, false, ◌&&◌, leb, eqb, ◌+◌, ◌<◌, ◌≤◌, length, if◌then◌else◌};
+ghost use Rattle.definition.specs.Chars.{byte, width, well_formed};
 ghost use Rattle.definition.specs.Counts.{counted};
 ghost use Rattle.ascii.specs.Runs.{Ascii};
 ghost use Rattle.prefixes.specs.Formed.{Formed};
@@ -24,7 +26,7 @@ fn is_between(s: &[u8], i: usize, low: u8, high: u8) -> bool
     b <= high
 }
 
-// The length of the well_formed_lem character at an index if its first byte is C2 to DF or E1 to EC; else, or if there is none, 0.
+// The length of the well-formed character at an index if its first byte is C2 to DF or E1 to EC; else, or if there is none, 0.
 fn common_len(s: &[u8], at: usize) -> usize
     requires { at < length s.now }
     ensures { (result ≡ 0 → ⊥) → width s.now at ≡ result }
@@ -71,7 +73,7 @@ fn most_after(b: u8) -> u8
     0xBF
 }
 
-// The length of the well_formed_lem character at an index if its first byte is E0 to F4; else, or if there is none, 0.
+// The length of the well-formed character at an index if its first byte is E0 to F4; else, or if there is none, 0.
 fn long_len(s: &[u8], at: usize) -> usize
     requires { at < length s.now }
     ensures { (result ≡ 0 → ⊥) → width s.now at ≡ result }
@@ -226,7 +228,7 @@ fn formed_blocks(s: &[u8], at: usize) -> usize
     last_start(s, to)
 }
 
-// Further on from the end of a character, one by one, to the end of the first that ends at an index or after it; if one is not well_formed_lem, up to that.
+// Further on from the end of a character, one by one, to the end of the first that ends at an index or after it; if one is not well-formed, up to that.
 fn formed_until(s: &[u8], from: usize, to: usize) -> usize
     requires { Formed s.now from × (to ≤ length s.now) }
     ensures { Formed s.now result × (result < to → width s.now result ≡ 0) }
@@ -257,7 +259,7 @@ fn formed_until(s: &[u8], from: usize, to: usize) -> usize
     at
 }
 
-// The length of the longest well_formed_lem prefix, which begins with ASCII up to an index.
+// The length of the longest well-formed prefix, which begins with ASCII up to an index.
 fn formed_end(s: &[u8], ascii: usize) -> usize
     requires { Ascii s.now 0 ascii }
     ensures { result ≡ well_formed s.now }
@@ -270,14 +272,14 @@ fn formed_end(s: &[u8], ascii: usize) -> usize
     formed_until(s, blocks, s.len())
 }
 
-// The longest well_formed_lem prefix of a text: its length, and how many characters it has.
-#[derive(Drop)]
+// The longest well-formed prefix of a text: its length, and how many characters it has.
+#[derive(Clone, Copy)]
 pub struct Prefix {
     pub len: usize,
     pub chars: usize,
 }
 
-// The longest well_formed_lem prefix.
+// The longest well-formed prefix.
 pub fn well_formed(s: &[u8]) -> Prefix
     ensures { (result.len ≡ well_formed s.now) × (result.chars ≡ (counted s.now result.len).chars) }
 {

@@ -1,4 +1,6 @@
 // A record's eight words written into a lent buffer at the record's place: what would stand past the end is left out.
+#![tactic(auto)]
+
 ghost use Rattle.std.specs.Prelude.{◌≡◌, ◌*◌, ◌≤◌, min, length};
 ghost use Rattle.buffers.specs.Over.{over};
 ghost use Rattle.record_words.specs.Words.{words_of};
@@ -6,7 +8,7 @@ ghost use Rattle.record_words.specs.Words.{words_of};
 use buffers::put_word;
 
 // A record's eight words; a literal has its u mark in place of a conversion.
-#[derive(Drop)]
+#[derive(Clone, Copy)]
 pub struct Record {
     pub kind: u32,
     pub offset: u32,

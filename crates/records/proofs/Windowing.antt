@@ -1,6 +1,6 @@
 -- A row of which nothing is lent leaves all as it is. Assumes nothing.
+use Rattle.std.specs.Prelude.{if◌then◌else◌}
 use Rattle.std.proofs.Common.{◌≡◌, ℕ, ◌-◌, ◌*◌, ◌<◌, ◌≤◌, Bool, true, false, ltb, List, length, sym, refl, arith, le-ltb, lt-ltb}
-use Rattle.definition.specs.Chars.{if◌then◌else◌}
 use Rattle.buffers.specs.Over.{over}
 use Rattle.buffers.proofs.Over.{over_out}
 use Rattle.records.specs.declared.Window.{Window}

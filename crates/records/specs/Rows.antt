@@ -1,6 +1,5 @@
 -- A field's row, and where it is written.
-use Rattle.std.specs.Prelude.{ℕ, ◌+◌, ◌-◌, ◌*◌, List, nat_lt}
-use Rattle.definition.specs.Chars.{if◌then◌else◌}
+use Rattle.std.specs.Prelude.{ℕ, ◌+◌, ◌-◌, ◌*◌, List, nat_lt, if◌then◌else◌}
 use Rattle.definition.specs.Body.{signs}
 use Rattle.definition.specs.Rows.{Row, sign_at}
 use Rattle.buffers.specs.Over.{over}

@@ -1,6 +1,6 @@
 -- What each write makes of the record words and the counters, whatever they are.
-use Rattle.std.specs.Prelude.{ℕ, ◌+◌, ◌*◌, min, Bool, List, [], ◌∷◌, replicate, ◌==◌, nat_eq, nat_lt}
-use Rattle.definition.specs.Chars.{if◌then◌else◌, part}
+use Rattle.std.specs.Prelude.{ℕ, ◌+◌, ◌*◌, min, Bool, List, [], ◌∷◌, replicate, ◌==◌, nat_eq, nat_lt, if◌then◌else◌}
+use Rattle.definition.specs.Chars.{part}
 use Rattle.buffers.specs.Over.{over}
 use Rattle.marks.specs.Marks.{converted}
 use Rattle.records.specs.declared.Whole.{Whole}

@@ -1,10 +1,11 @@
 // What is written of a literal's pieces: records, and the counters that stand for both buffers; and the rows of its fields.
+#![tactic(auto)]
+
 pub mod again;
 pub mod rows;
 
-ghost use Rattle.std.specs.Prelude.{◌≡◌, ◌+◌, nat_eq};
-ghost use Rattle.definition.specs.Chars.{if◌then◌else◌};
-ghost use Rattle.records.specs.Counts.{word as word_of, plus as plusOf, minus as minusOf};
+ghost use Rattle.std.specs.Prelude.{◌≡◌, ◌+◌, nat_eq, if◌then◌else◌};
+ghost use Rattle.records.specs.Counts.{word as word_of, plus as plus_of, minus as minus_of};
 ghost use Rattle.records.specs.Written.{written, closed, put as put_of, held, literal as literal_of, ended, spec_text, reserved, specified, documented, documented_text, field_put, field};
 
 use again::{frame_again, sink_again};
@@ -15,7 +16,7 @@ use std::num::{wrapping_add_usize, wrapping_sub_usize};
 use utf8::Cursor;
 
 // What every top-level record of a call carries: its kind, the call's first start and last end, and its u mark.
-#[derive(Drop)]
+#[derive(Clone, Copy)]
 pub struct Whole {
     pub kind: u32,
     pub start: u32,
@@ -24,14 +25,14 @@ pub struct Whole {
 }
 
 // Which rows of a call are written: those from number `skip` on, each with `within` as its last number.
-#[derive(Drop)]
+#[derive(Clone, Copy)]
 pub struct Window {
     pub within: u32,
     pub skip: u32,
 }
 
 // A literal: its kind and range, where its body begins, which rows are written, and its call's whole.
-#[derive(Drop)]
+#[derive(Clone, Copy)]
 pub struct Frame {
     pub kind: u32,
     pub start: u32,
@@ -42,7 +43,7 @@ pub struct Frame {
 }
 
 // What is written so far: records, text bytes, 1 if a top-level text is held open and from where, and the parts at this depth.
-#[derive(Drop)]
+#[derive(Clone, Copy)]
 pub struct Sink {
     pub count: usize,
     pub used: usize,
@@ -53,7 +54,7 @@ pub struct Sink {
 
 // A field's head as read: the cursor after its `}` or `:`, the text's used length, the spaces after a self-documenting `=`, the bytes taken
 // just after the first such `=` and after the `!`, 0 where there is none, and the conversion.
-#[derive(Drop)]
+#[derive(Clone, Copy)]
 pub struct Head {
     pub at: Cursor,
     pub used: usize,
@@ -81,13 +82,13 @@ pub(crate) fn place_in(base: u32, taken: usize) -> u32
 
 // A sum and a difference of counts.
 fn plus(a: usize, b: usize) -> usize
-    ensures { result ≡ plusOf a b }
+    ensures { result ≡ plus_of a b }
 {
     wrapping_add_usize(a, b)
 }
 
 fn minus(a: usize, b: usize) -> usize
-    ensures { result ≡ minusOf a b }
+    ensures { result ≡ minus_of a b }
 {
     wrapping_sub_usize(a, b)
 }

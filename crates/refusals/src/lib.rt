@@ -1,4 +1,6 @@
 // The entry checks 4 to 7 in their order, each over the whole list before the next.
+#![tactic(auto)]
+
 ghost use Rattle.std.specs.Prelude.{◌≡◌};
 ghost use Rattle.std.proofs.Math.Option.{none};
 ghost use Rattle.definition.specs.Entry.{all_good, total, not_long, all_utf8, not_mixed};

@@ -1,4 +1,6 @@
 // A recorded trace replayed through a template: for each row the line that Python would write, then byte 10.
+#![tactic(auto)]
+
 ghost use Rattle.std.specs.Prelude.{◌≡◌, ◌*◌, ◌≤◌, length};
 ghost use Rattle.definition.specs.Escapes.{held_names};
 ghost use Rattle.definition.specs.Records.{Answer};

@@ -1,6 +1,6 @@
 -- Records by their number in the words: their shapes, and the items from one on.
-use Rattle.std.specs.Prelude.{ℕ, zero, suc, ◌+◌, ◌-◌, ◌≤◌, ◌<◌, ◌≡◌, List, [], ◌∷◌, eqb, length, drop}
-use Rattle.definition.specs.Chars.{if◌then◌else◌, part}
+use Rattle.std.specs.Prelude.{ℕ, zero, suc, ◌+◌, ◌-◌, ◌≤◌, ◌<◌, ◌≡◌, List, [], ◌∷◌, eqb, length, drop, if◌then◌else◌}
+use Rattle.definition.specs.Chars.{part}
 use Rattle.definition_revisions.specs.Revisions.{Shape, items_from, run}
 use Rattle.formed.specs.declared.Head.{Head}
 use Rattle.formed.specs.Heads.{head_at}

@@ -1,4 +1,6 @@
 // Two revisions of a script line: the top-level items of two answers that are lent, how far they are equal from the front and from the back, and what lies between.
+#![tactic(auto)]
+
 ghost use Rattle.std.specs.Prelude.{◌≡◌, reverse, ◌+◌, ◌-◌, ◌*◌, ◌≤◌, ◌<◌, length};
 ghost use Rattle.definition.specs.Chars.{part, same};
 ghost use Rattle.definition.specs.Words.{owing};
@@ -12,7 +14,7 @@ use buffers::{fill_words, put_word};
 use formed::{Head, is_formed, least, number_at, record_at};
 
 // How many items are equal at the front, and at the back; how many each side has.
-#[derive(Drop)]
+#[derive(Clone, Copy)]
 pub struct Comparison {
     pub front: u32,
     pub back: u32,
@@ -21,7 +23,7 @@ pub struct Comparison {
 }
 
 // A comparison; the number of the answer that is not well formed; or how many numbers the list needs that are not lent, at most 4294967295.
-#[derive(Drop)]
+#[derive(Clone, Copy)]
 pub enum Answer {
     Compares(Comparison),
     Refused(u32),
@@ -29,7 +31,7 @@ pub enum Answer {
 }
 
 // The front: its items, and the record after them on either side.
-#[derive(Drop)]
+#[derive(Clone, Copy)]
 pub(crate) struct Front {
     pub items: u32,
     pub first: u32,

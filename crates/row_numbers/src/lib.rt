@@ -1,4 +1,6 @@
 // A row's ten numbers written into a lent buffer at the row's place: what would stand past the end is left out.
+#![tactic(auto)]
+
 ghost use Rattle.std.specs.Prelude.{◌≡◌, ◌*◌, min};
 ghost use Rattle.buffers.specs.Over.{over};
 ghost use Rattle.row_numbers.specs.Numbers.{numbers_of};
@@ -7,7 +9,7 @@ use buffers::put_word;
 
 // A field's row: the reason of its conversion, its literal's start, its place, its expression's length and its conversion, its signs, and the
 // row in whose source its literal stands.
-#[derive(Drop)]
+#[derive(Clone, Copy)]
 pub struct Row {
     pub reason: u32,
     pub start: u32,

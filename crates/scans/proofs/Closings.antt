@@ -1,4 +1,5 @@
 -- The loop over a body: what there is from here on is what there is from the start. Assumes nothing.
+use Rattle.std.specs.Prelude.{if◌then◌else◌}
 use mathlib.Core.Path.{◌≡◌, refl, sym, ◌∙◌, ap}
 use mathlib.Core.Bool.{Bool, true, false, ◌&&◌, not, ◌||◌}
 use mathlib.Core.List.{List}
@@ -8,7 +9,7 @@ use borrow.Author.Tests.{le-leb, lt-leb, leb-true, leb-false}
 use lib.Dec.{leb, eqb}
 use lib.ListN.{length, drop}
 use Rattle.definition.specs.Numbers.{never_closed, newline_in_literal}
-use Rattle.definition.specs.Chars.{if◌then◌else◌, ◌is◌, byte, before}
+use Rattle.definition.specs.Chars.{◌is◌, byte, before}
 use Rattle.definition_scripts.specs.Opening.{quotes_at}
 use Rattle.definition_scripts.specs.Literals.{over, takes, closes, breaks, plain, body_case, closed, fails, closing}
 use Rattle.definition.proofs.Moves.CharLaws.{cases, before_end, before_here, before_next}

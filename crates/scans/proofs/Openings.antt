@@ -1,4 +1,5 @@
 -- What a prefix of two letters says, and that none opens past the end. Assumes nothing.
+use Rattle.std.specs.Prelude.{if◌then◌else◌}
 use mathlib.Core.Path.{◌≡◌, refl}
 use mathlib.Core.Bool.{Bool, true, false, ◌&&◌, ◌||◌}
 use mathlib.Core.List.{List}
@@ -7,7 +8,7 @@ use native.Mathlib.Omega.{arith}
 use borrow.Author.Tests.{eqb-true}
 use lib.Dec.{eqb}
 use lib.ListN.{length, get_or-eq_default}
-use Rattle.definition.specs.Chars.{if◌then◌else◌, ◌is◌, byte}
+use Rattle.definition.specs.Chars.{◌is◌, byte}
 use Rattle.definition_scripts.specs.Opening.{no_kind, two_letters, opens}
 use Rattle.definition.proofs.Moves.CharLaws.{either}
 use Rattle.scans.specs.Scans.{raw_kind}

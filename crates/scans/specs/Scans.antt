@@ -1,6 +1,6 @@
 -- What a scan looks for, and what the answers say in the definition's terms.
-use Rattle.std.specs.Prelude.{ℕ, Bool, ◌||◌, eqb}
-use Rattle.definition.specs.Chars.{if◌then◌else◌, ◌is◌}
+use Rattle.std.specs.Prelude.{ℕ, Bool, ◌||◌, eqb, if◌then◌else◌}
+use Rattle.definition.specs.Chars.{◌is◌}
 use Rattle.definition_scripts.specs.Opening.{no_kind}
 use Rattle.definition_scripts.specs.Literals as s
 use Rattle.searches.specs.Firsts.{one_of}

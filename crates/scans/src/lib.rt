@@ -1,4 +1,6 @@
 // What is looked for in a script: what opens a literal and where it closes, and the ends of lines and comments.
+#![tactic(auto)]
+
 ghost use Rattle.std.specs.Prelude.{◌≡◌, ◌<◌, length};
 ghost use Rattle.definition.specs.Chars.{◌is◌};
 ghost use Rattle.definition_scripts.specs.Opening.{is_quote, one_letter, two_letters, opens, tripled, quotes_at, line_end, first_at};
@@ -10,7 +12,7 @@ use searches::first_of;
 use words::byte_at;
 
 // What stands at an index of a body: nothing more, a backslash with what it takes, the closing quotes, a newline that may not stand there, or any other byte.
-#[derive(Drop)]
+#[derive(Clone, Copy)]
 pub(crate) enum BodyCase {
     Over,
     Takes,
@@ -20,7 +22,7 @@ pub(crate) enum BodyCase {
 }
 
 // Where a body's closing quotes begin, or the number that says why there are none.
-#[derive(Drop)]
+#[derive(Clone, Copy)]
 pub enum Closing {
     Closed(usize),
     Fails(u32),

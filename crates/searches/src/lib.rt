@@ -1,6 +1,7 @@
 // Where the first of three bytes stands in a text: by blocks of eight, then byte by byte. Nothing is written here.
-ghost use Rattle.std.specs.Prelude.{◌≡◌, true, ◌≤◌, eqb, length};
-ghost use Rattle.definition.specs.Chars.{if◌then◌else◌};
+#![tactic(auto)]
+
+ghost use Rattle.std.specs.Prelude.{◌≡◌, true, ◌≤◌, eqb, length, if◌then◌else◌};
 ghost use Rattle.searches.specs.Firsts.{first_of};
 
 use ascii::greater;

@@ -1,4 +1,5 @@
 -- Where Python reads a source otherwise, as the code goes over it. Assumes nothing.
+use Rattle.std.specs.Prelude.{if◌then◌else◌}
 use mathlib.Core.Path.{◌≡◌, refl, sym, subst, ◌∙◌, ap, ap₂}
 use mathlib.Core.Bool.{Bool, true, false, ◌&&◌, not}
 use mathlib.Core.List.{List, [], ◌∷◌}
@@ -7,7 +8,7 @@ use native.Mathlib.Omega.{arith}
 use borrow.Author.Tests.{lt-ltb, le-ltb, ltb-true, eq-eqb, ne_eqb}
 use lib.Dec.{ltb, eqb}
 use lib.ListN.{length, get_or, take, length-take, get_or-eq_default}
-use Rattle.definition.specs.Chars.{if◌then◌else◌, ◌is◌, byte}
+use Rattle.definition.specs.Chars.{◌is◌, byte}
 use Rattle.definition_scripts.specs.Opening.{opens, is_sign, first_at}
 use Rattle.definition_scripts.specs.IsRun.{body_end, IsLiteral}
 use Rattle.definition_scripts.specs.IsCut.{reaches_end, breaks_off, Begins, IsCut}

@@ -1,6 +1,8 @@
 // A field's source: where it ends, and where Python reads it or the spec otherwise, 75.
-ghost use Rattle.std.specs.Prelude.{◌≡◌, not, ◌≤◌, eqb, ltb, length};
-ghost use Rattle.definition.specs.Chars.{◌is◌, if◌then◌else◌};
+#![tactic(auto)]
+
+ghost use Rattle.std.specs.Prelude.{◌≡◌, not, ◌≤◌, eqb, ltb, length, if◌then◌else◌};
+ghost use Rattle.definition.specs.Chars.{◌is◌};
 ghost use Rattle.definition_scripts.specs.Cut.{cut_part};
 ghost use Rattle.definition_scripts.specs.Listing.{source_end, quoted_inside, more_after, spec_backslash, least, otherwise};
 ghost use Rattle.found.specs.Found.{literal_of};
@@ -11,7 +13,7 @@ use scans::opens;
 use searches::first_of;
 
 // A field as its row has it: its literal's start, its place, and its signs.
-#[derive(Drop)]
+#[derive(Clone, Copy)]
 pub struct Field {
     pub start: u32,
     pub place: u32,

@@ -1,4 +1,5 @@
 -- What a call answers and leaves, by what was read of all its literals. Assumes nothing.
+use Rattle.std.specs.Prelude.{if◌then◌else◌}
 use mathlib.Core.Path.{◌≡◌, refl, sym, ◌∙◌, ap, ap₂}
 use mathlib.Core.Bool.{Bool, true, false}
 use mathlib.Core.List.{List, [], ◌∷◌}
@@ -7,7 +8,6 @@ use Prim.Native.Nat.{ℕ, ◌*◌, ◌/◌, ◌≤◌}
 use native.Mathlib.Omega.{arith}
 use lib.ListN.{length, replicate}
 use Rattle.definition.specs.Records.{Record, Answer, answer_of, words_of}
-use Rattle.definition.specs.Chars.{if◌then◌else◌}
 use Rattle.definition.specs.Entry.{Literal, sixes, any_of, first_start}
 use Rattle.definition.specs.Entry as entry
 use Rattle.definition.specs.Numbers.{is_bytes, is_fstring}

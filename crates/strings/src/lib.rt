@@ -1,9 +1,10 @@
 // String literals read to records and one text: the first refusal, or all records in order.
-ghost use Rattle.std.specs.Prelude.{◌≡◌, List, ℕ, ◌/◌, ◌≤◌, length};
+#![tactic(auto)]
+
+ghost use Rattle.std.specs.Prelude.{◌≡◌, List, ℕ, ◌/◌, ◌≤◌, length, if◌then◌else◌};
 ghost use Rattle.definition.specs.Numbers.{is_bytes};
-ghost use Rattle.definition.specs.Chars.{if◌then◌else◌};
 ghost use Rattle.definition.specs.Escapes.{Naming, held_names};
-ghost use Rattle.definition.specs.Entry.{any_of, refusal as aRefusal};
+ghost use Rattle.definition.specs.Entry.{any_of, refusal as a_refusal};
 ghost use Rattle.definition.specs.Reading.{sort_of, sort_number, read_numbers, zeros};
 ghost use Rattle.definition.specs.Rows.{signs_numbers};
 ghost use Rattle.definition_names.specs.Names.{searched};
@@ -145,7 +146,7 @@ pub fn parse_searched(
 
 // A refusal of a file or its index: its number alone.
 fn of_names(number: u32) -> entry::Refusal
-    ensures { refusal_of result ≡ aRefusal number 0 0 0 0 }
+    ensures { refusal_of result ≡ a_refusal number 0 0 0 0 }
 {
     entry::Refusal {
         number,

@@ -1,4 +1,5 @@
 -- The items of a template one after another: each is text, a field with its form, or refused. Assumes nothing.
+use Rattle.std.specs.Prelude.{if◌then◌else◌}
 use mathlib.Core.Path.{◌≡◌, refl, sym, ◌∙◌, ap}
 use mathlib.Core.Bool.{Bool, true, false}
 use mathlib.Core.List.{List, [], ◌∷◌}
@@ -8,11 +9,11 @@ use native.Mathlib.Omega.{arith}
 use lib.Dec.{eqb}
 use lib.ListN.{length}
 use borrow.Author.Tests.{eq-eqb, ne_eqb}
-use Rattle.definition.specs.Chars.{if◌then◌else◌, part}
+use Rattle.definition.specs.Chars.{part}
 use Rattle.definition.specs.Records.{Record}
 use Rattle.definition_replay.specs.Spec.{Spec, spec_of}
 use Rattle.definition_replay.specs.Integers.{Form, form_of}
-use Rattle.definition_replay.specs.Replay.{Made, made, stopped, followed, Part, stands, column, items_from, nested, form_made, part_of, fields_past, parts_from, field_count}
+use Rattle.definition_replay.specs.Replay.{Made, made, stopped, followed, Part, stands, column, items_from, form_made, part_of, fields_past, parts_from, field_count}
 use Rattle.definition.proofs.Moves.CharLaws.{cases}
 use Rattle.definition_replay_laws.proofs.Replay.ReplayFirst.{items_none}
 use Rattle.formats.specs.declared.Form as formats

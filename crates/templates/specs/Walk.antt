@@ -1,7 +1,7 @@
 -- The template's records as they lie in words, and what the walk over them finds.
-use Rattle.std.specs.Prelude.{ℕ, zero, suc, ◌+◌, ◌-◌, ◌*◌, ◌/◌, ◌≤◌, ◌<◌, min, ◌≡◌, Bool, false, List, [], ◌∷◌, eqb, length, drop}
+use Rattle.std.specs.Prelude.{ℕ, zero, suc, ◌+◌, ◌-◌, ◌*◌, ◌/◌, ◌≤◌, ◌<◌, min, ◌≡◌, Bool, false, List, [], ◌∷◌, eqb, length, drop, if◌then◌else◌}
 use Rattle.definition.specs.Numbers.{outside_set}
-use Rattle.definition.specs.Chars.{if◌then◌else◌, part}
+use Rattle.definition.specs.Chars.{part}
 use Rattle.definition.specs.Records.{Record}
 use Rattle.definition.specs.Words.{word, owing, role_at}
 use Rattle.definition_replay.specs.Replay.{Made, made, stopped, Part, stands, records_below, items_from, nested, texts_of, form_made, parts_from, field_count}

@@ -1,6 +1,7 @@
 // A template as its records lie in words and its texts behind each other: its items one after another, how many fields it has, and what refuses it.
-ghost use Rattle.std.specs.Prelude.{◌≡◌, ◌||◌, List, [], ◌+◌, ◌<◌, ◌≤◌, min, eqb, length};
-ghost use Rattle.definition.specs.Chars.{if◌then◌else◌};
+#![tactic(auto)]
+
+ghost use Rattle.std.specs.Prelude.{◌≡◌, ◌||◌, List, [], ◌+◌, ◌<◌, ◌≤◌, min, eqb, length, if◌then◌else◌};
 ghost use Rattle.definition.specs.Records.{Record};
 ghost use Rattle.definition_replay.specs.Replay.{items_from, parts_from};
 ghost use Rattle.templates.specs.Walk.{records_in, parts_laid, Sized, Stand, BelowIs, PlaceIs, FoundIs, field_part, number_in, fields_made, says_count};
@@ -10,7 +11,7 @@ const FIELD: u32 = 2;
 const OUTSIDE_SET: u32 = 69;
 
 // The records that stand below one: whether a field is among them, the number of the record behind them, and where their texts end.
-#[derive(Drop)]
+#[derive(Clone, Copy)]
 pub(crate) struct Below {
     nested: bool,
     next: usize,
@@ -19,7 +20,7 @@ pub(crate) struct Below {
 
 // A top-level item: its record's kind and conversion, and where its own text ends; whether a field is among the records below it, where their
 // texts end, and the number of the next item's record.
-#[derive(Drop)]
+#[derive(Clone, Copy)]
 pub struct Place {
     pub kind: u32,
     pub mode: u32,
@@ -170,7 +171,7 @@ fn fields_of(kind: u32) -> usize
 }
 
 // What a check finds: 0 and a count; or the number of a refusal and the field that is refused, from 0.
-#[derive(Drop)]
+#[derive(Clone, Copy)]
 pub struct Verdict {
     pub number: u32,
     pub told: usize,

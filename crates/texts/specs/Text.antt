@@ -13,7 +13,7 @@ use Rattle.texts.specs.declared.Reached.{Reached}
 use Rattle.texts.specs.declared.Text.{Text}
 use Rattle.texts.specs.declared.Text.TheVariants.{Done, Refused as Not}
 use Rattle.texts.specs.declared.Run.{Run}
-use Rattle.texts.specs.declared.Run.TheVariants.{Field as AtField, Over as AtEnd, Refused as None}
+use Rattle.texts.specs.declared.Run.TheVariants.{Field as AtField, Over as AtEnd, Refused as RunRefused}
 
 -- a body or a used length with which no text is read
 abbrev pub too_large : List ℕ → ℕ → Bool
@@ -107,10 +107,10 @@ pub record OpensBefore (look : Naming) (kind : ℕ) (s : List ℕ) (depth from u
 abbrev pub RunBy : (look : Naming) → ℕ → List ℕ → ℕ → ℕ → ℕ → List ℕ → List ℕ → Run → Type 0
 RunBy look kind s depth from used text text' (AtField k end) = OpensBefore look kind s depth from used text text' k.at end
 RunBy look kind s depth from used text text' (AtEnd k end) = StopsBy look ends kind s depth from used text text' k.at end
-RunBy look kind s depth from used text text' (None x) = Halts (text_move look kind s depth) (fault_of x) from used text text'
+RunBy look kind s depth from used text text' (RunRefused x) = Halts (text_move look kind s depth) (fault_of x) from used text text'
 
 abbrev pub RunIs : (look : Naming) → ℕ → List ℕ → ℕ → ℕ → ℕ → List ℕ → List ℕ → Run → Type 0
 RunIs look kind s depth from used text text' r =
     Whether (too_large s used)
-    ((r ≡ None (refusal (fault bodies_too_long 0))) × (text' ≡ text))
+    ((r ≡ RunRefused (refusal (fault bodies_too_long 0))) × (text' ≡ text))
     (RunBy look kind s depth from used text text' r)

@@ -1,4 +1,6 @@
 // The text of a body: strings, bytes, and what stands between an f-string's fields.
+#![tactic(auto)]
+
 ghost use Rattle.std.specs.Prelude.{◌≡◌, ◌&&◌, not, [], ℕ, ◌+◌, ◌≤◌, ◌<◌, ◌^◌, length};
 ghost use Rattle.definition.specs.Numbers.{is_raw};
 ghost use Rattle.definition.specs.Chars.{◌is◌, part, code};
@@ -32,14 +34,14 @@ const SINGLE_RBRACE: u32 = 25;
 const NO_CODE: u32 = 0x110000;
 
 // A string's or bytes' used length, or why it is refused.
-#[derive(Drop)]
+#[derive(Clone, Copy)]
 pub enum Text {
     Done(usize),
     Refused(Refusal),
 }
 
 // What stops a run of text, with the used length: a field, with the cursor after its `{`; the text's end, with the cursor there. Or why it is refused.
-#[derive(Drop)]
+#[derive(Clone, Copy)]
 pub enum Run {
     Field(Cursor, usize),
     Over(Cursor, usize),
@@ -47,7 +49,7 @@ pub enum Run {
 }
 
 // Where an escape ends; it is refused; no character stands before it; or the body is over the size limit.
-#[derive(Drop)]
+#[derive(Clone, Copy)]
 pub enum EscapeEnd {
     At(usize),
     Refused,
@@ -56,7 +58,7 @@ pub enum EscapeEnd {
 }
 
 // What a character does: it goes into the text, with the cursor after it and the used length; it opens a field, with the cursor after it; it ends the text. Or it is refused.
-#[derive(Drop)]
+#[derive(Clone, Copy)]
 enum Piece {
     On(Cursor, usize),
     Field(Cursor),
@@ -65,14 +67,14 @@ enum Piece {
 }
 
 // What an escape of a string stands for, and the index after it.
-#[derive(Drop)]
+#[derive(Clone, Copy)]
 struct Coded {
     code: u32,
     to: usize,
 }
 
 // A place in a body, and the used length of the text up to it.
-#[derive(Drop)]
+#[derive(Clone, Copy)]
 struct Reached {
     cursor: Cursor,
     used: usize,

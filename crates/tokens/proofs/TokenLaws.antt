@@ -1,4 +1,5 @@
 -- What a step of the reader tells of a token. Assumes nothing.
+use Rattle.std.specs.Prelude.{if◌then◌else◌}
 use mathlib.Core.Path.{◌≡◌, refl, sym, ◌∙◌}
 use mathlib.Core.Bool.{Bool, true, false}
 use mathlib.Core.List.{List, []}
@@ -7,7 +8,7 @@ use Prim.Native.Nat.{ℕ, ◌≤◌, ◌<◌}
 use native.Mathlib.Omega.{arith}
 use borrow.Author.Tests.{le-leb, lt-leb, leb-true, leb-false, ne_eqb}
 use lib.ListN.{length}
-use Rattle.definition.specs.Chars.{if◌then◌else◌, ◌is◌, at_end, no_code, code, next}
+use Rattle.definition.specs.Chars.{◌is◌, at_end, no_code, code, next}
 use Rattle.definition.specs.Escapes.{held_names, Fault, Read, got, refused, Meaning, escape}
 use Rattle.definition.specs.Body.{Piece, with_escape, text_case, text_move, field_n, fresh, enough}
 use Rattle.definition_cuts.specs.Tokens.{end_of, move_end, staying, token_end}

@@ -1,6 +1,8 @@
-// Where a token of a body of kind 1 ends: a character, an escape, `{{`, `}}`, a field; a backslash that stays before a brace goes with what follows. Whether a body is well_formed_lem.
-ghost use Rattle.std.specs.Prelude.{◌≡◌, ◌≤◌, leb, length};
-ghost use Rattle.definition.specs.Chars.{if◌then◌else◌, next, well_formed};
+// Where a token of a body of kind 1 ends: a character, an escape, `{{`, `}}`, a field; a backslash that stays before a brace goes with what follows. Whether a body is well-formed.
+#![tactic(auto)]
+
+ghost use Rattle.std.specs.Prelude.{◌≡◌, ◌≤◌, leb, length, if◌then◌else◌};
+ghost use Rattle.definition.specs.Chars.{next, well_formed};
 ghost use Rattle.definition_cuts.specs.Tokens.{move_end, staying};
 ghost use Rattle.utf8.proofs.Steps.{Stepped};
 ghost use Rattle.tokens.specs.Tokens.{EndIs, TokenIs};
@@ -10,7 +12,7 @@ use texts::{EscapeEnd, escape_end};
 use utf8::{Cursor, Step};
 
 // Where a token ends; it is refused, or none stands there; or the body is over the size limit.
-#[derive(Drop)]
+#[derive(Clone, Copy)]
 pub enum Token {
     Ends(usize),
     Refused,
@@ -114,7 +116,7 @@ pub fn token_end(s: &[u8], at: usize) -> Token
     move_end(s, from)
 }
 
-// Whether a body is well_formed_lem.
+// Whether a body is well-formed.
 pub fn is_formed(s: &[u8]) -> bool
     ensures { result ≡ leb (length s.now) (well_formed s.now) }
 {

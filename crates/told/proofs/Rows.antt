@@ -1,5 +1,6 @@
 -- Rows that are written, and read back. Assumes nothing.
-use mathlib.Core.Path.{◌≡◌, refl, sym, ◌∙◌, ap}
+use Rattle.std.specs.Prelude.{if◌then◌else◌}
+use mathlib.Core.Path.{◌≡◌, refl, sym, ◌∙◌, ap, ap₂}
 use mathlib.Core.Bool.{Bool, true, false, not, ◌||◌}
 use mathlib.Core.List.{List, [], ◌∷◌, ◌++◌, append-nil, append_assoc}
 use Prim.Native.Nat.{ℕ, suc, ◌+◌, ◌-◌, ◌*◌, ◌≤◌, ◌<◌, min}
@@ -10,7 +11,6 @@ use borrow.Author.Tests.{leb-true, leb-false, ltb-false}
 use lib.Dec.{eqb, leb, ltb}
 use lib.ListN.{length, get_or, length-append}
 use Rattle.definition.specs.Numbers.{unknown_prefix, read_otherwise}
-use Rattle.definition.specs.Chars.{if◌then◌else◌}
 use Rattle.definition.specs.Entry as d
 use Rattle.definition.specs.Rows.{reason, Row, row_numbers}
 use Rattle.definition_scripts.specs.Cut.{cut_part}
@@ -106,9 +106,9 @@ pub rows_back : (pre : List ℕ) (i : ℕ) (rs : List ListRow) (rest : List ℕ)
 unfolding rows_in tens
 rows_back pre i [] rest e = refl
 rows_back pre i (r ∷ rs) rest e =
-    let f = append_assoc (ten_of r) (tens rs) rest in
-    let g : pre ++ (ten_of r ++ (tens rs ++ rest)) ≡ (pre ++ ten_of r) ++ (tens rs ++ rest) = sym (append_assoc pre (ten_of r) (tens rs ++ rest)) in
-    rw (f, row_back pre i r (tens rs ++ rest) e, g) (ap (λ x. r ∷ x) (rows_back (pre ++ ten_of r) (suc i) rs rest (length-append pre (ten_of r) ∙ omega (arith, ten r))))
+    let j = row_back pre i r (tens rs ++ rest) e in
+    let k = rows_back (pre ++ ten_of r) (suc i) rs rest (length-append pre (ten_of r) ∙ omega (arith, ten r)) in
+    ap₂ ◌∷◌ (rw (← append_assoc (ten_of r) (tens rs) rest) at j) (rw (append_assoc pre (ten_of r) (tens rs ++ rest), ← append_assoc (ten_of r) (tens rs) rest) at k)
 
 -- REFUSALS AMONG ROWS, one by one
 pub refusals_start : (rows : List ℕ) (count : ℕ) → refusals_in (rows_in rows 0 count) ≡ 0 + refusals_in (rows_in rows 0 (count - 0))

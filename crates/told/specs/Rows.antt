@@ -1,7 +1,6 @@
 -- Rows in a buffer, as they are written and read.
-use Rattle.std.specs.Prelude.{ℕ, zero, suc, ◌+◌, ◌*◌, ◌≡◌, List, [], ◌∷◌, eqb, ltb, length, get_or}
+use Rattle.std.specs.Prelude.{ℕ, zero, suc, ◌+◌, ◌*◌, ◌≡◌, List, [], ◌∷◌, eqb, ltb, length, get_or, if◌then◌else◌}
 use Rattle.definition.specs.Numbers.{read_otherwise}
-use Rattle.definition.specs.Chars.{if◌then◌else◌}
 use Rattle.definition_scripts.specs.Listing.{ListRow, of_field, of_refusal, tens}
 use Rattle.buffers.specs.Over.{over}
 use Rattle.sources.specs.declared.Field.{Field}

@@ -1,4 +1,6 @@
 // The rows of refusals, and rows counted and copied.
+#![tactic(auto)]
+
 mod otherwise;
 mod unknown;
 
@@ -15,7 +17,7 @@ pub use unknown::put_unknown;
 const REFUSAL: u32 = 5;
 
 // Why a literal or a field is refused, and where.
-#[derive(Drop)]
+#[derive(Clone, Copy)]
 pub struct Told {
     pub start: u32,
     pub place: u32,

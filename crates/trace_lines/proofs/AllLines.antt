@@ -21,7 +21,7 @@ use Rattle.buffers.specs.Over.{over}
 use Rattle.buffers.proofs.Over.{over_nil, over_append}
 use Rattle.traces.specs.Cells.{verdict_of, check_of}
 use Rattle.templates.specs.Walk.{Stand}
-use Rattle.trace_lines.specs.Lines.{Writes, RowIs, LineIs, Wrote, AllAre, LinesAre}
+use Rattle.trace_lines.specs.Lines.{Writes, RowIs, LineIs, Wrote, LinesAre}
 
 -- A ROW THAT IS MADE
 pub record Fine (ps : List Part) (vs : List Integer) (l : List ℕ) : Type 0 where

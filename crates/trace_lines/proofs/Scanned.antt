@@ -1,14 +1,14 @@
 -- A row read column by column: what its columns so far and those to come make of it. Assumes nothing.
-use mathlib.Core.Path.{◌≡◌, refl, sym, ◌∙◌, ap, ap₂}
-use mathlib.Core.Bool.{Bool, true, false, ◌&&◌, not}
+use mathlib.Core.Path.{◌≡◌, refl, sym, ◌∙◌, ap}
+use mathlib.Core.Bool.{Bool, true, false, ◌&&◌}
 use mathlib.Core.List.{List, [], ◌∷◌, ◌++◌, append_assoc}
-use Prim.Native.Nat.{ℕ, zero, suc, ◌+◌, ◌<◌}
+use Prim.Native.Nat.{ℕ, suc, ◌<◌}
 use native.Mathlib.Omega.{arith}
 use lib.Dec.{eqb}
 use lib.ListN.{length, length-append}
 use borrow.Author.Tests.{eqb-true}
 use Rattle.definition_replay.specs.Integers.{Integer}
-use Rattle.definition_replay.specs.Trace.{Taken, taken, broken, more_of, Behind, comma, ends, other, behind_column, row_of}
+use Rattle.definition_replay.specs.Trace.{Taken, taken, broken, more_of, Behind, comma, ends, other, behind_column}
 use Rattle.definition_replay.specs.Replay.{in_range, all_in_range}
 use Rattle.definition.proofs.Moves.CharLaws.{cases, no}
 use Rattle.definition_replay_laws.proofs.Spec.SpecLaws.{both_true}

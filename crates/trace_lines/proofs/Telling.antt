@@ -1,21 +1,18 @@
 -- What is told of a trace, whichever way it ends. Assumes nothing.
 use mathlib.Core.Path.{◌≡◌, refl, sym, ◌∙◌, ap, ap₂}
 use mathlib.Core.Bool.{Bool, true, false}
-use mathlib.Core.List.{List, [], ◌∷◌, ◌++◌}
+use mathlib.Core.List.{List, [], ◌∷◌}
 use mathlib.Core.Option.{Option, none, some}
-use Prim.Native.Nat.{ℕ, suc, ◌+◌, ◌*◌, ◌≤◌, ◌<◌, min}
+use Prim.Native.Nat.{ℕ, suc, ◌+◌, ◌≤◌, ◌<◌, min}
 use native.Mathlib.Nat.{zero-add}
 use native.Mathlib.Omega.{arith}
 use lib.Dec.{leb}
 use lib.ListN.{length, take, replicate, length-append}
 use lib.Seq.{take_all}
 use borrow.Author.Tests.{eq-eqb, ne_eqb, lt-ltb, le-ltb, leb-true, leb-false}
-use Rattle.definition.specs.Chars.{if◌then◌else◌}
-use Rattle.definition.specs.Records.{Record}
 use Rattle.definition_replay.specs.Integers.{Integer, written}
 use Rattle.definition_replay.specs.Trace.{rows_of}
 use Rattle.definition_replay.specs.Replay.{Made, made, stopped, Part, stands, column, items_from, parts_from, field_count, row_line, row_made, lines_from, concat, lines_of}
-use Rattle.buffers.specs.Over.{over}
 use Rattle.buffers.proofs.Over.{over_front}
 use Rattle.templates.specs.Walk.{records_in, laid_from, parts_laid, Sized, fields_made, says_count}
 use Rattle.templates.proofs.Walking.{laid_stands}

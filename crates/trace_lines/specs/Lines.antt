@@ -1,6 +1,5 @@
 -- What is written of an item, of a row and of all rows, and what is told of a trace.
-use Rattle.std.specs.Prelude.{ℕ, ◌+◌, ◌≤◌, ◌<◌, min, ◌≡◌, Bool, true, false, List, ltb, length, drop}
-use Rattle.definition.specs.Chars.{if◌then◌else◌}
+use Rattle.std.specs.Prelude.{ℕ, ◌+◌, ◌≤◌, ◌<◌, min, ◌≡◌, Bool, true, false, List, ltb, length, drop, if◌then◌else◌}
 use Rattle.definition.specs.Numbers.{too_little_line_room}
 use Rattle.definition.specs.Records.{Record}
 use Rattle.definition.specs.Reading.{in_front, zeros}

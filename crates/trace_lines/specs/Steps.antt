@@ -1,6 +1,6 @@
 -- The steps of a line: an item and the form of its spec, in sixteen numbers and back.
-use Rattle.std.specs.Prelude.{ℕ, ◌+◌, ◌*◌, ◌%◌, ◌≤◌, ◌<◌, ◌≡◌, not, List, [], ◌∷◌, eqb, length}
-use Rattle.definition.specs.Chars.{if◌then◌else◌, part}
+use Rattle.std.specs.Prelude.{ℕ, ◌+◌, ◌*◌, ◌%◌, ◌≤◌, ◌<◌, ◌≡◌, not, List, [], ◌∷◌, eqb, length, if◌then◌else◌}
+use Rattle.definition.specs.Chars.{part}
 use Rattle.definition.specs.Records.{Record}
 use Rattle.definition.specs.Words.{word}
 use Rattle.formats.specs.Parts.{FormIs}

@@ -1,6 +1,7 @@
 // The lines of a trace's rows by a template that lies in words and text: what is written of each row, then byte 10, and what refuses a row.
-ghost use Rattle.std.specs.Prelude.{◌≡◌, true, ◌+◌, ◌*◌, ◌<◌, ◌≤◌, min, length, take, replicate};
-ghost use Rattle.definition.specs.Chars.{if◌then◌else◌};
+#![tactic(auto)]
+
+ghost use Rattle.std.specs.Prelude.{◌≡◌, true, ◌+◌, ◌*◌, ◌<◌, ◌≤◌, min, length, take, replicate, if◌then◌else◌};
 ghost use Rattle.definition_replay.specs.Replay.{lines_of};
 ghost use Rattle.formats.specs.Parts.{FormIs};
 ghost use Rattle.buffers.specs.Over.{over};
@@ -27,7 +28,7 @@ fn least(a: usize, b: usize) -> usize
 }
 
 // A step of a line: its record's number and where its text begins, the item, and the form of its spec.
-#[derive(Drop)]
+#[derive(Clone, Copy)]
 pub(crate) struct Step {
     first: usize,
     at: usize,
@@ -196,7 +197,7 @@ fn step_at(
 
 // What was written: where it ends; what stands behind the row's columns so far, 0 if one is refused, 1 for a comma, else the row's end; and where
 // the next column or row begins.
-#[derive(Drop)]
+#[derive(Clone, Copy)]
 pub(crate) struct Put {
     used: usize,
     ends: u8,
@@ -245,7 +246,7 @@ fn put_item(
 }
 
 // A row's line: whether the row is not refused; where the line ends, and where the next row begins.
-#[derive(Drop)]
+#[derive(Clone, Copy)]
 pub(crate) struct Line {
     fine: bool,
     used: usize,
@@ -312,7 +313,7 @@ fn write_line(
 }
 
 // The lines of rows: 0, how many there are and where they end; or the number of a refusal and the row that is refused, from 0.
-#[derive(Drop)]
+#[derive(Clone, Copy)]
 pub(crate) struct Rows {
     number: u32,
     row: usize,
@@ -377,7 +378,7 @@ fn write_rows(
 
 // What is told of a trace: 0, how many rows it has, and how many bytes their lines; or a refusal of 68 to 73, and the field or the row, from 0, or the
 // bytes that are needed; at most 4,294,967,295.
-#[derive(Drop)]
+#[derive(Clone, Copy)]
 pub struct Told {
     pub number: u32,
     pub told: u32,

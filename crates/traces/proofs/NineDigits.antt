@@ -1,4 +1,5 @@
 -- A column of nine digits at most. Assumes nothing.
+use Rattle.std.specs.Prelude.{if◌then◌else◌}
 use mathlib.Core.Path.{◌≡◌, refl, sym, ◌∙◌, ap}
 use mathlib.Core.Bool.{Bool, true, false, ◌&&◌, not}
 use mathlib.Core.List.{List}
@@ -7,7 +8,6 @@ use native.Mathlib.Omega.{arith}
 use lib.Dec.{eqb, leb, ltb}
 use lib.ListN.{length, get_or, drop}
 use borrow.Author.Tests.{ne_eqb, eqb-true, eqb-false, le-leb, leb-true, leb-false, ltb-true, ltb-false}
-use Rattle.definition.specs.Chars.{if◌then◌else◌}
 use Rattle.definition_replay.specs.Spec.{is_digit, first, past, front, behind}
 use Rattle.definition_replay.specs.SpecNumbers.{told_of}
 use Rattle.definition_replay.specs.Replay.{in_range}

@@ -1,7 +1,6 @@
 -- Columns one at a time, in the definition's terms.
-use Rattle.std.specs.Prelude.{ℕ, zero, suc, ◌+◌, ◌-◌, min, Bool, true, false, ◌&&◌, not, List, [], ◌∷◌, eqb, length, drop}
+use Rattle.std.specs.Prelude.{ℕ, zero, suc, ◌+◌, ◌-◌, min, Bool, true, false, ◌&&◌, not, List, [], ◌∷◌, eqb, length, drop, if◌then◌else◌}
 use Rattle.definition.specs.Numbers.{row_malformed, wrong_columns, out_of_range}
-use Rattle.definition.specs.Chars.{if◌then◌else◌}
 use Rattle.definition_replay.specs.Integers.{Integer}
 use Rattle.definition_replay.specs.Trace.{Taken, taken, broken, Behind, comma, ends, other, behind_column}
 use Rattle.definition_replay.specs.Replay.{in_range, all_in_range}

@@ -1,4 +1,6 @@
 // A trace by RFC 4180: rows of columns that are decimal integers. Numbers as they are told of it.
+#![tactic(auto)]
+
 ghost use Rattle.std.specs.Prelude.{◌≡◌, ◌&&◌, not, ◌+◌, ◌-◌, ◌<◌, ◌≤◌, min, eqb, length, drop};
 ghost use Rattle.definition_replay.specs.Spec.{first, past};
 ghost use Rattle.definition_replay.specs.Trace.{behind_column, row_of};
@@ -7,14 +9,14 @@ ghost use Rattle.digits.proofs.Digits.{Valued};
 ghost use Rattle.traces.specs.Cells.{says_behind, cell_of, clip_cell, fit_cell, integer, says_cell, ended_by, verdict_of, check_of};
 
 // What stands behind a column: 0 for what may not, 1 for a comma, 2 for the row's end; and where it ends.
-#[derive(Drop)]
+#[derive(Clone, Copy)]
 pub(crate) struct Mark {
     kind: u8,
     next: usize,
 }
 
 // A column: what stands behind it, its integer, its size at most 4,294,967,294, and where the next column or row begins.
-#[derive(Drop)]
+#[derive(Clone, Copy)]
 pub struct Column {
     pub ends: u8,
     pub negative: bool,
@@ -187,7 +189,7 @@ fn read_any(s: &[u8], at: usize) -> Column
 }
 
 // Digits that were read, nine at most: their value, and where they end.
-#[derive(Drop)]
+#[derive(Clone, Copy)]
 pub(crate) struct Short {
     value: u32,
     next: usize,

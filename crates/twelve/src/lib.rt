@@ -1,4 +1,6 @@
 // An index, literals, a comparison and a check in the twelve numbers of the C interface.
+#![tactic(auto)]
+
 ghost use Rattle.std.specs.Prelude.{◌≡◌, ◌-◌, [], ◌∷◌};
 ghost use Rattle.definition_revisions.specs.Revisions.{compare_numbers};
 ghost use Rattle.literals.specs.Answers as listing;

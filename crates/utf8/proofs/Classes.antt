@@ -1,5 +1,6 @@
 -- The rules of the byte classes: the table's, by one test over its 256 entries; and each class's bytes after the first.
 -- Assumes nothing.
+use Rattle.std.specs.Prelude.{if◌then◌else◌}
 use mathlib.Core.Path.{◌≡◌, refl, ap}
 use mathlib.Core.Bool.{Bool}
 use mathlib.Core.List.{List, [], ◌∷◌}
@@ -9,7 +10,7 @@ use native.Mathlib.Numerals.{add-one}
 use native.Mathlib.Omega.{arith}
 use lib.Dec.{eqb, leb, eqb→eq, leb→le, lit<}
 use lib.ListN.{length, get_or}
-use Rattle.definition.specs.Chars.{if◌then◌else◌, ascii, byte, Range, inside, table37, following, follow, width}
+use Rattle.definition.specs.Chars.{ascii, byte, Range, inside, table37, following, follow, width}
 use Rattle.utf8.specs.Classes.{classes, row_from, class_of, ranges}
 use Rattle.definition.proofs.Moves.CharLaws.{cases, Each}
 use Rattle.utf8.proofs.Table.{at}

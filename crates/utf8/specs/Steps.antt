@@ -1,6 +1,6 @@
 -- The character step with a cursor by value.
-use Rattle.std.specs.Prelude.{ℕ, List}
-use Rattle.definition.specs.Chars.{if◌then◌else◌, at_end, code, next}
+use Rattle.std.specs.Prelude.{ℕ, List, if◌then◌else◌}
+use Rattle.definition.specs.Chars.{at_end, code, next}
 use Rattle.utf8.specs.declared.Step.{Step}
 use Rattle.utf8.specs.declared.Step.TheVariants.{Char, End}
 

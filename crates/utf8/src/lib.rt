@@ -1,3 +1,5 @@
+#![tactic(auto)]
+
 // UTF-8 by the Unicode Standard, tables 3-6 and 3-7: byte classes, a character's length, the character step. Nothing is written here.
 ghost use Rattle.std.specs.Prelude.{◌≡◌, ◌+◌, ◌<◌, ◌≤◌, max, length};
 ghost use Rattle.definition.specs.Chars.{byte, follow, width, decoded, code};
@@ -5,13 +7,13 @@ ghost use Rattle.utf8.specs.Classes.{classes, class_of, ranges};
 ghost use Rattle.utf8.specs.Steps.{step_at};
 
 // A place in the bytes of a body.
-#[derive(Drop)]
+#[derive(Clone, Copy)]
 pub struct Cursor {
     pub at: usize,
 }
 
 // What stands at a cursor: a character's code and the cursor after it, or the end.
-#[derive(Drop)]
+#[derive(Clone, Copy)]
 pub enum Step {
     Char(u32, Cursor),
     End,
@@ -74,7 +76,7 @@ fn follows(s: &[u8], from: usize, more: usize, low: u8, high: u8) -> bool
     true
 }
 
-// The length of the well_formed_lem character at an index, by the class of its first byte in the table; 0 if there is none.
+// The length of the well-formed character at an index, by the class of its first byte in the table; 0 if there is none.
 fn len_in(s: &[u8], at: usize, table: &[u8; 256]) -> usize
     requires { (at < length s.now) × (table.now ≡ classes) }
     ensures { result ≡ width s.now at }
@@ -91,7 +93,7 @@ fn len_in(s: &[u8], at: usize, table: &[u8; 256]) -> usize
     }
 }
 
-// The length of the well_formed_lem character at an index; 0 if there is none.
+// The length of the well-formed character at an index; 0 if there is none.
 pub fn char_len(s: &[u8], at: usize) -> usize
     ensures { result ≡ width s.now at }
 {
@@ -145,7 +147,7 @@ fn next_wide(s: &[u8], at: usize) -> Step
 }
 
 impl Cursor {
-    // The character at the cursor. A byte that begins no well_formed_lem one is taken alone, as U+FFFD.
+    // The character at the cursor. A byte that begins no well-formed one is taken alone, as U+FFFD.
     pub fn next_char(self, s: &[u8]) -> Step
         ensures { result ≡ step_at s.now self.at }
     {

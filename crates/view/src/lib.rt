@@ -1,17 +1,19 @@
 // A view over an accepted answer: the record at a number.
+#![tactic(auto)]
+
 ghost use Rattle.std.specs.Prelude.{◌≡◌};
 ghost use Rattle.definition.specs.View.{viewed};
 ghost use Rattle.view.specs.Answers.{says};
 
 // The words of an accepted answer, and its count of records.
-#[derive(Drop)]
+#[derive(Clone, Copy)]
 pub struct View<'a> {
     pub words: &'a [u32],
     pub count: u32,
 }
 
 // A record, or that there is none.
-#[derive(Drop)]
+#[derive(Clone, Copy)]
 pub enum Found {
     Record(record_words::Record),
     Nothing,

@@ -1,7 +1,6 @@
 -- What is told of a whole list of literals beside their bodies.
-use Rattle.std.specs.Prelude.{ℕ}
+use Rattle.std.specs.Prelude.{ℕ, if◌then◌else◌}
 use Rattle.definition.specs.Numbers.{is_bytes, is_unicode}
-use Rattle.definition.specs.Chars.{if◌then◌else◌}
 use Rattle.definition.specs.Counts.{Count}
 use Rattle.definition.specs.Escapes.{Fault}
 use Rattle.definition.specs.Entry.{Literal, place_of, Refusal}

@@ -1,7 +1,8 @@
 // What is told of a whole list of literals beside their bodies: what its top-level records carry, one text that is held, and the refusal of a body.
-ghost use Rattle.std.specs.Prelude.{◌≡◌};
+#![tactic(auto)]
+
+ghost use Rattle.std.specs.Prelude.{◌≡◌, if◌then◌else◌};
 ghost use Rattle.definition.specs.Numbers.{is_bytes, is_unicode};
-ghost use Rattle.definition.specs.Chars.{if◌then◌else◌};
 ghost use Rattle.definition.specs.Entry.{place_of};
 ghost use Rattle.definition.specs.Reading.{opened_at};
 ghost use Rattle.counts.specs.Counts.{count_of};

@@ -1,4 +1,6 @@
 // The byte at an index of a script, and the word that ends before a literal's start: whether one does, where it begins, and whether it may stand there.
+#![tactic(auto)]
+
 ghost use Rattle.std.specs.Prelude.{◌≡◌, true, ◌+◌, ◌≤◌, length};
 ghost use Rattle.definition.specs.Numbers.{◌among◌};
 ghost use Rattle.definition.specs.Chars.{byte, inside, ◌to◌, part};

@@ -1,4 +1,5 @@
 -- What writing at one record goes by. Assumes nothing.
+use Rattle.std.specs.Prelude.{if◌then◌else◌}
 use mathlib.Core.Path.{◌≡◌, refl, sym, ◌∙◌}
 use mathlib.Core.Bool.{Bool}
 use mathlib.Core.List.{List, [], ◌∷◌, ◌++◌}
@@ -7,7 +8,7 @@ use native.Mathlib.Omega.{arith}
 use lib.Dec.{eqb}
 use lib.ListN.{length, length-append, replicate}
 use borrow.Author.Tests.{eq-eqb, ne_eqb}
-use Rattle.definition.specs.Chars.{if◌then◌else◌, ◌is◌, part}
+use Rattle.definition.specs.Chars.{◌is◌, part}
 use Rattle.definition.specs.Records.{Record}
 use Rattle.definition_written.specs.Written.{Where, top, early, late, spelled_byte, spelled_text, spelled_conversion}
 use Rattle.definition.proofs.Moves.CharLaws.{cases}

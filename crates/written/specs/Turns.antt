@@ -1,6 +1,6 @@
 -- What one record does to the open specs, and what is written at it.
-use Rattle.std.specs.Prelude.{ℕ, ◌+◌, ◌-◌, ◌≤◌, ◌<◌, ◌≡◌, Bool, false, List, [], ◌∷◌, ◌++◌, eqb, replicate}
-use Rattle.definition.specs.Chars.{if◌then◌else◌, part}
+use Rattle.std.specs.Prelude.{ℕ, ◌+◌, ◌-◌, ◌≤◌, ◌<◌, ◌≡◌, Bool, false, List, [], ◌∷◌, ◌++◌, eqb, replicate, if◌then◌else◌}
+use Rattle.definition.specs.Chars.{part}
 use Rattle.definition.specs.Records.{Record}
 use Rattle.definition_written.specs.Written.{spelled_text, spelled_conversion}
 use Rattle.definition_written.specs.Passes.{passed, found}

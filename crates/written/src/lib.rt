@@ -1,4 +1,6 @@
 // A body written back from the records of a joined answer, in one pass: whether its spelling reads back is told by the records alone.
+#![tactic(auto)]
+
 mod spell;
 mod turns;
 

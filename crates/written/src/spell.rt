@@ -1,6 +1,5 @@
 // The spelling, written clipped from a used length on.
-ghost use Rattle.std.specs.Prelude.{◌≡◌, [], ◌∷◌, ◌++◌, ◌≤◌, ◌+◌, ◌^◌, eqb, length, replicate};
-ghost use Rattle.definition.specs.Chars.{if◌then◌else◌};
+ghost use Rattle.std.specs.Prelude.{◌≡◌, [], ◌∷◌, ◌++◌, ◌≤◌, ◌+◌, ◌^◌, eqb, length, replicate, if◌then◌else◌};
 ghost use Rattle.definition_written.specs.Written.{top, late, spelled_byte, spelled_text, spelled_conversion};
 ghost use Rattle.opens.specs.Opens.{where_of};
 ghost use Rattle.written.specs.Puts.{Puts};

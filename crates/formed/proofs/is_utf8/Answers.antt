@@ -1,0 +1,6 @@
+use borrow.Author.Rules.{rules}
+use Rattle.formed.proofs.Goods.{utf8_is}
+use Rattle.formed.proofs.is_utf8.Goals as goal
+
+pub returns : goal.returns
+returns c = utf8_is _ _ _ _ _ _ c.least-start.ensures c.least-end.ensures c.well_formed-formed.ensures.0

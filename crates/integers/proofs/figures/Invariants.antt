@@ -1,0 +1,20 @@
+use borrow.Author.Rules.{rules}
+use native.Mathlib.Omega.{arith}
+use mathlib.Core.Path.{◌≡◌, refl, ◌∙◌, ap}
+use Prim.Native.Nat.{◌+◌, ◌*◌, ◌≤◌, ◌<◌}
+use lib.ListN.{length}
+use Rattle.definition_replay.specs.Integers.{digits, figure}
+use Rattle.buffers.specs.Over.{over}
+use Rattle.integers.specs.Written.{rest_of, comes_after}
+use Rattle.integers.proofs.Placed.{more_two, less, digit, loop_step, loop_count, loop_end, come_step, come_end}
+use Rattle.integers.proofs.figures.Given as goal
+
+abbrev pub invariant-loop-n : goal.invariant-loop-n
+invariant-loop-n l = (l.at + 2 * l.n ≤ 2 * l.number)
+    × (length l.out ≡ length l.initial.out)
+    × (over l.out l.at (rest_of l.grouping l.size l.come l.kind (digits l.base l.n)) ≡ over l.initial.out 0 (rest_of l.grouping l.size l.size l.kind (digits l.base l.number)))
+    × (l.at + length (rest_of l.grouping l.size l.come l.kind (digits l.base l.n)) ≡ length (rest_of l.grouping l.size l.size l.kind (digits l.base l.number)))
+    × (comes_after l.size l.come (digits l.base l.n) ≡ comes_after l.size l.size (digits l.base l.number))
+
+abbrev pub decreases-loop-n : goal.decreases-loop-n
+decreases-loop-n l = l.n

@@ -1,0 +1,5 @@
+use borrow.Author.Rules.{rules}
+use Rattle.listing.proofs.count.unknown_rows.Goals as goal
+
+pub returns : goal.returns
+returns c = c.put_unknown.ensures.counted

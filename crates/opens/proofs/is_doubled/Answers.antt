@@ -1,0 +1,14 @@
+use borrow.Author.Tests.{ne_eqb}
+use Rattle.opens.proofs.is_doubled.Goals as goal
+
+pub returns-in-123 : goal.returns-in-123
+returns-in-123 c = rw c.in-123.is
+
+pub returns-in-125 : goal.returns-in-125
+returns-in-125 c = rw c.in-125.is
+
+pub returns-in-92 : goal.returns-in-92
+returns-in-92 c = rw c.in-92.is
+
+pub returns-in_default : goal.returns-in_default
+returns-in_default c = rw (ne_eqb _ _ c.in_default.in_default-own.rest.0.0.1, ne_eqb _ _ c.in_default.in_default-own.rest.0.1, ne_eqb _ _ c.in_default.in_default-own.rest.1)

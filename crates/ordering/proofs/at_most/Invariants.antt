@@ -1,0 +1,12 @@
+use borrow.Author.Rules.{rules}
+use mathlib.Core.Path.{◌≡◌, refl, sym, ◌∙◌}
+use Prim.Native.Nat.{◌-◌}
+use lib.ListN.{length}
+use Rattle.ordering.proofs.Compare.{Before, first_ends, first_marked, second_ends, second_marked, less, more, equal}
+use Rattle.ordering.proofs.at_most.Given as goal
+
+abbrev pub invariant-loop-i : goal.invariant-loop-i
+invariant-loop-i l = Before l.s l.p l.t l.q ≡ Before l.s l.i l.t l.j
+
+abbrev pub decreases-loop-i : goal.decreases-loop-i
+decreases-loop-i l = length l.s - l.i

@@ -1,0 +1,13 @@
+use borrow.Author.Rules.{rules}
+use mathlib.Core.Path.{sym, ◌∙◌}
+use Prim.Native.Nat.{◌-◌, ◌≤◌}
+use lib.ListN.{length, drop}
+use Rattle.definition_names.specs.Names.{first_field, name_of}
+use Rattle.definition_names.proofs.NameSearch.{Goes, goes_start, goes_end, goes_down, goes_up}
+use Rattle.ordering.proofs.bound.Given as goal
+
+abbrev pub invariant-loop-low : goal.invariant-loop-low
+invariant-loop-low l = (l.high ≤ length l.index) × Goes l.file l.index (first_field (drop l.q l.name)) l.low l.high
+
+abbrev pub decreases-loop-low : goal.decreases-loop-low
+decreases-loop-low l = l.high - l.low

@@ -1,0 +1,34 @@
+use borrow.Author.Rules.{rules}
+use native.Mathlib.Omega.{arith}
+use mathlib.Core.Path.{◌≡◌, sym, ◌∙◌}
+use lib.ListN.{length}
+use Rattle.plain.specs.Plain.{plain_end}
+use Rattle.plain.proofs.Runs.{end_all, end_past, end_to}
+use Rattle.plain.proofs.plain_far.Goals as goal
+use Rattle.plain.proofs.plain_far.Goals.{After-plain_blocks-j}
+
+-- after the blocks
+blocks : (c : After-plain_blocks-j) → let a = c.args in plain_end a.kind a.s.now a.at ≡ plain_end a.kind a.s.now c.plain_blocks-j.result
+blocks c =
+    let a = c.args in
+    let p = c.plain_blocks-i.ensures in
+    let q = c.plain_blocks-j.ensures in
+    end_all a.kind a.s.now _ _ p.0 p.1 p.2 ∙ end_all a.kind a.s.now _ _ q.0 q.1 q.2
+
+pub returns-then-j-n : goal.returns-then-j-n
+returns-then-j-n c =
+    let a = c.args in
+    sym (blocks (goal.at.returns-then-j-n c).After-plain_blocks-j ∙ rw c.if-j-n.true (end_past a.kind a.s.now (length a.s.now) (omega arith)))
+
+pub returns-then-is_plain : goal.returns-then-is_plain
+returns-then-is_plain c =
+    let a = c.args in
+    let q = c.plain_blocks-j.ensures in
+    let n = length a.s.now in
+    sym
+    (blocks (goal.at.returns-then-is_plain c).After-plain_blocks-j
+    ∙ end_all a.kind a.s.now _ n q.1 (omega arith) (λ k h l. c.is_plain.ensures c.if-is_plain.true k (omega (arith, c.if-n-j-lt8.true)) (omega arith))
+    ∙ end_past a.kind a.s.now n (omega arith))
+
+pub returns : goal.returns
+returns c = let a = c.args in sym (blocks (goal.at.returns c).After-plain_blocks-j ∙ end_to a.kind a.s.now _ _ c.plain_to.ensures)

@@ -1,0 +1,11 @@
+use borrow.Author.Tests.{eq-eqb, ne_eqb}
+use Rattle.prefixes.proofs.most_after.Goals as goal
+
+pub returns-then-b-eq237 : goal.returns-then-b-eq237
+returns-then-b-eq237 c = rw (eq-eqb _ _ c.if-b-eq237.true)
+
+pub returns-then-b-eq244 : goal.returns-then-b-eq244
+returns-then-b-eq244 c = rw (ne_eqb _ _ c.if-b-eq237.false, eq-eqb _ _ c.if-b-eq244.true)
+
+pub returns : goal.returns
+returns c = rw (ne_eqb _ _ c.if-b-eq237.false, ne_eqb _ _ c.if-b-eq244.false)

@@ -1,0 +1,8 @@
+use Rattle.std.proofs.Common.{eq-eqb, ne_eqb}
+use Rattle.records.proofs.held_from.Goals as goal
+
+pub returns-then-k-eq1 : goal.returns-then-k-eq1
+returns-then-k-eq1 c = rw (eq-eqb _ _ c.if-k-eq1.true)
+
+pub returns : goal.returns
+returns c = rw (ne_eqb _ _ c.if-k-eq1.false)

@@ -1,0 +1,15 @@
+use borrow.Author.Rules.{rules}
+use borrow.Author.Tests.{ne_eqb}
+use Rattle.texts.proofs.begins_escape.Goals as goal
+
+pub returns-in-123 : goal.returns-in-123
+returns-in-123 c = rw (← c.is_escape.ensures, c.if-is_escape.true, ← c.peek.ensures, c.in-123.is)
+
+pub returns-in-125 : goal.returns-in-125
+returns-in-125 c = rw (← c.is_escape.ensures, c.if-is_escape.true, ← c.peek.ensures, c.in-125.is)
+
+pub returns-in_default : goal.returns-in_default
+returns-in_default c = rw (← c.is_escape.ensures, c.if-is_escape.true, ← c.peek.ensures, ne_eqb _ _ c.in_default.in_default-own.rest.0.1, ne_eqb _ _ c.in_default.in_default-own.rest.1)
+
+pub returns-else-is_escape : goal.returns-else-is_escape
+returns-else-is_escape c = rw (← c.is_escape.ensures, c.if-is_escape.false)

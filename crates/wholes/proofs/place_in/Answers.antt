@@ -1,0 +1,7 @@
+use Rattle.std.proofs.Common.{refl, rules}
+use Rattle.records.specs.Counts.{word}
+use Rattle.wholes.proofs.place_in.Goals as goal
+
+pub returns : goal.returns
+unfolding word
+returns c = rw c.place.ensures refl

@@ -1,0 +1,8 @@
+use Rattle.std.proofs.Common.{eq-eqb, ne_eqb}
+use Rattle.wholes.proofs.u_mark.Goals as goal
+
+pub returns-then-kind-eq6 : goal.returns-then-kind-eq6
+returns-then-kind-eq6 c = rw (eq-eqb _ _ c.if-kind-eq6.true)
+
+pub returns : goal.returns
+returns c = rw (ne_eqb _ _ c.if-kind-eq6.false)
