@@ -26,7 +26,7 @@ begin() {
         exit 2
     fi
     if [ ! -f "$1" ]; then
-        echo "$0: $1 is missing; rt staticlib stumpgarret builds the library" >&2
+        echo "$0: $1 is missing; bindings/library builds the library" >&2
         exit 2
     fi
     library=$(realpath "$1")

@@ -1,10 +1,11 @@
 //! Finds the static library, or has it built, and links it. Where there is none the crate can be checked and
 //! documented all the same: only a program is not linked.
 use std::path::{Path, PathBuf};
-use std::process::{exit, Command};
+use std::process::{exit, Command, Stdio};
 use std::{env, fs};
 
 const NAMED: &str = "STUMPGARRET_ARCHIVE";
+const BUILDER: &str = "bindings/library";
 
 fn main() {
     match found() {
@@ -64,16 +65,17 @@ fn found() -> Result<Result<PathBuf, String>, String> {
     }
     match library.is_file() {
         true => Ok(Ok(library)),
-        false => Err(format!("rt staticlib stumpgarret did not write {}", library.display())),
+        false => Err(format!("{} did not write {}", BUILDER, library.display())),
     }
 }
 
 /// Builds it; says why it cannot, where there is no rt.
 fn build(root: &Path) -> Result<Option<String>, String> {
-    let status = Command::new("rt").args(["staticlib", "stumpgarret"]).current_dir(root).status();
+    let status = Command::new("rt").arg("version").stdout(Stdio::null()).status();
+    let status = status.and_then(|_| Command::new(root.join(BUILDER)).status());
     match status {
         Ok(status) if status.success() => Ok(None),
-        Ok(status) => Err(format!("rt staticlib stumpgarret failed: {}", status)),
+        Ok(status) => Err(format!("{} failed: {}", BUILDER, status)),
         Err(error) => Ok(Some(format!(
             "there is no library yet, and rt, which builds it, does not run ({}); {} can name one",
             error, NAMED

@@ -11,8 +11,9 @@ import unittest.mock
 
 from support import CLONE, TESTS
 
-LINES = ["logic=proved a", "rt: definition proved (2 s)", "rt: utf8 proved (unchanged since it was last proved)"]
-LINES += ["rt: x NOT PROVED"]
+LINES = ["logic=proved functions=1", "crate definition: modules loaded=0 checked=7", "logic=proved functions=0"]
+LINES += ["fn utf8::class: proved", "crate utf8: modules loaded=4 checked=3", "axioms std: none reached", "logic=proved functions=2"]
+LINES += ["library utf8: modules loaded=7 checked=0", "logic=proved functions=2", "crate x: modules loaded=0 checked=1", "logic=not-proved"]
 TOLD = ["1 of 9 crates proved: definition", "2 of 9 crates proved: utf8"]
 PROGRESS = [TESTS.parent / "progress", "9", "1"]
 
@@ -28,7 +29,7 @@ class Progress(unittest.TestCase):
     def test_terminal(self):
         """There a line after each time without one, too."""
         ours, terminal = pty.openpty()
-        with subprocess.Popen(["sh", "-c", f"echo '{LINES[1]}'; sleep 4"], stdout=subprocess.PIPE) as lines:
+        with subprocess.Popen(["sh", "-c", f"printf '%s\\n' '{LINES[1]}' '{LINES[2]}'; sleep 4"], stdout=subprocess.PIPE) as lines:
             subprocess.run(PROGRESS, stdin=lines.stdout, stderr=terminal, check=True)
         os.close(terminal)
         told = os.read(ours, 10_000).decode().splitlines()
@@ -65,10 +66,11 @@ class InMemory(unittest.TestCase):
         self.assertTrue(not folder or folder.startswith("/dev/shm/"))
 
 
-# What ./test calls beside rt, bindings/in-memory and .ci/times, in its order.
+# What ./test calls beside rt, bindings/in-memory and .ci/times, in the order of its lines.
+LIBRARY = "bindings/library"
 PYTHON = [f"crates/{one}.py" for one in ("definition/blanks", "definition/rows", "try_leaves/expected", "try_readings/expected")]
 TESTED = ["oracle/test", "bindings/c/test", "bindings/rust/test", "bindings/python/test"]
-BESIDE = [*PYTHON, *(f"{one} target/staticlib/libstumpgarret.a" for one in TESTED), "bench/run --short"]
+BESIDE = [LIBRARY, *PYTHON, *(f"{one} target/staticlib/libstumpgarret.a" for one in TESTED), "bench/run --short"]
 TIMES = "What it took, in seconds:"
 EXPECTED = ["expected of try_leaves", "expected of try_readings"]
 PARTS = ["library", "blanks", "rows", *EXPECTED, "oracle", "bindings/c", "bindings/rust", "bindings/python", "bench"]
@@ -81,8 +83,8 @@ class Test(unittest.TestCase):
         self.clone = pathlib.Path(self.enterContext(tempfile.TemporaryDirectory()))
         for name in "test", "bindings/in-memory", ".ci/times":
             self.write(name, (CLONE / name).read_text())
-        for name in "prepare", *TESTED, "bench/run":
-            self.write(name, f'#!/bin/sh\necho {name} "$@"\n')
+        for name in "prepare", LIBRARY, *TESTED, "bench/run":
+            self.write(name, f'#!/bin/sh\necho "$(echo {name} "$@")"\n')
         for name in PYTHON:
             self.write(name, f"print('{name}')\n")
 
@@ -94,7 +96,7 @@ class Test(unittest.TestCase):
 
     def run_with(self, rt, *words):
         """Exit status, and each line with the seconds since the first."""
-        self.write("bin/rt", f'#!/bin/sh\ntest "$1" != staticlib || exit 0\n{rt}')
+        self.write("bin/rt", f"#!/bin/sh\n{rt}")
         variables = {**os.environ, "PATH": f"{self.clone}/bin:{os.environ['PATH']}"}
         streams = {"stdout": subprocess.PIPE, "stderr": subprocess.STDOUT, "text": True}
         with subprocess.Popen([self.clone / "test", *words], env=variables, **streams) as ran:
@@ -117,8 +119,8 @@ class Test(unittest.TestCase):
         self.assertEqual([line for line in told if "passed" in line], told[-1:])
 
     def test_quick(self):
-        status, told = self.lines_with("echo rt $*; echo 'rt: utf8 proved (unchanged since it was last proved)'", "quick")
-        self.assertEqual((status, told[:2], told[3 : 4 + len(BESIDE)]), (0, ["prepare", "rt check"], [*BESIDE, TIMES]))
+        status, told = self.lines_with("echo rt $*; echo 'logic=proved functions=2'", "quick")
+        self.assertEqual((status, told[:2], told[3 : 4 + len(BESIDE)]), (0, ["prepare", "rt all check"], [*BESIDE, TIMES]))
         self.assertRegex(told[-1], "^quick: passed; the wrong edits were left out")
         self.assertEqual(self.lines_with("echo one; exit 1", "quick"), (1, ["prepare", "one"]))
 
@@ -128,7 +130,8 @@ class Test(unittest.TestCase):
             self.assertEqual((status, told), (2, [f"usage: {self.clone}/test [quick]"]))
 
     def test_count_only_if_all_passed(self):
-        for at, name in enumerate([*TESTED, "bench/run"], len(PYTHON)):
+        for name in LIBRARY, *TESTED, "bench/run":
+            at = [line.split()[0] for line in BESIDE].index(name)
             stands = (self.clone / name).read_text()
             self.write(name, stands + "exit 1\n")
             for word in [], ["quick"]:
@@ -149,19 +152,33 @@ class Test(unittest.TestCase):
         self.assertEqual([line for line in met if "oracle" not in line], [f"{does} {name}" for name in alone for does in ("begins", "ends")])
 
     def test_jobs(self):
-        """rt has two checks for each of up to four processors, or as many as RT_JOBS says."""
+        """rt chooses how many checks it does at a time, unless RT_JOBS says it."""
         told_jobs = "echo jobs $RT_JOBS; echo '7 passed, 0 failed'"
         with unittest.mock.patch.dict(os.environ):
             os.environ.pop("RT_JOBS", None)
-            for processors, jobs in (1, 2), (2, 4), (3, 6), (4, 8), (64, 8):
-                self.write("bin/nproc", f"#!/bin/sh\necho {processors}\n")
-                self.assertEqual(self.lines_with(told_jobs)[1][1], f"jobs {jobs}")
+            self.assertEqual(self.lines_with(told_jobs)[1][1], "jobs")
             os.environ["RT_JOBS"] = "3"
             self.assertEqual(self.lines_with(told_jobs)[1][1], "jobs 3")
+
+    def test_temporary_files(self):
+        """Those of rt ci stay where it puts them; those of the quick check are in memory, where that has room."""
+        told_place = "echo place $TMPDIR; echo '7 passed, 0 failed'"
+        with unittest.mock.patch.dict(os.environ):
+            os.environ.pop("TMPDIR", None)
+            self.assertEqual(self.lines_with(told_place)[1][1], "place")
+            self.assertRegex(self.lines_with(told_place, "quick")[1][1], "^place(?: /dev/shm/.*)?$")
 
     def test_failed(self):
         status, told = self.lines_with("echo one; echo '6 passed, 1 failed'; exit 1")
         self.assertEqual((status, told), (1, ["prepare", "one", "6 passed, 1 failed"]))
+
+    def test_bad_edits(self):
+        """rt ci passes over an edit that it cannot try, and ./test does not."""
+        for said, passes in (("must-fail edits: 3 refused; every proof", True), ("must-fail edits: 3 refused, 1 of them only by a limit; every", True),
+                             ("must-fail edits: 3 refused, 12 bad; every proof", False), ("must-fail edits: 0 refused, 1 bad; done", False)):
+            status, told = self.lines_with(f"echo 'rt: ok; handles allowed: none; {said}'; echo '7 passed, 0 failed'")
+            last = "7 passed, 0 failed" if passes else "rt ci could not try every wrong edit: its lines BAD EDIT say which"
+            self.assertEqual((status, told[-1], len(told) > 3), (not passes, last, passes))
 
     def test_no_count(self):
         self.assertEqual(self.lines_with("echo one; exit 1"), (1, ["prepare", "one"]))
@@ -171,25 +188,29 @@ class Test(unittest.TestCase):
 
 LOG = """\
 library std: modules loaded=0 checked=0
-rt: definition proved (11 s)
-rt: utf8 proved (unchanged since it was last proved)
-rt: why proved (85 s)
-rt: must-fail definition/a_b: refused, as it must be (first at specs/Chars.antt:10:5; 130 s)
-rt: must-fail definition/c: refused, as it must be (7 s)
-rt: must-fail utf8/d: refused, as it must be (first at src/lib.rt:3:1; 40 s)
-rt: why ran as nobody, and wrote what its file 'stdout' has (0 s)
-rt: ok, 3 crates proved, 3 must-fail edits refused
+rt: definition proved
+rt: utf8 is kept: an earlier run on this machine proved the same files over the same libraries
+rt: utf8: its tests are proved
+rt: why proved
+rt: must-fail definition/a_b.edit: refused, as it must be: specs/Chars.antt:10:5: error: no
+rt: must-fail definition/c.edit: refused, as it must be
+rt: utf8: 1 of its 1 must-fail edits were tried by an earlier run on this machine, and nothing that they stand on has changed
+rt: must-fail utf8/d.edit: refused, as it must be (only by a limit of the prover): src/lib.rt:3:1: error: long
+rt: must-fail utf8/e.edit: BAD EDIT: no such file
+rt: why ran, and wrote what its file stdout has
+rt: why ran (built by Rattle's own compiler), and wrote what its file stdout has
+rt: ok; handles allowed: none; must-fail edits: 3 refused, 1 bad; every proof and must-fail edit was done in this run
 6 passed, 0 failed
 test: rt ci (215 s)
 test: bindings/c (12 s)
 """
 TABLE = """\
 What it took, in seconds:
-crate                        proof       run     edits their sum
-definition                      11         -         2       137
-utf8                             -         -         1        40
-why                             85         0         -         -
-together                        96         0         3       177
+crate                        proof       run     edits
+definition                  proved         -         2
+utf8                          kept         -         1
+why                         proved         2         -
+together                         3         2         3
 part                          time
 rt ci                          215
 bindings/c                      12

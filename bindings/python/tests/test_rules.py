@@ -570,7 +570,7 @@ class Definitions(unittest.TestCase):
             self.assertEqual(parts(*read(script, literals_of(script))), f"literal {ascii(chr(int(code, 16)))}")
 
     def test_kinds(self):
-        lengths = re.search(r"getD \(((?:\d ∷ )+)\[\]\) kind", definition("Numbers.antt"))[1]
+        lengths = re.search(r"get_or \(((?:\d ∷ )+)\[\]\) kind", definition("Numbers.antt"))[1]
         shown = re.findall(r"^\| (\d) \| [\w `-]+ \| (\d) \|$", PAGE_TEXT, re.MULTILINE)
         self.assertEqual(shown, [(str(kind), length) for kind, length in enumerate(re.findall(r"\d", lengths))])
 
