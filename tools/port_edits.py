@@ -37,6 +37,7 @@ GONE = [
 ]
 # By edit, the pairs of those that are written otherwise.
 BY_HAND = {
+    "literals/long_script_one_less": [("const MOST_BYTES: usize = 1048576;", "const MOST_BYTES: usize = 1048575;")],
     "answers/details_lost": [("r.a, r.b,", "r.a, 0,")],
     "answers/text_for_records": [("x.records,", "x.text,")],
     "definition/characters_in_bytes": [
@@ -53,9 +54,17 @@ BY_HAND = {
     ],
 }
 
+# The number that these change has a name of its own today, where they stand now.
+NAMED = {"literals/long_script_one_less"}
+
 
 def run(*words):
     return subprocess.run(words, capture_output=True, text=True, check=True).stdout
+
+
+def short(name):
+    """crate/edit, of crates/crate/must-fail/edit.edit."""
+    return "/".join(name.split("/")[1::2]).removesuffix(".edit")
 
 
 def landed(path):
@@ -165,7 +174,7 @@ def ported(name):
     edit = landed(name)
     file, pairs = fields(edit)
     path = f"{crate}/{file}"
-    now = BY_HAND.get("/".join(name.split("/")[1::2]).removesuffix(".edit")) or [tuple(spelled(t, path) for t in pair) for pair in pairs]
+    now = BY_HAND.get(short(name)) or [tuple(spelled(t, path) for t in pair) for pair in pairs]
     olds, news = iter([a for a, b in now]), iter([b for a, b in now])
     return "\n".join("old: " + next(olds) if l.startswith("old: ") else "new: " + next(news) if l.startswith("new: ") else l for l in edit.split("\n"))
 
@@ -191,7 +200,7 @@ def wrong(name):
             continue
         if old == new:
             yield f"changes nothing: {old}"
-        if read(path).count(old) == 1 and landed(path).count(was) == 1:
+        if read(path).count(old) == 1 and landed(path).count(was) == 1 and short(name) not in NAMED:
             low, high = counterpart(was, path)
             at = read(path).index(old)
             if at + len(old) <= low or high <= at:

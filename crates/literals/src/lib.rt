@@ -49,6 +49,9 @@ const SCRIPT_TOO_LONG: u32 = 49;
 
 const NO_LITERAL: u32 = 52;
 
+// A script has at most so many bytes.
+const MOST_BYTES: usize = 1048576;
+
 // What stands between literals at an index.
 fn blank_case(s: &[u8], at: usize) -> BlankCase
     ensures { blank_of result ≡ blank_case s.now at }
@@ -168,7 +171,7 @@ fn finish(numbers: &mut [u32], r: Ran) -> Listing
 pub fn list_literals(script: &[u8], offset: u32, numbers: &mut [u32]) -> Listing
     ensures { CallIs (literals_into script.now offset numbers.old) numbers.new result }
 {
-    if 1048576 < script.len() {
+    if MOST_BYTES < script.len() {
         return refuse(
             numbers,
             Refusal {
