@@ -19,24 +19,22 @@ pub fn packed(c: u32, taken: usize) -> u32
 }
 
 // The innermost of so many open brackets; zeros where there is none, or no place for so many.
+// An opener and no Option: innermost promises zeros there.
+// 64 places with a count: asked for, and nothing is allocated.
 pub fn innermost(places: &[u32; 64], depth: usize) -> Opener
     ensures { bracket_of result ≡ innermost_of depth places.now }
 {
-    if depth == 0 {
-        return Opener {
+    match depth {
+        1..=64 => {
+            let opener = places[depth - 1];
+            Opener {
+                bracket: opener % 256,
+                taken: opener / 256,
+            }
+        }
+        _ => Opener {
             bracket: 0,
             taken: 0,
-        };
-    }
-    if 64 < depth {
-        return Opener {
-            bracket: 0,
-            taken: 0,
-        };
-    }
-    let opener = places[depth - 1];
-    Opener {
-        bracket: opener % 256,
-        taken: opener / 256,
+        },
     }
 }

@@ -3,10 +3,11 @@
 use mathlib.Core.Path.{◌≡◌, refl, sym, ◌∙◌}
 use mathlib.Core.List.{List, [], ◌∷◌, ◌++◌}
 use Prim.Native.Nat.{ℕ, zero, suc, ◌+◌, ◌-◌, ◌≤◌, ◌<◌, min}
-use native.Mathlib.Nat.{suc-add, add-suc, add-zero, zero-sub, sub-zero, suc-sub-suc, add-sub_cancel_left, min-eq_left, le_refl, not-suc-le-zero, le_of_suc-le-suc}
+use native.Mathlib.Nat.{suc-add, add-suc, add-zero, zero-add, zero-sub, sub-zero, suc-sub-suc, add-sub_cancel_left, min-eq_left, le_refl, not-suc-le-zero, le_of_suc-le-suc}
 use native.Mathlib.Numerals.{add-one}
 use native.Mathlib.Omega.{arith, min_cases}
 use lib.ListN.{length, take, drop, set, get_or, replicate, length-set, length-take, length-replicate, take-append-drop}
+use Rattle.std.proofs.lemmas.List.{replicate_more}
 use lib.Seq.{set_out, set_comm, take-nil, drop-nil, take-suc, length-take-le}
 use borrow.Rule.Slice.PartMut.{put_mid, mid_of}
 use Rattle.definition.specs.Chars.{part}
@@ -81,6 +82,11 @@ module _ {A : Type 0} where
   over_front [] (x ∷ xs) h = absurd (not-suc-le-zero h)
   over_front (y ∷ b) (x ∷ xs) h = rw (over_first, over_front b xs (le_of_suc-le-suc h))
 
+  pub over_inside : (b : List A) (p : ℕ) (xs : List A) → p + length xs ≤ length b → over b p xs ≡ take p b ++ xs ++ drop (p + length xs) b
+  over_inside b zero xs h = rw zero-add (over_front b xs (omega arith))
+  over_inside [] (suc p) xs h = absurd (omega arith)
+  over_inside (y ∷ b) (suc p) xs h = rw (over_later, suc-add, over_inside b p xs (omega arith))
+
   -- of a run, as much as finds room is enough
   pub over_take : (b : List A) (p n : ℕ) (xs : List A) → min (length xs) (length b - p) ≤ n → over b p (take n xs) ≡ over b p xs
   over_take [] p n xs h = simp over_empty
@@ -137,8 +143,12 @@ module _ {A : Type 0} where
   pub over_tail : (b : List A) (p q : ℕ) (xs : List A) {last : List A} → q ≡ min p (length b) → last ≡ over (mid_of q (length b - q) b) 0 xs → put_mid q (length b - q) b last ≡ over b p xs
   over_tail b p q xs e l = rw l (lent_enough b p q (length b - q) xs e (omega arith))
 
+  -- one more of the same element
+  pub over_same_more : (b : List A) (i : ℕ) (x : A) → set (over b 0 (replicate i x)) i x ≡ over b 0 (replicate (i + 1) x)
+  over_same_more b i x = rw (← replicate_more i x, ← over_append, length-replicate, zero-add) (sym (over_one _ _ _))
+
   -- and filled with one element
-  over_all : (b : List A) (n : ℕ) (x : A) → length b ≤ n → over b 0 (replicate n x) ≡ replicate (length b) x
+  pub over_all : (b : List A) (n : ℕ) (x : A) → length b ≤ n → over b 0 (replicate n x) ≡ replicate (length b) x
   over_all [] n x h = over_empty 0 (replicate n x)
   over_all (y ∷ b) zero x h = absurd (not-suc-le-zero h)
   over_all (y ∷ b) (suc n) x h = rw (over_first, over_all b n x (le_of_suc-le-suc h))

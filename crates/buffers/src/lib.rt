@@ -1,7 +1,7 @@
 // Writes into lent buffers: what would stand past the end is left out.
 #![tactic(auto)]
 
-ghost use Rattle.std.specs.Prelude.{◌≡◌, [], ◌∷◌, ◌-◌, ◌<◌, IfOk, min, length, take, replicate};
+ghost use Rattle.std.specs.Prelude.{◌≡◌, [], ◌∷◌, ◌-◌, ◌*◌, ◌<◌, IfOk, min, length, take, replicate};
 ghost use Rattle.std.specs.Io.{ReadsAtMost};
 ghost use Rattle.std.specs.Io.KnownBytes.{Consumes, IsAtEnd};
 ghost use Rattle.definition.specs.Chars.{part};
@@ -10,55 +10,47 @@ ghost use Rattle.buffers.specs.Over.{over};
 use std::io;
 use std::io::Read;
 
-// The lesser of two numbers.
-pub fn least(a: usize, b: usize) -> usize
-    ensures { result ≡ min a b }
+// Writes an element at an index.
+pub fn put<T: Copy>(buffer: &mut [T], at: usize, item: T)
+    ensures { buffer.new ≡ over buffer.old at (item ∷ []) }
 {
-    if a <= b { a } else { b }
-}
-
-// A difference; 0 where the second is the greater.
-fn saturating_sub(a: usize, b: usize) -> usize
-    ensures { result ≡ a - b }
-{
-    if b <= a { a - b } else { 0 }
-}
-
-// Writes a byte at an index.
-pub fn put(text: &mut [u8], at: usize, byte: u8)
-    ensures { text.new ≡ over text.old at (byte ∷ []) }
-{
-    if at < text.len() {
-        text[at] = byte;
+    if at < buffer.len() {
+        buffer[at] = item;
     }
 }
 
-// Writes a word at an index.
-pub fn put_word(words: &mut [u32], at: usize, word: u32)
-    ensures { words.new ≡ over words.old at (word ∷ []) }
+// Writes a run from the front on.
+pub fn put_run<T: Copy>(buffer: &mut [T], run: &[T])
+    ensures { buffer.new ≡ over buffer.old 0 run.now }
 {
-    if at < words.len() {
-        words[at] = word;
+    let n = buffer.len().min(run.len());
+    buffer[..n].copy_from_slice(&run[..n]);
+}
+
+// Writes a group of words from the front on; all of them by one test where they fit.
+fn put_front<const N: usize>(words: &mut [u32], group: [u32; N])
+    ensures { words.new ≡ over words.old 0 group.entry }
+{
+    if N <= words.len() {
+        words[..N].copy_from_slice(&group);
+    } else {
+        put_run(words, &group);
     }
 }
 
-// Writes a run of bytes from the front on.
-pub fn put_run(text: &mut [u8], run: &[u8])
-    ensures { text.new ≡ over text.old 0 run.now }
+// Writes a group of words at a group's place; so many words make one.
+pub fn put_group<const N: usize>(words: &mut [u32], place: usize, group: [u32; N])
+    ensures { words.new ≡ over words.old (place * N) group.entry }
 {
-    let n = least(text.len(), run.len());
-    let mut i = 0;
-    while i < n {
-        text[i] = run[i];
-        i += 1;
-    }
+    let from = place.saturating_mul(N).min(words.len());
+    put_front(&mut words[from..], group);
 }
 
 // Writes a run of bytes from the used length on.
 pub fn add_run(text: &mut [u8], used: usize, run: &[u8])
     ensures { text.new ≡ over text.old used run.now }
 {
-    let from = least(used, text.len());
+    let from = used.min(text.len());
     put_run(&mut text[from..], run);
 }
 
@@ -66,35 +58,20 @@ pub fn add_run(text: &mut [u8], used: usize, run: &[u8])
 pub fn add_again(text: &mut [u8], used: usize, from: usize, to: usize)
     ensures { text.new ≡ over text.old used (part text.old from (min to used)) }
 {
-    let end = least(to, used);
-    let n = least(saturating_sub(end, from), saturating_sub(text.len(), used));
-    let mut i = 0;
-    while i < n {
-        let byte = text[from + i];
-        text[used + i] = byte;
-        i += 1;
+    let end = to.min(used);
+    if from < end && used < text.len() {
+        let n = (end - from).min(text.len() - used);
+        text.copy_within(from..from + n, used);
     }
 }
 
-// Writes one byte throughout.
-pub fn fill(text: &mut [u8], byte: u8)
-    ensures { text.new ≡ replicate (length text.old) byte }
+// Writes one element throughout.
+pub fn fill<T: Copy>(buffer: &mut [T], item: T)
+    ensures { buffer.new ≡ replicate (length buffer.old) item }
 {
-    let mut i = 0;
-    while i < text.len() {
-        text[i] = byte;
-        i += 1;
-    }
-}
-
-// Writes one word throughout.
-pub fn fill_words(words: &mut [u32], word: u32)
-    ensures { words.new ≡ replicate (length words.old) word }
-{
-    let mut i: usize = 0;
-    while i < words.len() {
-        words[i] = word;
-        i += 1;
+    // By a loop, since the library's `fill` asks for a `Clone` that cannot fail.
+    for place in buffer {
+        *place = item;
     }
 }
 
@@ -102,8 +79,8 @@ pub fn fill_words(words: &mut [u32], word: u32)
 pub fn add_spaces(text: &mut [u8], used: usize, count: usize)
     ensures { text.new ≡ over text.old used (replicate count 32) }
 {
-    let from = least(used, text.len());
-    let to = from + least(count, text.len() - from);
+    let from = used.min(text.len());
+    let to = from + count.min(text.len() - from);
     fill(&mut text[from..to], b' ');
 }
 
@@ -114,6 +91,7 @@ pub fn read_full<R: Read>(input: &mut R, buffer: &mut [u8]) -> io::Result<usize>
     ensures end { IfOk result (λ n. n < length buffer.new → IsAtEnd (R.remaining input.new)) }
 {
     let mut done = 0;
+    // A step is what one read gives.
     while done < buffer.len() {
         let n = input.read(&mut buffer[done..])?;
         if n == 0 {

@@ -22,17 +22,19 @@ impl Count {
         requires { (self.line + self.column ≤ self.chars) × (self.chars < 18446744073709551615) }
         ensures { count_of result ≡ more c (count_of self) }
     {
-        if c == 10 {
-            return Count {
-                chars: self.chars + 1,
+        let chars = self.chars + 1;
+        if c == '\n' as u32 {
+            Count {
+                chars,
                 line: self.line + 1,
                 column: 0,
-            };
-        }
-        Count {
-            chars: self.chars + 1,
-            line: self.line,
-            column: self.column + 1,
+            }
+        } else {
+            Count {
+                chars,
+                column: self.column + 1,
+                ..self
+            }
         }
     }
 }
@@ -47,6 +49,7 @@ pub fn count_before(s: &[u8], place: usize) -> Count
         column: 0,
     };
     let mut at = 0;
+    // A step is a character.
     while at < place {
         let Step::Char(c, after) = (Cursor { at }).next_char(s) else {
             return k;
@@ -61,10 +64,7 @@ pub fn count_before(s: &[u8], place: usize) -> Count
 pub fn is_trail(b: u8) -> bool
     ensures { result ≡ (leb 0x80 b && leb b 0xBF) }
 {
-    if b < 0x80 {
-        return false;
-    }
-    b <= 0xBF
+    matches!(b, 0x80..=0xBF)
 }
 
 // 1 if a character begins with the byte, else 0.
@@ -80,10 +80,8 @@ fn heads_near(s: &[u8], from: usize, to: usize) -> u8
     ensures { result ≡ heads_from (to - from) s.now from }
 {
     let mut n = 0;
-    let mut i = from;
-    while i < to {
+    for i in from..to {
         n += head(s[i]);
-        i += 1;
     }
     n
 }
@@ -95,10 +93,10 @@ fn heads_between(s: &[u8], from: usize, to: usize) -> usize
 {
     let mut n = 0;
     let mut i = from;
+    // A step is a block.
     while 128 <= to - i {
-        let past = i + 128;
-        n += heads_near(s, i, past) as usize;
-        i = past;
+        n += heads_near(s, i, i + 128) as usize;
+        i += 128;
     }
     n + heads_near(s, i, to) as usize
 }

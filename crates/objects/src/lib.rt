@@ -35,10 +35,10 @@ fn write_number(out: &mut [u8], used: usize, n: u32) -> usize
     ensures { Adds (decimal n) out.old used out.new result }
 {
     if n < 10 {
-        return write_byte(out, used, (48 + n) as u8);
+        return write_byte(out, used, b'0' + n as u8);
     }
     let last = write_number(out, used, n / 10);
-    write_byte(out, last, (48 + n % 10) as u8)
+    write_byte(out, last, b'0' + (n % 10) as u8)
 }
 
 // Writes a run of bytes, and a number after it.
@@ -55,18 +55,17 @@ fn hex_code(digit: u8) -> u8
     requires { digit < 16 }
     ensures { result ≡ hex_code digit }
 {
-    if digit < 10 { 48 + digit } else { 87 + digit }
+    match digit {
+        0..=9 => b'0' + digit,
+        _ => b'a' - 10 + digit,
+    }
 }
 
 // Whether a byte of text gets a backslash.
 fn is_marked(byte: u8) -> bool
     ensures { result ≡ (byte is "\"\\") }
 {
-    match byte {
-        b'"' => true,
-        b'\\' => true,
-        _ => false,
-    }
+    matches!(byte, b'"' | b'\\')
 }
 
 // Writes a byte of text, escaped.
@@ -76,14 +75,14 @@ fn write_escaped(out: &mut [u8], used: usize, byte: u8) -> usize
 {
     if is_marked(byte) {
         let marked = write_byte(out, used, b'\\');
-        return write_byte(out, marked, byte);
-    }
-    if byte < 32 {
+        write_byte(out, marked, byte)
+    } else if byte < b' ' {
         let high = write_run(out, used, b"\\u00");
         let low = write_byte(out, high, hex_code(byte / 16));
-        return write_byte(out, low, hex_code(byte % 16));
+        write_byte(out, low, hex_code(byte % 16))
+    } else {
+        write_byte(out, used, byte)
     }
-    write_byte(out, used, byte)
 }
 
 // Writes a text, escaped.
@@ -92,10 +91,8 @@ pub(crate) fn write_text(out: &mut [u8], used: usize, text: &[u8]) -> usize
     ensures { Adds (escaped_text text.now) out.old used out.new result }
 {
     let mut to = used;
-    let mut i = 0;
-    while i < text.len() {
-        to = write_escaped(out, to, text[i]);
-        i += 1;
+    for &byte in text {
+        to = write_escaped(out, to, byte);
     }
     to
 }
@@ -164,6 +161,7 @@ fn write_line(
 }
 
 // Writes the line of a record of a kind from the front on, and says how many bytes it has; nothing for a text of more than 4,294,967,295 bytes.
+// The kind stays a number: put_line promises a line for every number.
 pub fn put_line(out: &mut [u8], kind: u32, text: &[u8], mode: u32, parts: u32, place: u32) -> usize
     ensures { Puts (of_text text.now (line_of kind text.now mode parts place)) out.old out.new result }
 {

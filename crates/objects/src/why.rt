@@ -6,6 +6,7 @@ ghost use Rattle.objects.specs.Written.{Adds, Fits, of_text, Puts};
 use crate::{MOST_TEXT, write_numbered, write_run, write_text};
 
 // Writes how a line ends whose conversion is written, with the place after the `!`.
+// Apart from `write_spec`, whose words are other ones.
 fn write_written(out: &mut [u8], used: usize, bang: u32) -> usize
     requires { Fits used (written_end bang) }
     ensures { Adds (written_end bang) out.old used out.new result }
@@ -40,6 +41,7 @@ fn write_why(out: &mut [u8], used: usize, text: &[u8], place: u32, reason: u32, 
 }
 
 // Writes a field's line from the front on, and says how many bytes it has; nothing for a text of more than 4,294,967,295 bytes.
+// The reason stays a number: put_why promises a line for every number.
 pub fn put_why(out: &mut [u8], text: &[u8], place: u32, reason: u32, bang: u32) -> usize
     ensures { Puts (of_text text.now (why_line text.now place reason bang)) out.old out.new result }
 {

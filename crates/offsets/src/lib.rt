@@ -9,10 +9,7 @@ ghost use Rattle.definition_cuts.specs.Cuts.{rise};
 pub fn is_tail(b: u8) -> bool
     ensures { result ≡ inside (0x80 to 0xBF) b }
 {
-    if b < 0x80 {
-        return false;
-    }
-    b <= 0xBF
+    matches!(b, 0x80..=0xBF)
 }
 
 // An offset as an index.
@@ -27,17 +24,12 @@ pub fn rises(s: &[u8], cuts: &[u32]) -> bool
     ensures { result ≡ rise (length s.now) 0 cuts.now }
 {
     let mut from = 0;
-    let mut k = 0;
-    while k < cuts.len() {
-        let c = wide(cuts[k]);
-        if c <= from {
-            return false;
-        }
-        if s.len() <= c {
+    for &cut in cuts {
+        let c = wide(cut);
+        if c <= from || s.len() <= c {
             return false;
         }
         from = c;
-        k += 1;
     }
     true
 }

@@ -6,7 +6,7 @@ ghost use Rattle.definition.specs.Chars.{byte};
 ghost use Rattle.marks.specs.Marks.{special};
 ghost use Rattle.plain.specs.Plain.{plain_end, PlainTo, AllPlain};
 
-use ascii::{greater, is_ascii};
+use ascii::is_ascii;
 use escapes::is_any_bytes;
 use marks::is_special;
 use searches::is_byte;
@@ -16,14 +16,12 @@ fn plain_to(s: &[u8], from: usize, to: usize, kind: u32) -> usize
     requires { (from ≤ to) × (to ≤ length s.now) }
     ensures { PlainTo kind s.now from to result }
 {
-    let mut i = from;
-    while i < to {
+    for i in from..to {
         if is_special(s[i], kind) {
             return i;
         }
-        i += 1;
     }
-    i
+    to
 }
 
 // Whether the bytes from an index up to another are plain.
@@ -34,21 +32,13 @@ fn is_plain(s: &[u8], from: usize, to: usize, kind: u32) -> bool
     let mut left = 0;
     let mut right = 0;
     let mut backslash = 0;
-    let mut i = from;
-    while i < to {
+    for i in from..to {
         let b = s[i];
-        left = greater(left, is_byte(b, 0x7B));
-        right = greater(right, is_byte(b, 0x7D));
-        backslash = greater(backslash, is_byte(b, 0x5C));
-        i += 1;
+        left = is_byte(b, b'{').max(left);
+        right = is_byte(b, b'}').max(right);
+        backslash = is_byte(b, b'\\').max(backslash);
     }
-    if 0 < greater(left, greater(right, backslash)) {
-        return false;
-    }
-    if is_any_bytes(kind) {
-        return is_ascii(&s[from..to]);
-    }
-    true
+    left.max(right).max(backslash) == 0 && (!is_any_bytes(kind) || is_ascii(&s[from..to]))
 }
 
 // How far from an index on whole blocks of a size are plain.
@@ -57,12 +47,9 @@ fn plain_blocks(s: &[u8], at: usize, size: usize, kind: u32) -> usize
     ensures { (at ≤ result) × (result ≤ length s.now) × AllPlain kind s.now at result }
 {
     let mut i = at;
-    while size <= s.len() - i {
-        if is_plain(s, i, i + size, kind) {
-            i += size;
-        } else {
-            return i;
-        }
+    // A step is a block, so no `for` counts them.
+    while size <= s.len() - i && is_plain(s, i, i + size, kind) {
+        i += size;
     }
     i
 }
@@ -75,13 +62,8 @@ fn plain_far(s: &[u8], at: usize, kind: u32) -> usize
     let n = s.len();
     let i = plain_blocks(s, at, 64, kind);
     let j = plain_blocks(s, i, 8, kind);
-    if j == n {
+    if j == n || n - j < 8 && is_plain(s, n - 8, n, kind) {
         return n;
-    }
-    if n - j < 8 {
-        if is_plain(s, n - 8, n, kind) {
-            return n;
-        }
     }
     plain_to(s, j, n, kind)
 }
@@ -94,20 +76,16 @@ pub fn plain_end(s: &[u8], at: usize, kind: u32) -> usize
     if n <= at {
         return at;
     }
-    if 8 <= n - at {
-        if is_plain(s, at, at + 8, kind) {
-            return plain_far(s, at + 8, kind);
-        }
+    if 8 <= n - at && is_plain(s, at, at + 8, kind) {
+        plain_far(s, at + 8, kind)
+    } else {
+        plain_to(s, at, n, kind)
     }
-    plain_to(s, at, n, kind)
 }
 
 // Whether a plain byte stands at an index.
 pub fn is_plain_at(s: &[u8], at: usize, kind: u32) -> bool
     ensures { result ≡ (ltb at (length s.now) && not (special kind (byte s.now at))) }
 {
-    if s.len() <= at {
-        return false;
-    }
-    !is_special(s[at], kind)
+    at < s.len() && !is_special(s[at], kind)
 }

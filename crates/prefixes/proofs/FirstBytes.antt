@@ -1,7 +1,6 @@
 -- The characters of well-formed text are the bytes that begin one. Assumes nothing.
-use Rattle.std.specs.Prelude.{if◌then◌else◌}
 use mathlib.Core.Path.{◌≡◌, refl, sym, ◌∙◌, ap, subst}
-use mathlib.Core.Bool.{Bool, true, false}
+use mathlib.Core.Bool.{true}
 use mathlib.Core.List.{List}
 use Prim.Native.Nat.{ℕ, zero, suc, ◌+◌, ◌-◌, ◌≤◌, ◌<◌}
 use native.Mathlib.Omega.{arith}
@@ -10,7 +9,7 @@ use lib.Dec.{leb}
 use lib.ListN.{length}
 use Rattle.definition.specs.Chars.{byte, ◌to◌, inside, width, next, formed_from, well_formed}
 use Rattle.definition.specs.Counts.{counted}
-use Rattle.definition.proofs.Moves.CharLaws.{cases, inside_true, inside_yes, inside_not, tail_none, between, width_in, width_end, next_past}
+use Rattle.definition.proofs.Moves.CharLaws.{cases, inside_true, inside_yes, inside_not, tail_none, between, width_in, width_end}
 use Rattle.definition_laws.proofs.Moves.Counted.{Reached, start, step, counted_none, step_chars}
 use Rattle.ascii.specs.Runs.{Below, Ascii, all_ascii}
 use Rattle.ascii.proofs.Runs.{below_all}

@@ -8,7 +8,7 @@ ghost use Rattle.ascii.specs.Runs.{Ascii};
 ghost use Rattle.prefixes.specs.Formed.{Formed};
 ghost use Rattle.prefixes.specs.Fits.{is_due, SecondFits, Fits, AllFit, Fitting, last_start};
 
-use ascii::{ascii_end, greater, is_ascii};
+use ascii::{ascii_end, is_ascii};
 use counts::{heads, is_trail};
 use utf8::char_len;
 
@@ -16,128 +16,101 @@ use utf8::char_len;
 fn is_between(s: &[u8], i: usize, low: u8, high: u8) -> bool
     ensures { result ≡ (leb low (byte s.now i) && leb (byte s.now i) high) }
 {
-    if s.len() <= i {
-        return false;
-    }
-    let b = s[i];
-    if b < low {
-        return false;
-    }
-    b <= high
+    i < s.len() && low <= s[i] && s[i] <= high
 }
 
 // The length of the well-formed character at an index if its first byte is C2 to DF or E1 to EC; else, or if there is none, 0.
+// A number and no Option: 0 is what utf8::char_len promises for none.
 fn common_len(s: &[u8], at: usize) -> usize
     requires { at < length s.now }
     ensures { (result ≡ 0 → ⊥) → width s.now at ≡ result }
 {
-    if is_between(s, at, 0xC2, 0xDF) {
-        if is_between(s, at + 1, 0x80, 0xBF) {
-            return 2;
-        }
-        return 0;
+    if is_between(s, at, 0xC2, 0xDF) && is_between(s, at + 1, 0x80, 0xBF) {
+        2
+    } else if is_between(s, at, 0xE1, 0xEC)
+        && is_between(s, at + 1, 0x80, 0xBF)
+        && is_between(s, at + 2, 0x80, 0xBF)
+    {
+        3
+    } else {
+        0
     }
-    if is_between(s, at, 0xE1, 0xEC) {
-        if is_between(s, at + 1, 0x80, 0xBF) {
-            if is_between(s, at + 1 + 1, 0x80, 0xBF) {
-                return 3;
-            }
-        }
-    }
-    0
 }
 
 // The least second byte after a first one of E0 to F4.
+// Apart from `most_after`: the bytes and their ranges are other ones.
 fn least_after(b: u8) -> u8
     ensures { result ≡ (if eqb b 0xE0 then 0xA0 else if eqb b 0xF0 then 0x90 else 0x80) }
 {
-    if b == 0xE0 {
-        return 0xA0;
+    match b {
+        0xE0 => 0xA0,
+        0xF0 => 0x90,
+        _ => 0x80,
     }
-    if b == 0xF0 {
-        return 0x90;
-    }
-    0x80
 }
 
 // The greatest second byte after a first one of E0 to F4.
 fn most_after(b: u8) -> u8
     ensures { result ≡ (if eqb b 0xED then 0x9F else if eqb b 0xF4 then 0x8F else 0xBF) }
 {
-    if b == 0xED {
-        return 0x9F;
+    match b {
+        0xED => 0x9F,
+        0xF4 => 0x8F,
+        _ => 0xBF,
     }
-    if b == 0xF4 {
-        return 0x8F;
-    }
-    0xBF
 }
 
 // The length of the well-formed character at an index if its first byte is E0 to F4; else, or if there is none, 0.
+// A number and no Option: 0 is what utf8::char_len promises for none.
 fn long_len(s: &[u8], at: usize) -> usize
     requires { at < length s.now }
     ensures { (result ≡ 0 → ⊥) → width s.now at ≡ result }
 {
     let b = s[at];
-    if b < 0xE0 {
-        return 0;
-    }
-    if 0xF4 < b {
-        return 0;
-    }
-    let low = least_after(b);
-    let high = most_after(b);
-    if is_between(s, at + 1, low, high) {
-        if is_between(s, at + 1 + 1, 0x80, 0xBF) {
-            if b < 0xF0 {
-                return 3;
-            }
-            if is_between(s, at + 1 + 1 + 1, 0x80, 0xBF) {
-                return 4;
-            }
+    if 0xE0 <= b
+        && b <= 0xF4
+        && is_between(s, at + 1, least_after(b), most_after(b))
+        && is_between(s, at + 2, 0x80, 0xBF)
+    {
+        if b < 0xF0 {
+            return 3;
+        }
+        if is_between(s, at + 3, 0x80, 0xBF) {
+            return 4;
         }
     }
     0
 }
 
 // Whether after the bytes z, y and x one of 80 to BF must stand: x begins a character, or y one of three bytes or more, or z one of four.
+#[tactic(auto, unfolding(crate::specs::Fits::is_due))]
 fn is_due(z: u8, y: u8, x: u8) -> bool
     ensures { result ≡ is_due z y x }
 {
-    if 0xC2 <= x {
-        return true;
-    }
-    if 0xE0 <= y {
-        return true;
-    }
-    0xF0 <= z
+    0xC2 <= x || 0xE0 <= y || 0xF0 <= z
 }
 
 // 0 only if both hold or neither.
 fn differ(a: bool, b: bool) -> u8
     ensures { result ≡ 0 → a ≡ b }
 {
-    if a {
-        if b { 0 } else { 1 }
-    } else {
-        if b { 1 } else { 0 }
-    }
+    (a != b) as u8
 }
 
 // 0 only if not both hold.
 fn both(a: bool, b: bool) -> u8
     ensures { result ≡ 0 → (a && b) ≡ false }
 {
-    if a { if b { 1 } else { 0 } } else { 0 }
+    (a && b) as u8
 }
 
 // 0 only if the byte b, where it is one of 80 to BF, is within its range as the second after x.
 fn second_misfit(x: u8, b: u8) -> u8
     ensures { result ≡ 0 → SecondFits x b }
 {
-    let low = greater(both(x == 0xE0, b < 0xA0), both(x == 0xF0, b < 0x90));
-    let high = greater(both(x == 0xED, 0xA0 <= b), both(x == 0xF4, 0x90 <= b));
-    greater(low, high)
+    let low = both(x == 0xE0, b < 0xA0).max(both(x == 0xF0, b < 0x90));
+    let high = both(x == 0xED, 0xA0 <= b).max(both(x == 0xF4, 0x90 <= b));
+    low.max(high)
 }
 
 // 0 only if the byte b may stand after z, y and x.
@@ -145,8 +118,8 @@ fn misfit(z: u8, y: u8, x: u8, b: u8) -> u8
     ensures { result ≡ 0 → Fits z y x b }
 {
     let open = differ(is_due(z, y, x), is_trail(b));
-    let never = greater(both(0xC0 <= b, b < 0xC2), both(0xC2 <= b, 0xF5 <= b));
-    greater(greater(open, never), second_misfit(x, b))
+    let never = both(0xC0 <= b, b < 0xC2).max(both(0xC2 <= b, 0xF5 <= b));
+    open.max(never).max(second_misfit(x, b))
 }
 
 // Whether from each index up to another the fourth of four bytes may stand after the three.
@@ -155,10 +128,8 @@ fn is_fitting(s: &[u8], from: usize, to: usize) -> bool
     ensures { result ≡ true → AllFit s.now from to }
 {
     let mut most = 0;
-    let mut i = from;
-    while i < to {
-        most = greater(most, misfit(s[i], s[i + 1], s[i + 2], s[i + 3]));
-        i += 1;
+    for i in from..to {
+        most = misfit(s[i], s[i + 1], s[i + 2], s[i + 3]).max(most);
     }
     most == 0
 }
@@ -168,15 +139,11 @@ fn is_fitting_block(s: &[u8], i: usize) -> bool
     requires { i + 67 ≤ length s.now }
     ensures { result ≡ true → AllFit s.now i (i + 64) }
 {
-    let from = i + 3;
-    let to = i + 67;
-    if is_ascii(&s[from..to]) {
-        if is_due(s[i], s[i + 1], s[i + 2]) {
-            return false;
-        }
-        return true;
+    if is_ascii(&s[i + 3..i + 67]) {
+        !is_due(s[i], s[i + 1], s[i + 2])
+    } else {
+        is_fitting(s, i, i + 64)
     }
-    is_fitting(s, i, i + 64)
 }
 
 // So far from an index on, by blocks of 64, the fourth of four bytes may stand after the three.
@@ -185,12 +152,9 @@ fn fitting_blocks(s: &[u8], at: usize) -> usize
     ensures { Fitting s.now at result }
 {
     let mut i = at;
-    while 67 <= s.len() - i {
-        if is_fitting_block(s, i) {
-            i += 64;
-        } else {
-            return i;
-        }
+    // A step is a block.
+    while 67 <= s.len() - i && is_fitting_block(s, i) {
+        i += 64;
     }
     i
 }
@@ -201,15 +165,14 @@ fn last_start(s: &[u8], i: usize) -> usize
     ensures { result ≡ last_start s.now i }
 {
     if 0xC2 <= s[i + 2] {
-        return i + 2;
+        i + 2
+    } else if 0xE0 <= s[i + 1] {
+        i + 1
+    } else if 0xF0 <= s[i] {
+        i
+    } else {
+        i + 3
     }
-    if 0xE0 <= s[i + 1] {
-        return i + 1;
-    }
-    if 0xF0 <= s[i] {
-        return i;
-    }
-    i + 3
 }
 
 // Further on from the end of a character, by blocks, to the end of another.
@@ -234,6 +197,7 @@ fn formed_until(s: &[u8], from: usize, to: usize) -> usize
     ensures { Formed s.now result × (result < to → width s.now result ≡ 0) }
 {
     let mut at = from;
+    // A step is a character.
     while at < to {
         if s[at] < 0x80 {
             let past = at + 1;

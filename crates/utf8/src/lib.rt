@@ -12,6 +12,7 @@ pub struct Cursor {
     pub at: usize,
 }
 
+// An answer of our own, as docs/DECISIONS.md, "Forms", has it.
 // What stands at a cursor: a character's code and the cursor after it, or the end.
 #[derive(Clone, Copy)]
 pub enum Step {
@@ -33,7 +34,7 @@ const LOW: [u8; 10] = [0, 0, 0x80, 0xA0, 0x80, 0x80, 0x80, 0x90, 0x80, 0x80];
 
 const HIGH: [u8; 10] = [0, 0, 0xBF, 0xBF, 0xBF, 0x9F, 0xBF, 0xBF, 0xBF, 0x8F];
 
-// The byte's row of table 3-7, from 1, by the table; 0 if it begins no character.
+// The byte's row of table 3-7, from 1, by the table; 0 if it begins no character, as `class` promises.
 fn class_in(table: &[u8; 256], b: u8) -> usize
     requires { table.now ≡ classes }
     ensures { result ≡ class_of b }
@@ -42,6 +43,7 @@ fn class_in(table: &[u8; 256], b: u8) -> usize
 }
 
 // The byte's row of table 3-7, from 1; 0 if it begins no character.
+// A number and no Option: class promises the row's number, or 0.
 pub fn class(b: u8) -> usize
     ensures { result ≡ class_of b }
 {
@@ -53,30 +55,20 @@ pub fn class(b: u8) -> usize
 fn follows(s: &[u8], from: usize, more: usize, low: u8, high: u8) -> bool
     ensures { result ≡ follow (ranges more low high) s.now from }
 {
-    let mut i = from;
-    let mut left = more;
     let mut least = low;
     let mut most = high;
-    while left > 0 {
-        if s.len() <= i {
+    for k in 0..more {
+        let i = from + k;
+        if s.len() <= i || s[i] < least || most < s[i] {
             return false;
         }
-        let b = s[i];
-        if b < least {
-            return false;
-        }
-        if most < b {
-            return false;
-        }
-        i += 1;
-        left -= 1;
         least = 0x80;
         most = 0xBF;
     }
     true
 }
 
-// The length of the well-formed character at an index, by the class of its first byte in the table; 0 if there is none.
+// The length of the well-formed character at an index, by the class of its first byte in the table; 0 if there is none, as `char_len` promises.
 fn len_in(s: &[u8], at: usize, table: &[u8; 256]) -> usize
     requires { (at < length s.now) × (table.now ≡ classes) }
     ensures { result ≡ width s.now at }
@@ -94,6 +86,7 @@ fn len_in(s: &[u8], at: usize, table: &[u8; 256]) -> usize
 }
 
 // The length of the well-formed character at an index; 0 if there is none.
+// A number and no Option: char_len promises the definition's width.
 pub fn char_len(s: &[u8], at: usize) -> usize
     ensures { result ≡ width s.now at }
 {
@@ -163,6 +156,7 @@ impl Cursor {
     }
 
     // The code of the character at the cursor; 0x110000 at the end.
+    // A number and no Option: peek promises the definition's code.
     pub fn peek(self, s: &[u8]) -> u32
         ensures { result ≡ code s.now self.at }
     {

@@ -1,13 +1,10 @@
 -- Two answers that say the same are the same. Assumes nothing.
 use mathlib.Core.Path.{◌≡◌, ap}
-use mathlib.Core.List.{List}
-use mathlib.Core.Option.{some, none}
-use Prim.Native.Nat.{ℕ}
 use lib.ListN.{get_or}
 use Rattle.record_words.specs.Words.{words_of}
 use Rattle.record_words.specs.declared.Record as b
-use Rattle.view.specs.declared.Found.{Found}
-use Rattle.view.specs.declared.Found.TheVariants.{Record, Nothing}
+use Rattle.std.specs.Prelude.{Some, None}
+use Rattle.std.specs.Prelude as std
 use Rattle.view.specs.Answers.{says}
 
 record_one : (r r' : b.Record) → words_of r ≡ words_of r' → r ≡ r'
@@ -23,8 +20,8 @@ record_one r r' e =
       place = get_or (e i) 7 0;
     }
 
-pub says_one : (r r' : Found) → says r ≡ says r' → r ≡ r'
-says_one (Record r) (Record r') e = let w : words_of r ≡ words_of r' = cc in ap Record (record_one r r' w)
-says_one (Record r) Nothing e = cc
-says_one Nothing (Record r) e = cc
-says_one Nothing Nothing e = cc
+pub says_one : (r r' : std.Option b.Record) → says r ≡ says r' → r ≡ r'
+says_one (Some r) (Some r') e = let w : words_of r ≡ words_of r' = cc in ap Some (record_one r r' w)
+says_one (Some r) None e = cc
+says_one None (Some r) e = cc
+says_one None None e = cc

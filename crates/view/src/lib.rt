@@ -5,6 +5,8 @@ ghost use Rattle.std.specs.Prelude.{◌≡◌};
 ghost use Rattle.definition.specs.View.{viewed};
 ghost use Rattle.view.specs.Answers.{says};
 
+use record_words::Record;
+
 // The words of an accepted answer, and its count of records.
 #[derive(Clone, Copy)]
 pub struct View<'a> {
@@ -12,26 +14,19 @@ pub struct View<'a> {
     pub count: u32,
 }
 
-// A record, or that there is none.
-#[derive(Clone, Copy)]
-pub enum Found {
-    Record(record_words::Record),
-    Nothing,
-}
-
-// The record at a number from 0; nothing if the number is not below the count or the words end before that record does.
-pub fn record_at(words: &[u32], count: u32, number: u32) -> Found
+// The record at a number from 0; none if the number is not below the count or the words end before that record does.
+pub fn record_at(words: &[u32], count: u32, number: u32) -> Option<Record>
     ensures { says result ≡ viewed words.now count number }
 {
     if count <= number {
-        return Found::Nothing;
+        return None;
     }
     let past = number as usize * 8 + 8;
     if words.len() < past {
-        return Found::Nothing;
+        return None;
     }
     let at = past - 8;
-    Found::Record(record_words::Record {
+    Some(Record {
         kind: words[at],
         offset: words[at + 1],
         length: words[at + 2],
@@ -45,7 +40,7 @@ pub fn record_at(words: &[u32], count: u32, number: u32) -> Found
 
 impl<'a> View<'a> {
     // The record at a number from 0, of the words and the count that the view holds.
-    pub fn get(self, number: u32) -> Found
+    pub fn get(self, number: u32) -> Option<Record>
         ensures { says result ≡ viewed self.entry.words.now self.entry.count number }
     {
         record_at(self.words, self.count, number)

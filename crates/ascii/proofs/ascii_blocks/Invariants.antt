@@ -1,10 +1,6 @@
-use borrow.Author.Rules.{rules}
-use native.Mathlib.Omega.{arith}
-use mathlib.Core.Path.{sym, ◌∙◌}
 use Prim.Native.Nat.{◌-◌}
 use lib.ListN.{length}
 use Rattle.ascii.specs.Runs.{Ascii}
-use Rattle.ascii.proofs.Runs.{ascii_none, ascii_on, all_part}
 use Rattle.ascii.proofs.ascii_blocks.Given as goal
 
 abbrev pub invariant-loop-i : goal.invariant-loop-i

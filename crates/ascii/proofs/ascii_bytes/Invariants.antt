@@ -1,14 +1,5 @@
-use borrow.Author.Rules.{rules}
-use native.Mathlib.Omega.{arith}
-use Prim.Native.Nat.{◌-◌}
-use lib.ListN.{length}
-use Rattle.definition.proofs.Moves.CharLaws.{byte_is}
 use Rattle.ascii.specs.Runs.{Ascii}
-use Rattle.ascii.proofs.Runs.{ascii_none, ascii_more}
 use Rattle.ascii.proofs.ascii_bytes.Given as goal
 
 abbrev pub invariant-loop-i : goal.invariant-loop-i
 invariant-loop-i l = Ascii l.s l.from l.i
-
-abbrev pub decreases-loop-i : goal.decreases-loop-i
-decreases-loop-i l = length l.s - l.i

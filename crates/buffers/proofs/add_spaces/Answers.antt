@@ -1,4 +1,3 @@
-use borrow.Author.Rules.{rules}
 use native.Mathlib.Omega.{arith}
 use Prim.Native.Nat.{◌+◌, ◌-◌}
 use Rattle.buffers.proofs.Over.{over_filled}
@@ -6,5 +5,5 @@ use Rattle.buffers.proofs.add_spaces.Goals as goal
 
 pub returns : goal.returns
 returns c =
-    let from = c.least-from.result in
-    over_filled _ _ from (from + c.least.result - from) c.args.count 32 c.least-from.ensures (omega arith) c.fill.ensures
+    let from = c.min-from.result in
+    over_filled _ _ from (from + c.min.result - from) c.args.count 32 c.min-from.ensures (omega arith) c.fill.ensures

@@ -1,18 +1,13 @@
-use borrow.Author.Rules.{rules}
-use borrow.Author.Fill.{fill_more}
 use native.Mathlib.Omega.{arith}
-use mathlib.Core.Path.{◌≡◌, refl, ◌∙◌}
-use mathlib.Core.List.{◌++◌}
-use Prim.Native.Nat.{◌≤◌, ◌-◌}
-use lib.ListN.{length, drop, replicate}
-use Rattle.buffers.proofs.Loops.{filled}
+use mathlib.Core.Path.{◌∙◌, sym}
+use Rattle.buffers.proofs.Over.{over_nil, over_all, over_same_more}
 use Rattle.buffers.proofs.fill.Goals as goal
 
-pub loop-i-init : goal.loop-i-init
-loop-i-init c = (search rules, search rules, refl)
+pub loop-place-init : goal.loop-place-init
+loop-place-init g c = sym (over_nil _ _)
 
-pub loop-i-preserved : goal.loop-i-preserved
-loop-i-preserved c = (search rules, search rules, rw c.loop-i.invariant.2 (fill_more c.loop-i.i _ _ (omega arith)))
+pub loop-place-preserved : goal.loop-place-preserved
+loop-place-preserved g c = rw c.loop-place.invariant (over_same_more _ _ _)
 
 pub returns : goal.returns
-returns c = c.loop-i.invariant.2 ∙ filled _ c.loop-i.i _ (omega arith)
+returns g c = c.loop-place.invariant ∙ over_all _ _ _ (omega arith)

@@ -1,28 +1,28 @@
-use borrow.Author.Rules.{rules}
 use borrow.Author.Tests.{lt-ltb, le-ltb}
 use mathlib.Core.Path.{refl}
+use native.Mathlib.Omega.{arith}
 use Rattle.definition.specs.Chars.{utf8}
 use Rattle.buffers.specs.Over.{over}
 use Rattle.codes.proofs.put_char.Goals as goal
 
-pub returns-then-code-lt128 : goal.returns-then-code-lt128
+pub returns-in-0-to-127 : goal.returns-in-0-to-127
 unfolding utf8 over
-returns-then-code-lt128 c = rw (lt-ltb _ _ c.if-code-lt128.true) (refl, c.put.ensures)
+returns-in-0-to-127 c = rw (lt-ltb c.args.code 0x80 (omega arith)) (refl, c.put.ensures)
 
-pub returns-then-code-lt2048 : goal.returns-then-code-lt2048
+pub returns-in-0-to-2047 : goal.returns-in-0-to-2047
 unfolding utf8 over
-returns-then-code-lt2048 c =
-    rw (le-ltb _ _ c.if-code-lt128.false, lt-ltb _ _ c.if-code-lt2048.true)
-    (refl, rw (c.put-then-code-lt2048-2.ensures, c.trailing.ensures, c.put-then-code-lt2048.ensures))
+returns-in-0-to-2047 c =
+    rw (le-ltb c.args.code 0x80 (omega arith), lt-ltb c.args.code 0x800 (omega arith))
+    (refl, rw (c.put-in-0-to-2047-2.ensures, c.trailing.ensures, c.put-in-0-to-2047.ensures))
 
-pub returns-then-code-lt65536 : goal.returns-then-code-lt65536
+pub returns-in-0-to-65535 : goal.returns-in-0-to-65535
 unfolding utf8 over
-returns-then-code-lt65536 c =
-    rw (le-ltb _ _ c.if-code-lt128.false, le-ltb _ _ c.if-code-lt2048.false, lt-ltb _ _ c.if-code-lt65536.true)
-    (refl, rw (c.put-then-code-lt65536-3.ensures, c.trailing-then-code-lt65536-2.ensures, c.put-then-code-lt65536-2.ensures, c.trailing-then-code-lt65536.ensures, c.put-then-code-lt65536.ensures))
+returns-in-0-to-65535 c =
+    rw (le-ltb c.args.code 0x80 (omega arith), le-ltb c.args.code 0x800 (omega arith), lt-ltb c.args.code 0x10000 (omega arith))
+    (refl, rw (c.put-in-0-to-65535-3.ensures, c.trailing-in-0-to-65535-2.ensures, c.put-in-0-to-65535-2.ensures, c.trailing-in-0-to-65535.ensures, c.put-in-0-to-65535.ensures))
 
-pub returns : goal.returns
+pub returns-in_default : goal.returns-in_default
 unfolding utf8 over
-returns c =
-    rw (le-ltb _ _ c.if-code-lt128.false, le-ltb _ _ c.if-code-lt2048.false, le-ltb _ _ c.if-code-lt65536.false)
-    (refl, rw (c.put-5.ensures, c.trailing-4.ensures, c.put-4.ensures, c.trailing-3.ensures, c.put-3.ensures, c.trailing-2.ensures, c.put-2.ensures))
+returns-in_default c =
+    rw (le-ltb c.args.code 0x80 (omega arith), le-ltb c.args.code 0x800 (omega arith), le-ltb c.args.code 0x10000 (omega arith))
+    (refl, rw (c.put-in_default-4.ensures, c.trailing-in_default-3.ensures, c.put-in_default-3.ensures, c.trailing-in_default-2.ensures, c.put-in_default-2.ensures, c.trailing-in_default.ensures, c.put-in_default.ensures))

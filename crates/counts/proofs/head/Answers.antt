@@ -1,4 +1,3 @@
-use borrow.Author.Rules.{rules}
 use mathlib.Core.Path.{sym, ◌∙◌}
 use Rattle.counts.specs.Heads.{head_of}
 use Rattle.counts.proofs.head.Goals as goal

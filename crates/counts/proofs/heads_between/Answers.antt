@@ -1,8 +1,6 @@
-use borrow.Author.Rules.{rules}
 use native.Mathlib.Omega.{arith}
-use mathlib.Core.Path.{◌≡◌, sym}
-use Prim.Native.Nat.{◌+◌, ◌-◌, ◌≤◌}
-use Rattle.counts.specs.Heads.{heads_from}
+use mathlib.Core.Path.{sym}
+use Prim.Native.Nat.{◌+◌, ◌-◌}
 use Rattle.counts.proofs.HeadLaws.{heads_none, heads_on, heads_most}
 use Rattle.counts.proofs.heads_between.Goals as goal
 
@@ -12,8 +10,8 @@ loop-i-init c = let a = c.args in (omega arith, c.requires.0, sym (heads_none a.
 pub overflow_sub-to : goal.overflow_sub-to
 overflow_sub-to c = omega (arith, c.loop-i.invariant.1)
 
-pub overflow_add-past : goal.overflow_add-past
-overflow_add-past c = omega (arith, c.loop-i.invariant.1)
+pub overflow_add-i : goal.overflow_add-i
+overflow_add-i c = omega (arith, c.loop-i.invariant.1)
 
 pub heads_near-requires : goal.heads_near-requires
 heads_near-requires c = (omega arith, omega (arith, c.loop-i.invariant.1, c.requires), omega arith)

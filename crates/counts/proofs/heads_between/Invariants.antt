@@ -1,9 +1,6 @@
-use borrow.Author.Rules.{rules}
-use native.Mathlib.Omega.{arith}
-use mathlib.Core.Path.{◌≡◌, sym}
-use Prim.Native.Nat.{◌+◌, ◌-◌, ◌≤◌}
+use mathlib.Core.Path.{◌≡◌}
+use Prim.Native.Nat.{◌-◌, ◌≤◌}
 use Rattle.counts.specs.Heads.{heads_from}
-use Rattle.counts.proofs.HeadLaws.{heads_none, heads_on, heads_most}
 use Rattle.counts.proofs.heads_between.Given as goal
 
 abbrev pub invariant-loop-i : goal.invariant-loop-i

@@ -1,7 +1,7 @@
 use borrow.Author.Rules.{rules}
 use native.Mathlib.Omega.{arith}
-use mathlib.Core.Path.{◌≡◌, sym, ◌∙◌, ap, ap₂}
-use Prim.Native.Nat.{◌+◌, ◌-◌, ◌≤◌}
+use mathlib.Core.Path.{◌≡◌, sym, ◌∙◌, ap}
+use Prim.Native.Nat.{◌-◌, ◌≤◌}
 use Rattle.definition.proofs.Moves.CharLaws.{byte_is}
 use Rattle.counts.specs.Heads.{head_of, heads_from}
 use Rattle.counts.proofs.HeadLaws.{head_most, heads_none, heads_next, heads_most}

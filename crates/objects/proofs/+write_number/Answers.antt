@@ -2,11 +2,10 @@ use borrow.Author.Rules.{rules}
 use native.Mathlib.Omega.{arith}
 use mathlib.Core.Path.{ap}
 use mathlib.Core.List.{[], ◌∷◌}
-use Prim.Native.Nat.{ℕ, ◌+◌, ◌/◌, ◌%◌, ◌<◌}
+use Prim.Native.Nat.{◌+◌, ◌/◌, ◌%◌}
 use lib.ListN.{length, length-append}
 use Rattle.definition_lines.specs.Lines.{decimal}
 use Rattle.objects.proofs.Texts.{and_then, digit_one, digit_more}
-use Rattle.objects.proofs.+write_number.{statement}
 use Rattle.objects.proofs.+write_number.Goals as goal
 
 pub write_byte-requires : goal.write_byte-requires

@@ -1,4 +1,3 @@
-use borrow.Author.Rules.{rules}
 use native.Mathlib.Omega.{arith}
 use Rattle.objects.proofs.Short.{line_short, long_text, text_line}
 use Rattle.objects.proofs.put_line.Goals as goal

@@ -1,4 +1,3 @@
-use borrow.Author.Rules.{rules}
 use native.Mathlib.Omega.{arith}
 use Rattle.objects.proofs.Short.{refusal_short, in_front_lem}
 use Rattle.objects.proofs.put_refusal.Goals as goal

@@ -1,4 +1,3 @@
-use borrow.Author.Rules.{rules}
 use native.Mathlib.Omega.{arith}
 use mathlib.Core.Path.{sym, ◌∙◌, ap}
 use lib.ListN.{length}
@@ -48,14 +47,14 @@ returns-then-byte-lt32 c =
     let m = sym c.is_marked.ensures ∙ c.if-is_marked.false in
     rw (escaped_control c.args.byte m c.if-byte-lt32.true, ← c.hex_code.ensures, ← c.hex_code-then-byte-lt32.ensures) (and_then c.write_run-high.ensures (and_then c.write_byte-low.ensures c.write_byte-then-byte-lt32.ensures))
 
-pub write_byte-requires-2 : goal.write_byte-requires-2
+pub write_byte-requires-else-byte-lt32 : goal.write_byte-requires-else-byte-lt32
 unfolding ascii
-write_byte-requires-2 c =
+write_byte-requires-else-byte-lt32 c =
     let m = sym c.is_marked.ensures ∙ c.if-is_marked.false in
     omega (arith, ap length (escaped_plain c.args.byte m c.if-byte-lt32.false))
 
-pub returns : goal.returns
+pub returns-else-byte-lt32 : goal.returns-else-byte-lt32
 unfolding ascii
-returns c =
+returns-else-byte-lt32 c =
     let m = sym c.is_marked.ensures ∙ c.if-is_marked.false in
-    rw (escaped_plain c.args.byte m c.if-byte-lt32.false) c.write_byte-2.ensures
+    rw (escaped_plain c.args.byte m c.if-byte-lt32.false) c.write_byte-else-byte-lt32.ensures

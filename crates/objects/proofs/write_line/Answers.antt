@@ -1,4 +1,3 @@
-use borrow.Author.Rules.{rules}
 use borrow.Author.Tests.{ne_eqb}
 use Rattle.definition_lines.specs.Lines.{line_of}
 use Rattle.objects.proofs.write_line.Goals as goal

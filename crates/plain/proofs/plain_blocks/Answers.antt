@@ -1,10 +1,9 @@
 use borrow.Author.Rules.{rules}
 use borrow.Author.Tests.{ltb-true, ltb-false}
 use native.Mathlib.Omega.{arith}
-use Prim.Native.Nat.{ℕ, ◌+◌, ◌-◌, ◌≤◌}
+use Prim.Native.Nat.{ℕ, ◌+◌}
 use mathlib.Core.List.{List}
 use lib.Dec.{ltb}
-use lib.ListN.{length}
 use Rattle.definition.proofs.Moves.CharLaws.{cases}
 use Rattle.plain.specs.Plain.{AllPlain}
 use Rattle.plain.proofs.plain_blocks.Goals as goal
@@ -21,9 +20,3 @@ overflow_sub-s c = omega (arith, c.loop-i.invariant.1)
 
 pub loop-i-preserved : goal.loop-i-preserved
 loop-i-preserved c = let a = c.args in (omega (arith, c.loop-i.invariant.0), search rules, both a.kind a.s.now a.at c.loop-i.i (c.loop-i.i + a.size) c.loop-i.invariant.2 (c.is_plain.ensures c.if-is_plain.true))
-
-pub returns-else-is_plain : goal.returns-else-is_plain
-returns-else-is_plain c = c.loop-i.invariant
-
-pub returns : goal.returns
-returns c = c.loop-i.invariant

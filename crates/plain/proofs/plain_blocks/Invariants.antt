@@ -1,11 +1,5 @@
-use borrow.Author.Rules.{rules}
-use borrow.Author.Tests.{ltb-true, ltb-false}
-use native.Mathlib.Omega.{arith}
-use Prim.Native.Nat.{ℕ, ◌+◌, ◌-◌, ◌≤◌}
-use mathlib.Core.List.{List}
-use lib.Dec.{ltb}
+use Prim.Native.Nat.{◌-◌, ◌≤◌}
 use lib.ListN.{length}
-use Rattle.definition.proofs.Moves.CharLaws.{cases}
 use Rattle.plain.specs.Plain.{AllPlain}
 use Rattle.plain.proofs.plain_blocks.Given as goal
 

@@ -1,7 +1,6 @@
 use borrow.Author.Rules.{rules}
 use native.Mathlib.Omega.{arith}
-use mathlib.Core.Path.{◌≡◌, refl, sym, ◌∙◌}
-use Prim.Native.Nat.{◌-◌, ◌≤◌}
+use mathlib.Core.Path.{◌≡◌, refl, sym, ◌∙◌, ap}
 use Rattle.definition.specs.Chars.{byte}
 use Rattle.definition.proofs.Moves.CharLaws.{byte_is}
 use Rattle.marks.specs.Marks.{special}
@@ -26,4 +25,7 @@ pub loop-i-preserved : goal.loop-i-preserved
 loop-i-preserved c = let a = c.args in (omega (arith, c.loop-i.invariant.0), search rules, c.loop-i.invariant.2 ∙ end_plain a.kind a.s.now _ (search rules) (sym (told (goal.at.loop-i-preserved c).After-is_special) ∙ c.if-is_special.false))
 
 pub returns : goal.returns
-returns c = record { on = c.loop-i.invariant.0; within = c.loop-i.invariant.1; same = c.loop-i.invariant.2; ends = λ h. absurd (omega (arith, c.loop-i-test.false)) }
+returns c =
+    let a = c.args in
+    let e : c.loop-i.i ≡ a.to = omega (arith, c.loop-i.invariant.1, c.loop-i-test.false) in
+    record { on = c.requires.0; within = omega arith; same = c.loop-i.invariant.2 ∙ ap (plain_end a.kind a.s.now) e; ends = λ h. absurd (omega (arith, h)) }

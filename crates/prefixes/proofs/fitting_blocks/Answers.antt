@@ -1,8 +1,5 @@
 use borrow.Author.Rules.{rules}
 use native.Mathlib.Omega.{arith}
-use Prim.Native.Nat.{◌-◌}
-use lib.ListN.{length}
-use Rattle.prefixes.specs.Fits.{Fitting}
 use Rattle.prefixes.proofs.Fitting.{fitting_none, fitting_on}
 use Rattle.prefixes.proofs.fitting_blocks.Goals as goal
 
@@ -14,9 +11,3 @@ overflow_sub-s c = omega (arith, c.loop-i.invariant.within)
 
 pub loop-i-preserved : goal.loop-i-preserved
 loop-i-preserved c = fitting_on _ _ c.loop-i.i _ c.loop-i.invariant (c.is_fitting_block.ensures c.if-is_fitting_block.true) (omega arith) (search rules)
-
-pub returns-else-is_fitting_block : goal.returns-else-is_fitting_block
-returns-else-is_fitting_block c = c.loop-i.invariant
-
-pub returns : goal.returns
-returns c = c.loop-i.invariant

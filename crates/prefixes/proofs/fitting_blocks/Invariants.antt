@@ -1,9 +1,6 @@
-use borrow.Author.Rules.{rules}
-use native.Mathlib.Omega.{arith}
 use Prim.Native.Nat.{◌-◌}
 use lib.ListN.{length}
 use Rattle.prefixes.specs.Fits.{Fitting}
-use Rattle.prefixes.proofs.Fitting.{fitting_none, fitting_on}
 use Rattle.prefixes.proofs.fitting_blocks.Given as goal
 
 abbrev pub invariant-loop-i : goal.invariant-loop-i

@@ -1,5 +1,4 @@
 use borrow.Author.Rules.{rules}
-use native.Mathlib.Omega.{arith}
 use mathlib.Core.Path.{sym}
 use Rattle.prefixes.proofs.Formed.{begun, ended}
 use Rattle.prefixes.proofs.formed_end.Goals as goal

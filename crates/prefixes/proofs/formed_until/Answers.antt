@@ -6,7 +6,6 @@ use lib.ListN.{length}
 use Rattle.definition.proofs.Moves.CharLaws.{byte_is, width_in, width_ascii}
 use Rattle.ascii.specs.Runs.{Ascii}
 use Rattle.ascii.proofs.Runs.{ascii_part}
-use Rattle.prefixes.specs.Formed.{Formed}
 use Rattle.prefixes.proofs.Formed.{more, past}
 use Rattle.prefixes.proofs.formed_until.Goals as goal
 use Rattle.prefixes.proofs.formed_until.Goals.{After-ascii_end}

@@ -1,9 +1,5 @@
-use borrow.Author.Rules.{rules}
 use borrow.Author.Tests.{eqb-true}
 use native.Mathlib.Omega.{arith}
-use mathlib.Core.Path.{◌≡◌}
-use Prim.Native.Nat.{◌+◌, ◌-◌}
-use Rattle.prefixes.specs.Fits.{AllFit}
 use Rattle.prefixes.proofs.Fitting.{all_none, all_more}
 use Rattle.prefixes.proofs.is_fitting.Goals as goal
 
@@ -13,7 +9,7 @@ loop-i-init c = λ e. let a = c.args in all_none a.s.now a.from a.from (omega ar
 pub loop-i-preserved : goal.loop-i-preserved
 loop-i-preserved c =
     λ e. let a = c.args in
-    let g = c.greater-most.ensures in
+    let g = c.max-most.ensures in
     all_more a.s.now a.from c.loop-i.i (omega (arith, c.loop-i-test.true)) (c.loop-i.invariant (omega arith)) (c.misfit.ensures (omega arith))
 
 pub returns : goal.returns

@@ -1,4 +1,3 @@
-use borrow.Author.Rules.{rules}
 use native.Mathlib.Omega.{arith}
 use Prim.Native.Nat.{◌+◌}
 use borrow.Author.Tests.{le-leb, lt-leb}
@@ -24,8 +23,8 @@ returns-then-s-i-ge240 c =
     let a = c.args in
     rw (← byte_is a.s.now (a.i + 2) (omega arith), lt-leb _ _ c.if-s-i-ge194.false, ← byte_is a.s.now (a.i + 1) (omega arith), lt-leb _ _ c.if-s-i-ge224.false, ← byte_is a.s.now a.i (omega arith), le-leb _ _ c.if-s-i-ge240.true)
 
-pub returns : goal.returns
+pub returns-else-s-i-ge240 : goal.returns-else-s-i-ge240
 unfolding last_start
-returns c =
+returns-else-s-i-ge240 c =
     let a = c.args in
     rw (← byte_is a.s.now (a.i + 2) (omega arith), lt-leb _ _ c.if-s-i-ge194.false, ← byte_is a.s.now (a.i + 1) (omega arith), lt-leb _ _ c.if-s-i-ge224.false, ← byte_is a.s.now a.i (omega arith), lt-leb _ _ c.if-s-i-ge240.false)

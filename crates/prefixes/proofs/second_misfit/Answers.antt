@@ -1,15 +1,13 @@
-use borrow.Author.Rules.{rules}
 use borrow.Author.Tests.{eq-eqb, ltb-false, leb-false}
 use native.Mathlib.Omega.{arith}
-use Prim.Native.Nat.{◌<◌}
 use Rattle.prefixes.proofs.Fitting.{not_both}
 use Rattle.prefixes.proofs.second_misfit.Goals as goal
 
 pub returns : goal.returns
 returns c =
-    λ e. let last = c.greater.ensures in
-    let high = c.greater-high.ensures in
-    let low = c.greater-low.ensures in
+    λ e. let last = c.max.ensures in
+    let high = c.max-high.ensures in
+    let low = c.max-low.ensures in
     record {
       e0 = not_both _ _ (eq-eqb _ _) (ltb-false _ _) (c.both.ensures (omega arith));
       f0 = not_both _ _ (eq-eqb _ _) (ltb-false _ _) (c.both-2.ensures (omega arith));

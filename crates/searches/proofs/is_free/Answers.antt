@@ -1,9 +1,8 @@
 use Rattle.std.specs.Prelude.{if◌then◌else◌}
-use borrow.Author.Rules.{rules}
 use borrow.Author.Tests.{eqb-true, eq-eqb}
 use native.Mathlib.Omega.{arith}
 use mathlib.Core.Path.{◌≡◌, refl, ◌∙◌, ap}
-use Prim.Native.Nat.{ℕ, ◌+◌, ◌-◌, ◌≤◌, ◌<◌}
+use Prim.Native.Nat.{ℕ, ◌+◌, ◌<◌}
 use mathlib.Core.List.{List}
 use lib.Dec.{eqb}
 use lib.ListN.{length, get_or}
@@ -27,9 +26,9 @@ loop-i-init c = (c.requires.0, λ p q r. refl)
 pub loop-i-preserved : goal.loop-i-preserved
 loop-i-preserved c =
     let t = c.loop-i-test.true in
-    let x = c.greater-first.ensures in
-    let y = c.greater-second.ensures in
-    let z = c.greater-third.ensures in (
+    let x = c.max-first.ensures in
+    let y = c.max-second.ensures in
+    let z = c.max-third.ensures in (
       omega (arith, t),
       λ p q r.
           c.loop-i.invariant.1 (omega (arith, x, p)) (omega (arith, y, q)) (omega (arith, z, r))
@@ -41,8 +40,8 @@ loop-i-preserved c =
 pub returns : goal.returns
 returns c =
     λ e. let a = c.args in
-    let g = c.greater-2.ensures in
-    let f = c.greater.ensures in
-    let z = eqb-true c.greater-2.result 0 e in
+    let g = c.max-2.ensures in
+    let f = c.max.ensures in
+    let z = eqb-true c.max-2.result 0 e in
     let h : c.loop-i.i ≡ a.to = omega (arith, c.loop-i.invariant.0, c.loop-i-test.false) in
     c.loop-i.invariant.1 (omega (arith, g, f, z)) (omega (arith, g, f, z)) (omega (arith, g, f, z)) ∙ ap (first_of a.a a.b a.c a.s.now) h

@@ -1,4 +1,3 @@
-use borrow.Author.Rules.{rules}
 use native.Mathlib.Omega.{arith}
 use Rattle.definition.proofs.Moves.CharLaws.{byte_is}
 use Rattle.utf8.proofs.byte_at.Goals as goal

@@ -1,4 +1,3 @@
-use borrow.Author.Rules.{rules}
 use mathlib.Core.Path.{refl}
 use Rattle.definition.specs.Chars.{ascii}
 use Rattle.utf8.proofs.class.Goals as goal

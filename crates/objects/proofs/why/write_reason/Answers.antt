@@ -1,5 +1,4 @@
 use borrow.Author.Rules.{rules}
-use native.Mathlib.Omega.{arith}
 use borrow.Author.Tests.{ne_eqb}
 use Rattle.definition.specs.Chars.{ascii}
 use Rattle.definition_lines.specs.Why.{reason_end}

@@ -1,4 +1,3 @@
-use borrow.Author.Rules.{rules}
 use borrow.Author.Tests.{le-leb, lt-leb}
 use Rattle.utf8.specs.Steps.{step_at}
 use Rattle.definition.proofs.Moves.CharLaws.{code_ascii, next_ascii}

@@ -1,4 +1,3 @@
-use borrow.Author.Rules.{rules}
 use borrow.Author.Tests.{le-leb}
 use mathlib.Core.Path.{sym, ◌∙◌}
 use Rattle.definition.specs.Chars.{code}
