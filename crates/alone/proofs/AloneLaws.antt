@@ -1,26 +1,23 @@
 -- What a literal gives that is read alone. Assumes nothing.
-use mathlib.Core.Path.{◌≡◌, refl, sym, subst, ◌∙◌, ap}
+use mathlib.Core.Path.{◌≡◌, refl, sym, ◌∙◌, ap}
 use mathlib.Core.Bool.{true, false, false≢true}
 use mathlib.Core.List.{List, [], ◌∷◌, ◌++◌, map, append-nil}
-use mathlib.Core.Option.{some}
 use Prim.Native.Nat.{ℕ, suc, ◌*◌, ◌<◌}
 use native.Mathlib.Omega.{arith}
 use lib.ListN.{length, take, drop}
 use lib.Seq.{take-nil, drop-nil}
 use Rattle.definition.specs.Numbers.{is_fstring}
 use Rattle.definition.specs.Escapes.{Naming}
-use Rattle.definition.specs.Entry as d
 use Rattle.definition.specs.Entry.{sixes, one_more}
 use Rattle.definition.specs.Records as answers
 use Rattle.definition.specs.Reading.{accepts, refuses, in_front, zeros, read, numbers}
 use Rattle.definition.specs.Reading as reading
 use Rattle.definition.specs.Rows.{Row, row_numbers, literal_rows, all_rows, all_numbers, rowed, rowed_numbers}
-use Rattle.definition_scripts.specs.Listing.{ListRow, of_field, of_refusal, ten_of, tens, read_rows, refusals_in}
+use Rattle.definition_scripts.specs.Listing.{of_field, of_refusal, ten_of, tens, read_rows, refusals_in}
 use Rattle.entry.specs.declared.Refusal as why
 use Rattle.found.specs.declared.Literal.{Literal}
 use Rattle.found.specs.Found.{literal_of, numbers_of}
 use Rattle.answers.specs.declared.Answer.{Answer}
-use Rattle.answers.specs.declared.Outcome.{Outcome}
 use Rattle.answers.specs.declared.Outcome.TheVariants.{Accepted, Refused}
 use Rattle.strings.specs.Strings.{SignsIs}
 use Rattle.strings.specs.Window.{window_after, window_into, window_numbers}

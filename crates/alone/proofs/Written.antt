@@ -1,4 +1,5 @@
 -- Rows that are written behind one another. Assumes nothing.
+use Rattle.std.specs.Prelude.{Result, Ok, Err}
 use mathlib.Core.Path.{◌≡◌, refl, sym, ◌∙◌, ap}
 use mathlib.Core.Bool.{false}
 use mathlib.Core.List.{List, [], ◌∷◌, ◌++◌, append-nil}
@@ -16,8 +17,7 @@ use Rattle.definition_scripts_laws.proofs.Listing.ListingSteps.{tens_length, ten
 use Rattle.buffers.specs.Over.{over}
 use Rattle.buffers.proofs.Over.{over_nil, length_over, over_append, over_front, over_lent}
 use Rattle.told.specs.Rows.{Wrote}
-use Rattle.alone.specs.declared.Alone.{Alone}
-use Rattle.alone.specs.declared.Alone.TheVariants.{Fields, Refused}
+use Rattle.told.specs.declared.Told.{Told}
 use Rattle.alone.specs.Puts.{Puts, Front, Reads, AloneIs}
 
 -- NOTHING, one row, and one run behind another
@@ -85,11 +85,11 @@ puts_block xs rows rows' block block' count n len p few e =
     let put : rows' ≡ over rows (count * 10) (tens xs) = e ∙ ap (over rows (count * 10)) first in
     (record { counted = omega arith; wrote = λ h. put; kept = ap length put ∙ length_over rows (count * 10) (tens xs) }, front_all xs rows rows' count put)
 
-pub puts_lent : (look : Naming) → (s : List ℕ) (w : ℕ) (l : Literal) (rows none none' : List ℕ) (count n : ℕ) (mid' : List ℕ) (r : Alone) → Reads (read_rows look s w l) 0 none none' n → count + n ≤ length rows / 10
+pub puts_lent : (look : Naming) → (s : List ℕ) (w : ℕ) (l : Literal) (rows none none' : List ℕ) (count n : ℕ) (mid' : List ℕ) (r : Result ℕ Told) → Reads (read_rows look s w l) 0 none none' n → count + n ≤ length rows / 10
     → AloneIs look s l w 0 (mid_of (count * 10) ((count + n) * 10 - count * 10) rows) mid' r → Puts (read_rows look s w l) rows (put_mid (count * 10) ((count + n) * 10 - count * 10) rows mid') count (count + n) × Front (read_rows look s w l) rows (put_mid (count * 10) ((count + n) * 10 - count * 10) rows mid') count
 unfolding refusals_in
-puts_lent look s w l rows none none' count n mid' (Refused t) a h q = let z : ◌≡◌ {A = ℕ} 1 0 = rw q.0 at a.fields in absurd (omega arith)
-puts_lent look s w l rows none none' count n mid' (Fields m) a h q =
+puts_lent look s w l rows none none' count n mid' (Err t) a h q = let z : ◌≡◌ {A = ℕ} 1 0 = rw q.0 at a.fields in absurd (omega arith)
+puts_lent look s w l rows none none' count n mid' (Ok m) a h q =
     let xs = read_rows look s w l in
     let k = (count + n) * 10 - count * 10 in
     let mid = mid_of (count * 10) k rows in

@@ -4,49 +4,39 @@
 ghost use Rattle.std.specs.Prelude.{◌≡◌, true, ◌<◌};
 ghost use Rattle.definition.specs.Numbers.{is_fstring};
 ghost use Rattle.definition_scripts.specs.Listing.{read_rows, own_rows};
-ghost use Rattle.escapes.specs.Answers.{names_by};
+ghost use Rattle.escapes.specs.Answers.{naming};
 ghost use Rattle.found.specs.Found.{literal_of};
 ghost use Rattle.alone.specs.Puts.{AloneIs, Puts, Front};
 
 use answers::Outcome;
 use found::Literal;
+use names::Names;
 use strings::parse_window;
 use told::{Told, put_refusal, put_rows, put_unknown};
-
-// What a literal gives that is read alone: so many fields, or its refusal.
-#[derive(Clone, Copy)]
-pub enum Alone {
-    Fields(usize),
-    Refused(Told),
-}
 
 // Whether literals of a kind are read: f-strings.
 pub fn is_fstring(kind: u32) -> bool
     ensures { result ≡ is_fstring kind }
 {
-    if kind == 1 {
-        return true;
-    }
-    kind == 4
+    matches!(kind, 1 | 4)
 }
 
-// Reads an f-string alone; the rows of its fields from number `skip` on are written, as far as there is room.
+// Reads an f-string alone: how many fields it has, or its refusal. The rows of its fields from number `skip` on are written, as far as there is room.
 fn read_fstring(
     s: &[u8],
     l: Literal,
     within: u32,
     skip: u32,
     rows: &mut [u32],
-    file: &[u8],
-    index: &[u32],
-) -> Alone
+    names: &Names,
+) -> Result<usize, Told>
     requires { is_fstring l.kind ≡ true }
-    ensures { AloneIs (names_by file.now index.now) s.now (literal_of l) within skip rows.old rows.new result }
+    ensures { AloneIs (naming names.now) s.now (literal_of l) within skip rows.old rows.new result }
 {
     let numbers = [l.kind, l.triple, l.offset, l.size, l.start, l.end];
-    match parse_window(s, &numbers, within, skip, rows, file, index) {
-        Outcome::Accepted(x) => Alone::Fields(x.records as usize),
-        Outcome::Refused(r) => Alone::Refused(Told {
+    match parse_window(s, &numbers, within, skip, rows, names) {
+        Outcome::Accepted(x) => Ok(x.records as usize),
+        Outcome::Refused(r) => Err(Told {
             start: l.start,
             place: r.place,
             number: r.number,
@@ -64,15 +54,15 @@ pub fn read_alone(
     within: u32,
     skip: u32,
     rows: &mut [u32],
-    file: &[u8],
-    index: &[u32],
-) -> Alone
-    ensures { AloneIs (names_by file.now index.now) s.now (literal_of l) within skip rows.old rows.new result }
+    names: &Names,
+) -> Result<usize, Told>
+    ensures { AloneIs (naming names.now) s.now (literal_of l) within skip rows.old rows.new result }
 {
     if is_fstring(l.kind) {
-        return read_fstring(s, l, within, skip, rows, file, index);
+        read_fstring(s, l, within, skip, rows, names)
+    } else {
+        Ok(0)
     }
-    Alone::Fields(0)
 }
 
 // Writes the rows of an f-string behind so many: its fields, or its one refusal. Says how many there are then. It is read once up to 8 fields, and above them once more.
@@ -82,31 +72,28 @@ fn fstring_rows(
     within: u32,
     rows: &mut [u32],
     count: usize,
-    file: &[u8],
-    index: &[u32],
+    names: &Names,
 ) -> usize
     requires { (is_fstring l.kind ≡ true) × (count < 4294967297) }
-    ensures { Puts (read_rows (names_by file.now index.now) s.now within (literal_of l)) rows.old rows.new count result × Front (read_rows (names_by file.now index.now) s.now within (literal_of l)) rows.old rows.new count }
+    ensures { Puts (read_rows (naming names.now) s.now within (literal_of l)) rows.old rows.new count result × Front (read_rows (naming names.now) s.now within (literal_of l)) rows.old rows.new count }
 {
     let mut block = [0u32; 80];
-    match read_fstring(s, l, within, 0, &mut block, file, index) {
-        Alone::Refused(t) => {
+    match read_fstring(s, l, within, 0, &mut block, names) {
+        Err(t) => {
             put_refusal(rows, count, within, t);
             count + 1
         }
-        Alone::Fields(n) => {
+        Ok(n) => {
             let to = count + n;
             if n <= 8 {
-                let size = n * 10;
-                put_rows(rows, count, &block[..size]);
+                put_rows(rows, count, &block[..n * 10]);
                 return to;
             }
             if rows.len() / 10 < to {
                 return to;
             }
-            let from = count * 10;
-            let end = to * 10;
-            read_fstring(s, l, within, 0, &mut rows[from..end], file, index);
+            let part = &mut rows[count * 10..to * 10];
+            let _ = read_fstring(s, l, within, 0, part, names);
             to
         }
     }
@@ -119,15 +106,14 @@ pub fn literal_rows(
     within: u32,
     rows: &mut [u32],
     count: u32,
-    file: &[u8],
-    index: &[u32],
+    names: &Names,
 ) -> usize
-    ensures { Puts (own_rows (names_by file.now index.now) s.now within (literal_of l)) rows.old rows.new count result × Front (own_rows (names_by file.now index.now) s.now within (literal_of l)) rows.old rows.new count }
+    ensures { Puts (own_rows (naming names.now) s.now within (literal_of l)) rows.old rows.new count result × Front (own_rows (naming names.now) s.now within (literal_of l)) rows.old rows.new count }
 {
     let before = count as usize;
     let past = before + put_unknown(s, l, within, rows, before);
     if is_fstring(l.kind) {
-        return fstring_rows(s, l, within, rows, past, file, index);
+        return fstring_rows(s, l, within, rows, past, names);
     }
     past
 }

@@ -1,4 +1,5 @@
 -- The cut of a script, move by move, as the code goes over it. Assumes nothing.
+use Rattle.std.specs.Prelude.{Option, Some, None, Result, Ok, Err}
 use mathlib.Core.Path.{◌≡◌, sym, ◌∙◌}
 use mathlib.Core.Bool.{true, false}
 use mathlib.Core.List.{List, []}
@@ -20,7 +21,9 @@ use Rattle.gaps.specs.Gaps.{Skips, Reaches}
 use Rattle.gaps.proofs.Gaps.{case_over, case_comment, case_literal}
 use Rattle.found.specs.declared.Literal.{Literal}
 use Rattle.found.specs.declared.Refusal.{Refusal}
-use Rattle.found.specs.Found.{literal_of, refusal_of}
+use Rattle.found.specs.declared.Broken.{Broken}
+use Rattle.found.specs.declared.Broken.TheVariants as broken
+use Rattle.found.specs.Found.{literal_of, refusal_of, HereIs, NextIs}
 
 -- A cut that has come from `from` to `at`, and goes on at `here`
 module _ (s : List ℕ) (from at here : ℕ) (p : Skips s from at) (q : Reaches s at here) where
@@ -53,3 +56,10 @@ module _ (s : List ℕ) (from at here : ℕ) (p : Skips s from at) (q : Reaches 
 
     pub cutting_goes : (x : Literal) → accepts (literal_of x) ≡ literal_at s here → cut_from s from ≡ first_cut (literal_of x) (cut_from s x.end)
     cutting_goes x f = on ∙ cut_goes s here (literal_of x) (case_literal s here l unsigned begun) (sym f)
+
+    -- what opens there is what the cut has next
+    pub next_here : (r : Result (Option Literal) Broken) → HereIs s here r → NextIs s from r
+    next_here (Ok (Some x)) h = (h.0, cutting_goes x h.2)
+    next_here (Ok None) h = absurd (omega (arith, h.1, cutting_known))
+    next_here (Err (broken.Literal r)) h = (h.0, cutting_breaks r h.2)
+    next_here (Err broken.TooLong) h = h

@@ -1,15 +1,16 @@
 -- What a cut has next is one thing. Assumes nothing.
 use mathlib.Core.Path.{◌≡◌, refl, sym, ◌∙◌, ap}
 use mathlib.Core.List.{List, [], ◌∷◌}
-use Prim.Native.Nat.{ℕ, ◌≤◌, ◌<◌}
+use Prim.Native.Nat.{ℕ}
 use native.Mathlib.Omega.{arith}
 use lib.ListN.{length}
-use Rattle.definition_scripts.specs.IsCut.{Ending, reaches_end, breaks_off}
-use Rattle.definition_scripts.specs.Cut.{Cut, first_cut, cut_from}
+use Rattle.std.specs.Prelude.{Option, Some, None, Result, Ok, Err}
+use Rattle.definition_scripts.specs.IsCut.{Ending, breaks_off}
+use Rattle.definition_scripts.specs.Cut.{Cut, first_cut}
 use Rattle.found.specs.declared.Literal.{Literal}
 use Rattle.found.specs.declared.Refusal.{Refusal}
-use Rattle.found.specs.declared.Next.{Next}
-use Rattle.found.specs.declared.Next.TheVariants as next
+use Rattle.found.specs.declared.Broken.{Broken}
+use Rattle.found.specs.declared.Broken.TheVariants as broken
 use Rattle.found.specs.Found.{literal_of, NextIs}
 
 -- WHAT A CUT HAS NEXT is one thing: two answers that the contract allows for one call are the same
@@ -35,20 +36,20 @@ broken_same r t e =
     let g : r.place ≡ t.place = cc in
     λ i. record { number = f i; place = g i }
 
-pub next_one : (s : List ℕ) (from : ℕ) (x y : Next) → NextIs s from x → NextIs s from y → x ≡ y
-next_one s from (next.Literal l) (next.Literal m) p q = ap next.Literal (first_same l m _ _ (sym p.1 ∙ q.1))
-next_one s from (next.Literal l) (next.Broken r) p q = none_first l _ _ (sym p.1 ∙ q.1)
-next_one s from (next.Literal l) next.End p q = none_first l _ _ (sym p.1 ∙ q.1)
-next_one s from (next.Literal l) next.TooLong p q = absurd (omega (arith, p.0))
-next_one s from (next.Broken r) (next.Literal m) p q = none_first m _ _ (sym q.1 ∙ p.1)
-next_one s from (next.Broken r) (next.Broken t) p q = ap next.Broken (broken_same r t (ends_same _ _ (sym p.1 ∙ q.1)))
-next_one s from (next.Broken r) next.End p q = let e = ends_same _ _ (sym p.1 ∙ q.1) in let z : ◌≡◌ {A = ℕ} 0 1 = cc in absurd (omega arith)
-next_one s from (next.Broken r) next.TooLong p q = absurd (omega (arith, p.0))
-next_one s from next.End (next.Literal m) p q = none_first m _ _ (sym q.1 ∙ p.1)
-next_one s from next.End (next.Broken r) p q = let e = ends_same _ _ (sym p.1 ∙ q.1) in let z : ◌≡◌ {A = ℕ} 0 1 = cc in absurd (omega arith)
-next_one s from next.End next.End p q = refl
-next_one s from next.End next.TooLong p q = absurd (omega (arith, p.0))
-next_one s from next.TooLong (next.Literal m) p q = absurd (omega (arith, q.0))
-next_one s from next.TooLong (next.Broken r) p q = absurd (omega (arith, q.0))
-next_one s from next.TooLong next.End p q = absurd (omega (arith, q.0))
-next_one s from next.TooLong next.TooLong p q = refl
+pub next_one : (s : List ℕ) (from : ℕ) (x y : Result (Option Literal) Broken) → NextIs s from x → NextIs s from y → x ≡ y
+next_one s from (Ok (Some l)) (Ok (Some m)) p q = ap (λ (l : Literal). Ok (Some l)) (first_same l m _ _ (sym p.1 ∙ q.1))
+next_one s from (Ok (Some l)) (Err (broken.Literal r)) p q = none_first l _ _ (sym p.1 ∙ q.1)
+next_one s from (Ok (Some l)) (Ok None) p q = none_first l _ _ (sym p.1 ∙ q.1)
+next_one s from (Ok (Some l)) (Err broken.TooLong) p q = absurd (omega (arith, p.0))
+next_one s from (Err (broken.Literal r)) (Ok (Some m)) p q = none_first m _ _ (sym q.1 ∙ p.1)
+next_one s from (Err (broken.Literal r)) (Err (broken.Literal t)) p q = ap (λ (r : Refusal). Err (broken.Literal r)) (broken_same r t (ends_same _ _ (sym p.1 ∙ q.1)))
+next_one s from (Err (broken.Literal r)) (Ok None) p q = let e = ends_same _ _ (sym p.1 ∙ q.1) in let z : ◌≡◌ {A = ℕ} 0 1 = cc in absurd (omega arith)
+next_one s from (Err (broken.Literal r)) (Err broken.TooLong) p q = absurd (omega (arith, p.0))
+next_one s from (Ok None) (Ok (Some m)) p q = none_first m _ _ (sym q.1 ∙ p.1)
+next_one s from (Ok None) (Err (broken.Literal r)) p q = let e = ends_same _ _ (sym p.1 ∙ q.1) in let z : ◌≡◌ {A = ℕ} 0 1 = cc in absurd (omega arith)
+next_one s from (Ok None) (Ok None) p q = refl
+next_one s from (Ok None) (Err broken.TooLong) p q = absurd (omega (arith, p.0))
+next_one s from (Err broken.TooLong) (Ok (Some m)) p q = absurd (omega (arith, q.0))
+next_one s from (Err broken.TooLong) (Err (broken.Literal r)) p q = absurd (omega (arith, q.0))
+next_one s from (Err broken.TooLong) (Ok None) p q = absurd (omega (arith, q.0))
+next_one s from (Err broken.TooLong) (Err broken.TooLong) p q = refl

@@ -5,10 +5,11 @@ ghost use Rattle.std.specs.Prelude.{◌≡◌};
 ghost use Rattle.definition.specs.Numbers.{prefix};
 ghost use Rattle.definition_scripts.specs.Opening.{quotes};
 ghost use Rattle.definition_scripts.specs.Literals.{literal_at};
-ghost use Rattle.found.specs.Found.{Within, found_of, HereIs, NextIs};
+ghost use Rattle.found.specs.Found.{Within, found_of, refused_by, HereIs, NextIs};
 
 use gaps::near;
-use scans::{Closing, NO_KIND, closing_from, comment_end, opens, tripled};
+use numbering::Number;
+use scans::{closing_from, comment_end, opens, tripled};
 
 // A literal: six numbers.
 #[derive(Clone, Copy)]
@@ -28,49 +29,62 @@ pub struct Refusal {
     pub place: u32,
 }
 
-// The literal that opens at a place, or why it never closes.
+// Why a script has no literal to give: one never closes, or the script is too long.
 #[derive(Clone, Copy)]
-pub(crate) enum Found {
-    Literal(Literal),
-    Refused(Refusal),
-}
-
-// What stands at a place, or what a cut has next: a literal, one that never closes, none; or the script is too long.
-#[derive(Clone, Copy)]
-pub enum Next {
-    Literal(Literal),
-    Broken(Refusal),
-    End,
+pub enum Broken {
+    Literal(Refusal),
     TooLong,
 }
 
+impl From<Refusal> for Broken {
+    ghost use Rattle.found.specs.declared.Broken.{Broken};
+
+    ghost from_gives = { λ r e. e ≡ Broken.Literal r };
+
+    fn from(unclosed: Refusal) -> Broken {
+        Broken::Literal(unclosed)
+    }
+}
+
+impl From<Broken> for Refusal {
+    ghost from_gives = { λ e r. r ≡ refused_by e };
+
+    fn from(e: Broken) -> Refusal {
+        match e {
+            Broken::Literal(r) => r,
+            Broken::TooLong => Refusal {
+                number: Number::ScriptTooLong as u32,
+                place: 0,
+            },
+        }
+    }
+}
+
+// A script has at most so many bytes.
+pub const MOST_BYTES: usize = 1048576;
+
 // The length of a kind's prefix.
+#[tactic(auto, unfolding(definition::specs::Numbers::prefix))]
 fn prefix(kind: u32) -> u32
     ensures { result ≡ prefix kind }
 {
     match kind {
-        1 => 1,
-        2 => 1,
-        3 => 1,
-        4 => 2,
-        5 => 2,
-        6 => 1,
+        1..=3 | 6 => 1,
+        4 | 5 => 2,
         _ => 0,
     }
 }
 
 // How many quotes a flag stands for.
+// A match of its own: what it counts is not what others of its shape do.
 fn quotes(triple: u32) -> u32
     ensures { result ≡ quotes triple }
 {
-    if triple == 1 {
-        return 3;
-    }
-    1
+    if triple == 1 { 3 } else { 1 }
 }
 
-// The literal of a kind that opens at an index.
-fn literal_at(s: &[u8], at: usize, kind: u32) -> Found
+// The literal of a kind that opens at an index, or why it never closes.
+fn literal_at(s: &[u8], at: usize, kind: u32) -> Result<Literal, Refusal>
     requires { Within s.now at kind }
     ensures { found_of result ≡ literal_at s.now at }
 {
@@ -79,11 +93,11 @@ fn literal_at(s: &[u8], at: usize, kind: u32) -> Found
     let size = quotes(triple);
     let body = from + size as usize;
     match closing_from(s, s[from], triple, body) {
-        Closing::Fails(number) => Found::Refused(Refusal {
-            number,
+        Err(e) => Err(Refusal {
+            number: u32::from(e),
             place: at as u32,
         }),
-        Closing::Closed(to) => Found::Literal(Literal {
+        Ok(to) => Ok(Literal {
             kind,
             triple,
             offset: body as u32,
@@ -95,52 +109,33 @@ fn literal_at(s: &[u8], at: usize, kind: u32) -> Found
 }
 
 // The literal that opens at an index, if one does.
-pub fn literal_here(script: &[u8], at: usize) -> Next
+pub fn literal_here(script: &[u8], at: usize) -> Result<Option<Literal>, Broken>
     ensures { HereIs script.now at result }
 {
-    if script.len() <= 1048576 {
-        let kind = opens(script, at);
-        if NO_KIND <= kind {
-            return Next::End;
-        }
-        match literal_at(script, at, kind) {
-            Found::Refused(r) => {
-                return Next::Broken(r);
-            }
-            Found::Literal(l) => {
-                return Next::Literal(l);
-            }
-        }
+    if MOST_BYTES < script.len() {
+        return Err(Broken::TooLong);
     }
-    Next::TooLong
+    match opens(script, at) {
+        Some(kind) => Ok(Some(literal_at(script, at, kind)?)),
+        None => Ok(None),
+    }
 }
 
 // The next literal of a script's cut from an index on.
-pub fn next_literal(script: &[u8], from: usize) -> Next
+pub fn next_literal(script: &[u8], from: usize) -> Result<Option<Literal>, Broken>
     ensures { NextIs script.now from result }
 {
-    let len = script.len();
-    if 1048576 < len {
-        return Next::TooLong;
+    if MOST_BYTES < script.len() {
+        return Err(Broken::TooLong);
     }
     let mut at = from;
+    // A step is a comment.
     loop {
         let here = near(script, at);
-        if len <= here {
-            return Next::End;
-        }
-        if script[here] == b'#' {
-            at = comment_end(script, here);
-        } else {
-            let kind = opens(script, here);
-            match literal_at(script, here, kind) {
-                Found::Refused(r) => {
-                    return Next::Broken(r);
-                }
-                Found::Literal(l) => {
-                    return Next::Literal(l);
-                }
-            }
+        match script.get(here) {
+            Some(b'#') => at = comment_end(script, here),
+            Some(_) => return literal_here(script, here),
+            None => return Ok(None),
         }
     }
 }

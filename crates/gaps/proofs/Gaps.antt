@@ -142,5 +142,5 @@ module _ (s : List ℕ) where
             rw y at (near_goes (end - 2) (omega arith) (none_first (end - 2) (end - 1) y (clear (end - 2) (omega arith) (omega arith)) (clear (end - 1) (omega arith) (omega arith)) w) (near_starts (end - 2) (omega arith) (λ n. omega arith))))
             (λ t. let m = ltb-false i (end - 1) t in let x : i ≡ end - 1 = omega arith in rw (← x) (stays i))))
 
-    pub near_ends : (j : ℕ) → j ≤ end → end ≤ j → Skips s i j → Reaches s i j
-    near_ends j h k p = let z : end ≡ j = omega arith in record { skips = p; stands = λ l f. quoted j (rw (← e, z) at (first_passes cut_mark s i (rw (← e, z) l))) f }
+    pub near_ends : (j : ℕ) → j ≤ end → end ≤ j → Skips s i j → Reaches s i end
+    near_ends j h k p = let z : j ≡ end = omega arith in record { skips = rw z at p; stands = λ l f. quoted end (rw (← e) at (first_passes cut_mark s i (rw (← e) l))) f }

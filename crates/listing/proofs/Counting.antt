@@ -17,7 +17,7 @@ use Rattle.definition.specs.Entry as d
 use Rattle.definition.specs.Reading.{in_front}
 use Rattle.definition.specs.Rows.{Row}
 use Rattle.definition_scripts.specs.IsCut.{reaches_end, breaks_off}
-use Rattle.definition_scripts.specs.Cut.{Cut, cut, first_cut, cut_from, cut_part}
+use Rattle.definition_scripts.specs.Cut.{Cut, first_cut, cut_from, cut_part}
 use Rattle.definition_scripts.specs.Keywords.{word_start, may_stand}
 use Rattle.definition_scripts.specs.Listing.{ListRow, of_field, of_refusal, ten_of, tens, read_rows, unknown_row, own_rows, all_read, broken_row, cut_rows, source_end, otherwise, otherwise_row, source_rows, rows_of, refusals_in, least}
 use Rattle.definition_scripts_laws.proofs.Cut.PartLaws.{cut_is_part}

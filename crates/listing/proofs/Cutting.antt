@@ -16,7 +16,6 @@ use Rattle.definition_scripts_laws.proofs.Listing.FewRows.{own_few}
 use Rattle.buffers.specs.Over.{over}
 use Rattle.found.specs.declared.Literal.{Literal}
 use Rattle.found.specs.Found.{literal_of}
-use Rattle.listing.specs.declared.rows.Part.{Part}
 use Rattle.alone.specs.Puts.{Puts}
 use Rattle.listing.specs.Put.{Bounded, PartIs}
 use Rattle.alone.proofs.Written.{puts_none, puts_one, puts_append}

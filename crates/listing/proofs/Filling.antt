@@ -1,19 +1,16 @@
 -- The rows of sources, written row by row until none is left or there is no room. Assumes nothing.
-use Rattle.std.specs.Prelude.{if◌then◌else◌}
 use mathlib.Core.Path.{◌≡◌, refl, sym, subst, ◌∙◌, ap}
-use mathlib.Core.Bool.{Bool, true, false}
 use mathlib.Core.List.{List, [], ◌∷◌, ◌++◌, append_assoc, append-nil}
-use Prim.Native.Nat.{ℕ, zero, suc, ◌+◌, ◌-◌, ◌*◌, ◌/◌, ◌≤◌, ◌<◌}
+use Prim.Native.Nat.{ℕ, suc, ◌+◌, ◌*◌, ◌/◌, ◌≤◌, ◌<◌}
 use native.Mathlib.Numerals.{add-one}
 use native.Mathlib.Omega.{arith}
 use borrow.Author.Tests.{eq-eqb, ne_eqb}
-use lib.Dec.{ltb, eqb}
 use lib.ListN.{length, take, drop, get_or, length-append}
 use lib.Seq.{take-append_seam}
 use Rattle.definition.specs.Escapes.{Naming}
 use Rattle.definition_scripts.specs.Cut.{Cut, cut, cut_part}
 use Rattle.definition.specs.Reading.{zeros}
-use Rattle.definition_scripts.specs.Listing.{ListRow, of_refusal, ten_of, tens, cut_rows, source_end, otherwise, otherwise_row, source_rows, rows_of, refusals_in, fields_after, fields_call, fields_into, fields_numbers}
+use Rattle.definition_scripts.specs.Listing.{ListRow, ten_of, tens, cut_rows, source_end, otherwise, otherwise_row, source_rows, rows_of, refusals_in, fields_after, fields_call, fields_into, fields_numbers}
 use Rattle.definition_scripts_laws.proofs.Cut.PartLaws.{cut_is_part}
 use Rattle.definition_scripts_laws.proofs.Listing.SourceLaws.{Fits, AllFit}
 use Rattle.definition_scripts_laws.proofs.Listing.ListingLaws.{rows_fit}
@@ -23,8 +20,8 @@ use Rattle.buffers.specs.Over.{over}
 use Rattle.buffers.proofs.Over.{over_front}
 use Rattle.sources.specs.declared.Field.{Field}
 use Rattle.listing.specs.declared.rows.Part.{Part}
-use Rattle.answers.specs.declared.List as list
-use Rattle.answers.specs.declared.Fields.TheVariants.{Listed, TooLong, Short}
+use Rattle.std.specs.Prelude.{Ok, Err}
+use Rattle.answers.specs.declared.Unlisted.TheVariants.{TooLong, Short}
 use Rattle.sources.specs.Source.{signs_of, row_of, Source}
 use Rattle.told.specs.Rows.{Wrote, told_otherwise, row_at, rows_in, field_of}
 use Rattle.told.proofs.Rows.{otherwise_told, otherwise_most, row_back, rows_back, refusals_most}
@@ -190,7 +187,7 @@ module _ (look : Naming) (s rows : List ℕ) (long : length s ≤ 1048576) where
 
 -- THE CALL
 module _ (look : Naming) (s rows : List ℕ) where
-  pub call_long : (rows' : List ℕ) → 1048576 < length s → rows' ≡ zeros rows → CallIs (fields_into look s rows) rows' TooLong
+  pub call_long : (rows' : List ℕ) → 1048576 < length s → rows' ≡ zeros rows → CallIs (fields_into look s rows) rows' (Err TooLong)
   unfolding fields_into fields_call fields_after fields_numbers
   call_long rows' h e = rw (fields_long look s (length rows) h) (record { answer = refl; rows = e })
 
@@ -198,7 +195,7 @@ module _ (look : Naming) (s rows : List ℕ) where
     pub filled_few : r.count ≤ 1048576
     filled_few = let a = p.among in omega (arith, rows_few look s)
 
-    pub call_short : (rows' : List ℕ) (n : ℕ) → length rows₁ / 10 < r.count → n ≡ length (rows_of look s) → rows' ≡ zeros rows₁ → CallIs (fields_into look s rows) rows' (Short n)
+    pub call_short : (rows' : List ℕ) (n : ℕ) → length rows₁ / 10 < r.count → n ≡ length (rows_of look s) → rows' ≡ zeros rows₁ → CallIs (fields_into look s rows) rows' (Err (Short n))
     unfolding fields_into fields_call fields_after fields_numbers
     call_short rows' n h e z =
         let a = p.among in
@@ -231,7 +228,7 @@ module _ (look : Naming) (s rows : List ℕ) where
         pub refusals_few : n ≤ 1048576
         refusals_few = omega (arith, refusals_all, refusals_most (rows_of look s), rows_few look s)
 
-        pub call_listed : CallIs (fields_into look s rows) rows₁ (Listed (record { rows = r.count; refusals = n; literals = r.literals; to = r.to }))
+        pub call_listed : CallIs (fields_into look s rows) rows₁ (Ok (record { rows = r.count; refusals = n; literals = r.literals; to = r.to }))
         unfolding fields_into fields_call fields_after fields_numbers
         call_listed =
             let k = p.kept in

@@ -1,10 +1,11 @@
 -- What a call for the list of a script answers and leaves, by the definition's.
-use Rattle.std.specs.Prelude.{ℕ, suc, ◌+◌, ◌*◌, ◌≤◌, ◌<◌, ◌≡◌, List, [], ◌∷◌, length}
+use Rattle.std.specs.Prelude.{ℕ, ◌*◌, ◌≤◌, ◌≡◌, List, length, Result}
 use Rattle.definition.specs.Escapes.{Naming}
 use Rattle.definition_scripts.specs.Cut.{cut}
 use Rattle.definition_scripts.specs.Listing.{tens, reached, rows_of, FieldsCall, fields_numbers}
 use Rattle.buffers.specs.Over.{over}
-use Rattle.answers.specs.declared.Fields.{Fields}
+use Rattle.answers.specs.declared.List as list
+use Rattle.answers.specs.declared.Unlisted.{Unlisted}
 use Rattle.answers.specs.Twelve.{fields_says}
 use Rattle.listing.specs.declared.rows.Part.{Part}
 
@@ -17,6 +18,6 @@ pub record Filled (look : Naming) (s rows rows' : List ℕ) (r : Part) : Type 0 
   pub to : r.to ≡ reached (length s) (cut s).ending
 
 -- a call of the definition: what is answered, and the row buffer afterwards
-pub record CallIs (call : FieldsCall) (rows' : List ℕ) (r : Fields) : Type 0 where
+pub record CallIs (call : FieldsCall) (rows' : List ℕ) (r : Result list.List Unlisted) : Type 0 where
   pub answer : fields_says r ≡ fields_numbers call.listed
   pub rows : rows' ≡ call.rows

@@ -1,8 +1,8 @@
 -- Rows with those of their sources, as they are counted.
-use Rattle.std.specs.Prelude.{ℕ, suc, ◌+◌, ◌*◌, ◌≤◌, ◌<◌, ◌≡◌, List, length, take, drop}
+use Rattle.std.specs.Prelude.{ℕ, suc, ◌*◌, ◌≤◌, ◌≡◌, List, length, take, drop}
 use Rattle.definition.specs.Escapes.{Naming}
 use Rattle.definition.specs.Entry as d
-use Rattle.definition_scripts.specs.Listing.{ListRow, read_rows, refusals_in}
+use Rattle.definition_scripts.specs.Listing.{ListRow, refusals_in}
 use Rattle.definition_scripts_laws.proofs.Cut.PartLaws.{InPart}
 use Rattle.definition_scripts_laws.proofs.Listing.SourceLaws.{AllFit}
 use Rattle.definition_scripts_laws.proofs.Listing.RowCount.{count_rows}

@@ -1,17 +1,19 @@
 // The rows of a cut and of a row's source, written behind those before as long as there is room.
 ghost use Rattle.std.specs.Prelude.{◌≡◌, ◌+◌, ◌*◌, ◌≤◌, length};
 ghost use Rattle.definition_scripts.specs.Listing.{source_rows};
-ghost use Rattle.escapes.specs.Answers.{names_by};
+ghost use Rattle.escapes.specs.Answers.{naming};
 ghost use Rattle.told.specs.Rows.{row_at, field_of};
 ghost use Rattle.alone.specs.Puts.{Puts};
 ghost use Rattle.listing.specs.Put.{PartIs, Lies, Bounded};
 
 use alone::literal_rows;
-use found::{Next, next_literal};
+use found::{Broken, next_literal};
+use names::Names;
+use numbering::Reason;
 use sources::{Field, source_end};
 use told::{Told, put_otherwise, put_refusal};
 
-const REFUSAL: u32 = 5;
+const REFUSAL: u32 = Reason::Refusal as u32;
 
 // How many rows there are after a part was cut, how many literals it has, and how far it was cut.
 #[derive(Clone, Copy)]
@@ -29,32 +31,30 @@ pub(crate) fn cut_rows(
     within: u32,
     rows: &mut [u32],
     count: usize,
-    file: &[u8],
-    index: &[u32],
+    names: &Names,
 ) -> Part
     requires { Bounded s.now from end count }
-    ensures { PartIs (names_by file.now index.now) s.now from end within rows.old rows.new count result }
+    ensures { PartIs (naming names.now) s.now from end within rows.old rows.new count result }
 {
     let mut at = from;
     let mut done = count;
     let mut literals: u32 = 0;
+    // A step is a literal of the cut, found from the end of the one before.
     loop {
         match next_literal(&s[..end], at) {
-            Next::TooLong => {
+            Ok(Some(l)) => {
+                done = literal_rows(s, l, within, rows, done as u32, names);
+                literals += 1;
+                at = l.end as usize;
+            }
+            Ok(None) => {
                 return Part {
                     count: done,
                     literals,
                     to: end as u32,
                 };
             }
-            Next::End => {
-                return Part {
-                    count: done,
-                    literals,
-                    to: end as u32,
-                };
-            }
-            Next::Broken(r) => {
+            Err(Broken::Literal(r)) => {
                 let told = Told {
                     start: r.place,
                     place: r.place,
@@ -70,10 +70,12 @@ pub(crate) fn cut_rows(
                     to: r.place,
                 };
             }
-            Next::Literal(l) => {
-                done = literal_rows(s, l, within, rows, done as u32, file, index);
-                literals += 1;
-                at = l.end as usize;
+            Err(Broken::TooLong) => {
+                return Part {
+                    count: done,
+                    literals,
+                    to: end as u32,
+                };
             }
         }
     }
@@ -101,11 +103,10 @@ pub(crate) fn source_rows(
     rows: &mut [u32],
     i: usize,
     count: usize,
-    file: &[u8],
-    index: &[u32],
+    names: &Names,
 ) -> usize
     requires { Lies s.now rows.old i count }
-    ensures { Puts (source_rows (names_by file.now index.now) s.now (i + 1) (row_at rows.old i)) rows.old rows.new count result }
+    ensures { Puts (source_rows (naming names.now) s.now (i + 1) (row_at rows.old i)) rows.old rows.new count result }
 {
     let at = i * 10;
     if rows[at] == REFUSAL {
@@ -121,8 +122,7 @@ pub(crate) fn source_rows(
         within,
         rows,
         behind,
-        file,
-        index,
+        names,
     );
     part.count
 }

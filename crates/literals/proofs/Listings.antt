@@ -1,15 +1,16 @@
 -- The list as it is written, and what a call answers. Assumes nothing.
 use mathlib.Core.Path.{◌≡◌, refl, sym, subst, ◌∙◌, ap}
 use mathlib.Core.List.{List, [], ◌∷◌, ◌++◌, append-nil}
-use Prim.Native.Nat.{ℕ, suc, ◌+◌, ◌*◌, ◌≤◌, ◌<◌}
+use Prim.Native.Nat.{ℕ, ◌+◌, ◌*◌, ◌≤◌, ◌<◌}
 use native.Mathlib.Omega.{arith}
-use borrow.Author.Tests.{lt-ltb, le-ltb}
+use Rattle.std.specs.Prelude.{Bool, true, false, ltb, Result, Ok, Err, is_err}
+use borrow.Author.Tests.{lt-ltb, le-ltb, ltb-true, ltb-false}
 use lib.ListN.{length, replicate, length-append}
 use Rattle.definition.specs.Entry.{Literal, refusal}
 use Rattle.definition.specs.Entry as d
 use Rattle.definition.specs.Reading.{Outcome, accepts, refuses, last_end, zeros}
 use Rattle.definition_scripts.specs.Opening.{no_kind, opens}
-use Rattle.definition_scripts.specs.Literals.{literal_at, passed, Run, run, literals_from, flat, Listing, refused, fitting, listed, list_after, list_into, literals_into, list_numbers}
+use Rattle.definition_scripts.specs.Literals.{literal_at, passed, Run, run, flat, Listing, refused, fitting, listed, list_after, list_into, list_numbers}
 use Rattle.definition_scripts.specs.IsCut.{Ending, reaches_end, breaks_off}
 use Rattle.definition_scripts.specs.Cut.{cut, cut_from, first_cut}
 use Rattle.definition_scripts.specs.Listing.{reached}
@@ -27,23 +28,11 @@ use Rattle.buffers.specs.Over.{over}
 use Rattle.buffers.proofs.Over.{over_nil, over_append, length_over, over_front}
 use Rattle.literals.specs.declared.Listed as code
 use Rattle.found.specs.declared.Refusal as code-refusal
-use Rattle.found.specs.Found.{refusal_of}
-use Rattle.literals.specs.declared.Listing as code-listing
-use Rattle.literals.specs.declared.Listing.TheVariants.{Lists, Refused, Short}
-use Rattle.literals.specs.Answers.{Wrote, CallIs}
-
--- six numbers, written one by one
-pub six_over : (l : List ℕ) (p a b c d e f : ℕ)
-    → over (over (over (over (over (over l p (a ∷ [])) (p + 1) (b ∷ [])) (p + 2) (c ∷ [])) (p + 3) (d ∷ [])) (p + 4) (e ∷ [])) (p + 5) (f ∷ [])
-    ≡ over l p (a ∷ b ∷ c ∷ d ∷ e ∷ f ∷ [])
-unfolding over
-six_over l p a b c d e f =
-    let i1 : p + 1 ≡ suc p = omega arith in
-    let i2 : p + 2 ≡ suc (suc p) = omega arith in
-    let i3 : p + 3 ≡ suc (suc (suc p)) = omega arith in
-    let i4 : p + 4 ≡ suc (suc (suc (suc p))) = omega arith in
-    let i5 : p + 5 ≡ suc (suc (suc (suc (suc p)))) = omega arith in
-    rw (i1, i2, i3, i4, i5)
+use Rattle.found.specs.declared.Broken.{Broken}
+use Rattle.found.specs.declared.Broken.TheVariants as broken
+use Rattle.found.specs.Found.{refusal_of, refused_by, HereIs}
+use Rattle.literals.specs.declared.Unlisted.TheVariants.{Refused, Short}
+use Rattle.literals.specs.Answers.{Wrote, RanIs, fitted, CallIs}
 
 flat_append : (ls ms : List Literal) → flat (ls ++ ms) ≡ flat ls ++ flat ms
 unfolding flat
@@ -129,6 +118,11 @@ module _ (s : List ℕ) (from : ℕ) (buffer buffer' : List ℕ) (count end at :
             },
           )
 
+  -- at what breaks
+  pub running_broken : (e : Broken) → HereIs s at (Err e) → (room : ℕ) → listed room (run s from) ≡ refused (refusal_of (refused_by e))
+  running_broken (broken.Literal r) h = running_refuses (opens s at) refl h.1 (refusal_of r) h.2
+  running_broken broken.TooLong h = absurd (omega arith)
+
 -- THE LOOP over a whole cut
 pub record Cutting (s buffer buffer' : List ℕ) (count at : ℕ) : Type 0 where
   pub literals : List Literal
@@ -179,13 +173,13 @@ module _ (in_room : ℕ → Listing) (buffer buffer' : List ℕ) (x : code.Liste
   is_needed : x.count * 6 ≡ 6 * length w.literals
   is_needed = omega (arith, w.counted)
 
-  pub ends_short : (left : List ℕ) → left ≡ zeros buffer' → length buffer' < x.count * 6 → CallIs (list_into (in_room (length buffer)) buffer) left (Short (x.count * 6))
+  pub ends_short : (left : List ℕ) → left ≡ zeros buffer' → length buffer' < x.count * 6 → CallIs (list_into (in_room (length buffer)) buffer) left (Err (Short (x.count * 6)))
   unfolding fitting list_into list_after list_numbers
   ends_short left e h =
       rw (w.tells (length buffer), lt-ltb (length buffer) (6 * length w.literals) (omega (arith, same_length, is_needed)), is_needed)
       (record { answer = refl; left = e ∙ rw same_length })
 
-  pub ends_listed : x.count * 6 ≤ length buffer' → CallIs (list_into (in_room (length buffer)) buffer) buffer' (Lists x)
+  pub ends_listed : x.count * 6 ≤ length buffer' → CallIs (list_into (in_room (length buffer)) buffer) buffer' (Ok x)
   unfolding fitting list_into list_after list_numbers
   ends_listed h =
       rw (w.tells (length buffer), le-ltb (length buffer) (6 * length w.literals) (omega (arith, same_length, is_needed)))
@@ -194,21 +188,19 @@ module _ (in_room : ℕ → Listing) (buffer buffer' : List ℕ) (x : code.Liste
         left = w.wrote ∙ over_front buffer (flat w.literals) (omega (arith, same_length, is_needed, flat_length w.literals));
       })
 
--- A CALL that refuses, and one that goes on
-pub ends_refused : (l : Listing) (buffer left : List ℕ) (r : code-refusal.Refusal) (x : code-listing.Listing) (n : ℕ) → l ≡ refused (refusal_of r) → x ≡ Refused r → n ≡ length buffer → left ≡ replicate n 0
-    → CallIs (list_into l buffer) left x
-unfolding list_into list_after list_numbers refusal
-ends_refused l buffer left r x n e f h z = rw (e, f) (record { answer = refl; left = z ∙ rw h })
-
 pub opens_there : (s : List ℕ) (i kind : ℕ) → kind ≡ opens s i → kind < no_kind → (opens s i ≤ 6) × (i < length s)
 opens_there s i kind e h = let k : opens s i ≤ 6 = omega arith in (k, opens_in s i k)
 
-module _ (script : List ℕ) (offset : ℕ) (buffer left : List ℕ) where
-  pub call_refused : (r : code-refusal.Refusal) (x : code-listing.Listing) (n : ℕ) → literals_from script offset ≡ refuses (refusal_of r) → x ≡ Refused r → n ≡ length buffer → left ≡ replicate n 0
-      → CallIs (literals_into script offset buffer) left x
-  unfolding literals_into listed
-  call_refused r x n e f l z = ends_refused (listed (length buffer) (literals_from script offset)) buffer left r x n (ap (listed (length buffer)) e) f l z
+-- A CALL that refuses, and one whose list was written
+ends_refused : (l : Listing) (buffer left : List ℕ) (r : code-refusal.Refusal) → l ≡ refused (refusal_of r) → left ≡ zeros buffer → CallIs (list_into l buffer) left (Err (Refused r))
+unfolding list_into list_after list_numbers refusal
+ends_refused l buffer left r e z = rw e (record { answer = refl; left = z })
 
-  pub ends_run : (x : code-listing.Listing) → literals_from script offset ≡ run script offset → CallIs (list_into (listed (length buffer) (run script offset)) buffer) left x → CallIs (literals_into script offset buffer) left x
-  unfolding literals_into
-  ends_run x e c = rw e c
+pub finished : (in_room : ℕ → Listing) (buffer buffer' left : List ℕ) (r : Result code.Listed code-refusal.Refusal) → length buffer' ≡ length buffer → RanIs in_room buffer buffer' r
+    → (is_err (fitted (length buffer') r) ≡ true → left ≡ zeros buffer') → (is_err (fitted (length buffer') r) ≡ false → left ≡ buffer') → CallIs (list_into (in_room (length buffer)) buffer) left (fitted (length buffer') r)
+finished in_room buffer buffer' left (Err r) h p t f = ends_refused (in_room (length buffer)) buffer left r (p (length buffer)) (t refl ∙ ap (λ n. replicate n 0) h)
+finished in_room buffer buffer' left (Ok x) h w t f = go (ltb (length buffer') (x.count * 6)) refl
+  where
+    go : (b : Bool) → ltb (length buffer') (x.count * 6) ≡ b → CallIs (list_into (in_room (length buffer)) buffer) left (fitted (length buffer') (Ok x))
+    go true e = let g = rw e at t in rw e (ends_short in_room buffer buffer' x w left (g refl) (ltb-true _ _ e))
+    go false e = let g = rw e at f in rw (e, g refl) (ends_listed in_room buffer buffer' x w (ltb-false _ _ e))

@@ -2,17 +2,16 @@
 #![tactic(auto)]
 
 ghost use Rattle.std.specs.Prelude.{◌≡◌, List, ℕ, ◌*◌, ◌≤◌, length};
-ghost use Rattle.definition.specs.Reading.{zeros};
 ghost use Rattle.definition_scripts.specs.Literals as s;
-ghost use Rattle.definition_scripts.specs.Literals.{blank_case, passed, run, listed, list_into, literals_into};
+ghost use Rattle.definition_scripts.specs.Literals.{blank_case, passed, run, listed, list_into, literals_from, literals_into};
 ghost use Rattle.definition_scripts.specs.CutList.{cut_listed, cut_into};
 ghost use Rattle.buffers.specs.Over.{over};
 ghost use Rattle.found.specs.Found.{numbers_of};
-ghost use Rattle.literals.specs.Answers.{blank_of, Wrote, RanIs, Few, CallIs};
+ghost use Rattle.literals.specs.Answers.{blank_of, RanIs, Few, fitted, CallIs};
 
-use found::{Literal, Next, Refusal, literal_here, next_literal};
-use scans::{NO_KIND, line_end, opens};
-use words::byte_at;
+use found::{Broken, Literal, Refusal, literal_here, next_literal};
+use numbering::Number;
+use scans::{line_end, opens};
 
 // Literals that are listed: how many, and two numbers more: of a run the end of the last one and where it stopped, of a cut how far it went and the number it ended with.
 #[derive(Clone, Copy)]
@@ -22,12 +21,21 @@ pub struct Listed {
     pub more: u32,
 }
 
-// What a call gives: literals; why there are none; or how many numbers their list needs that are not lent.
+// Why a call gives no list: a refusal, or how many numbers the list needs that are not lent.
 #[derive(Clone, Copy)]
-pub enum Listing {
-    Lists(Listed),
+pub enum Unlisted {
     Refused(Refusal),
     Short(u32),
+}
+
+impl From<Refusal> for Unlisted {
+    ghost use Rattle.literals.specs.declared.Unlisted.{Unlisted};
+
+    ghost from_gives = { λ r e. e ≡ Unlisted.Refused r };
+
+    fn from(r: Refusal) -> Unlisted {
+        Unlisted::Refused(r)
+    }
 }
 
 // What stands between literals at an index: a space, tab or newline; a comment; or something else.
@@ -38,29 +46,17 @@ pub(crate) enum BlankCase {
     Other,
 }
 
-// Literals whose list is written as far as there is room, or the first refusal.
-#[derive(Clone, Copy)]
-pub(crate) enum Ran {
-    Done(Listed),
-    Refused(Refusal),
-}
-
-const SCRIPT_TOO_LONG: u32 = 49;
-
-const NO_LITERAL: u32 = 52;
-
 // A script has at most so many bytes.
-const MOST_BYTES: usize = 1048576;
+const MOST_BYTES: usize = found::MOST_BYTES;
 
 // What stands between literals at an index.
+#[tactic(auto, unfolding(definition_scripts::specs::Literals::blank_case))]
 fn blank_case(s: &[u8], at: usize) -> BlankCase
     ensures { blank_of result ≡ blank_case s.now at }
 {
-    match byte_at(s, at) {
-        32 => BlankCase::Space,
-        9 => BlankCase::Space,
-        10 => BlankCase::Space,
-        35 => BlankCase::Comment,
+    match s.get(at) {
+        Some(b' ' | b'\t' | b'\n') => BlankCase::Space,
+        Some(b'#') => BlankCase::Comment,
         _ => BlankCase::Other,
     }
 }
@@ -71,17 +67,12 @@ fn passed(s: &[u8], from: usize) -> usize
     ensures { result ≡ passed s.now from }
 {
     let mut at = from;
+    // A step is a blank or a whole comment.
     loop {
         match blank_case(s, at) {
-            BlankCase::Space => {
-                at += 1;
-            }
-            BlankCase::Comment => {
-                at = line_end(s, at);
-            }
-            BlankCase::Other => {
-                return at;
-            }
+            BlankCase::Space => at += 1,
+            BlankCase::Comment => at = line_end(s, at),
+            BlankCase::Other => return at,
         }
     }
 }
@@ -90,149 +81,126 @@ fn passed(s: &[u8], from: usize) -> usize
 fn put_literal(numbers: &mut [u32], count: u32, l: Literal)
     ensures { numbers.new ≡ over numbers.old (count * 6) (numbers_of l) }
 {
-    let at = count as usize * 6;
-    buffers::put_word(numbers, at, l.kind);
-    buffers::put_word(numbers, at + 1, l.triple);
-    buffers::put_word(numbers, at + 2, l.offset);
-    buffers::put_word(numbers, at + 3, l.size);
-    buffers::put_word(numbers, at + 4, l.start);
-    buffers::put_word(numbers, at + 5, l.end);
+    let six = [l.kind, l.triple, l.offset, l.size, l.start, l.end];
+    buffers::put_group(numbers, count as usize, six);
 }
 
 // The run from an index on, its list written as far as there is room.
-fn list_run(s: &[u8], from: usize, numbers: &mut [u32]) -> Ran
+fn list_run(s: &[u8], from: usize, numbers: &mut [u32]) -> Result<Listed, Refusal>
     requires { (length s.now ≤ 1048576) × (from ≤ length s.now) }
     ensures { (Few result) × RanIs (λ room. listed room (run s.now from)) numbers.old numbers.new result }
 {
     let mut count: u32 = 0;
     let mut end: u32 = 0;
     let mut at = from;
-    loop {
-        match literal_here(s, at) {
-            Next::TooLong => {
-                return Ran::Refused(Refusal {
-                    number: SCRIPT_TOO_LONG,
-                    place: 0,
-                });
-            }
-            Next::Broken(r) => {
-                return Ran::Refused(r);
-            }
-            Next::End => {
-                return Ran::Done(Listed {
-                    count,
-                    to: end,
-                    more: at as u32,
-                });
-            }
-            Next::Literal(l) => {
-                put_literal(numbers, count, l);
-                count += 1;
-                end = l.end;
-                at = passed(s, l.end as usize);
-            }
-        }
+    // A step is a literal.
+    while let Some(l) = literal_here(s, at)? {
+        put_literal(numbers, count, l);
+        count += 1;
+        end = l.end;
+        at = passed(s, l.end as usize);
+    }
+    Ok(Listed {
+        count,
+        to: end,
+        more: at as u32,
+    })
+}
+
+// The run from an offset on, if a literal opens there.
+fn list_from(script: &[u8], offset: u32, numbers: &mut [u32]) -> Result<Listed, Refusal>
+    ensures { (Few result) × RanIs (λ room. listed room (literals_from script.now offset)) numbers.old numbers.new result }
+{
+    if MOST_BYTES < script.len() {
+        return Err(Refusal {
+            number: Number::ScriptTooLong as u32,
+            place: 0,
+        });
+    }
+    let from = offset as usize;
+    match opens(script, from) {
+        Some(_) => list_run(script, from, numbers),
+        None => Err(Refusal {
+            number: Number::NoLiteral as u32,
+            place: offset,
+        }),
     }
 }
 
-// A refusal: the list buffer is filled with zeros.
-fn refuse(numbers: &mut [u32], r: Refusal) -> Listing
-    ensures { (result ≡ Listing.Refused r) × (numbers.new ≡ zeros numbers.old) }
+// The literals of a list that was written, if there is room for it.
+fn fit(room: usize, r: Result<Listed, Refusal>) -> Result<Listed, Unlisted>
+    requires { Few r }
+    ensures { result ≡ fitted room r }
 {
-    buffers::fill_words(numbers, 0);
-    Listing::Refused(r)
-}
-
-// The literals whose list was written, if the buffer has room for it.
-fn fit(numbers: &mut [u32], x: Listed) -> Listing
-    requires { x.count ≤ 1048576 }
-    ensures { (in_room : ℕ → s.Listing) (buffer : List ℕ) → Wrote in_room buffer numbers.old x → CallIs (list_into (in_room (length buffer)) buffer) numbers.new result }
-{
+    let x = r?;
     let needed = x.count * 6;
-    if numbers.len() < needed as usize {
-        buffers::fill_words(numbers, 0);
-        return Listing::Short(needed);
+    if room < needed as usize {
+        Err(Unlisted::Short(needed))
+    } else {
+        Ok(x)
     }
-    Listing::Lists(x)
 }
 
-// What a call gives whose list was written as far as there is room.
-fn finish(numbers: &mut [u32], r: Ran) -> Listing
+// What a call gives whose list was written as far as there is room: the buffer is filled with zeros where it gives none.
+fn finish(numbers: &mut [u32], r: Result<Listed, Refusal>) -> Result<Listed, Unlisted>
     requires { Few r }
     ensures { (in_room : ℕ → s.Listing) (buffer : List ℕ) → length numbers.old ≡ length buffer → RanIs in_room buffer numbers.old r → CallIs (list_into (in_room (length buffer)) buffer) numbers.new result }
 {
-    match r {
-        Ran::Refused(why) => refuse(numbers, why),
-        Ran::Done(x) => fit(numbers, x),
+    let given = fit(numbers.len(), r);
+    if given.is_err() {
+        buffers::fill(numbers, 0);
     }
+    given
 }
 
 // Lists the adjacent literals of a script from an offset on, six numbers for each.
-pub fn list_literals(script: &[u8], offset: u32, numbers: &mut [u32]) -> Listing
+pub fn list_literals(script: &[u8], offset: u32, numbers: &mut [u32]) -> Result<Listed, Unlisted>
     ensures { CallIs (literals_into script.now offset numbers.old) numbers.new result }
 {
-    if MOST_BYTES < script.len() {
-        return refuse(
-            numbers,
-            Refusal {
-                number: SCRIPT_TOO_LONG,
-                place: 0,
-            },
-        );
-    }
-    let from = offset as usize;
-    if NO_KIND <= opens(script, from) {
-        return refuse(
-            numbers,
-            Refusal {
-                number: NO_LITERAL,
-                place: offset,
-            },
-        );
-    }
-    let r = list_run(script, from, numbers);
+    let r = list_from(script, offset, numbers);
     finish(numbers, r)
 }
 
 // The cut of a script, its list written as far as there is room.
-fn cut_all(s: &[u8], numbers: &mut [u32]) -> Ran
+fn cut_all(s: &[u8], numbers: &mut [u32]) -> Result<Listed, Refusal>
     ensures { (Few result) × RanIs (cut_listed s.now) numbers.old numbers.new result }
 {
     let mut count: u32 = 0;
     let mut at = 0;
+    // A step is a literal of the cut, found from the end of the one before.
     loop {
         match next_literal(s, at) {
-            Next::TooLong => {
-                return Ran::Refused(Refusal {
-                    number: SCRIPT_TOO_LONG,
-                    place: 0,
-                });
+            Ok(Some(found)) => {
+                put_literal(numbers, count, found);
+                count += 1;
+                at = found.end as usize;
             }
-            Next::Broken(r) => {
-                return Ran::Done(Listed {
-                    count,
-                    to: r.place,
-                    more: r.number,
-                });
-            }
-            Next::End => {
-                return Ran::Done(Listed {
+            Ok(None) => {
+                return Ok(Listed {
                     count,
                     to: s.len() as u32,
                     more: 0,
                 });
             }
-            Next::Literal(found) => {
-                put_literal(numbers, count, found);
-                count += 1;
-                at = found.end as usize;
+            Err(Broken::Literal(r)) => {
+                return Ok(Listed {
+                    count,
+                    to: r.place,
+                    more: r.number,
+                });
+            }
+            Err(Broken::TooLong) => {
+                return Err(Refusal {
+                    number: Number::ScriptTooLong as u32,
+                    place: 0,
+                });
             }
         }
     }
 }
 
 // Lists every literal of a script, six numbers for each.
-pub fn list_cut(script: &[u8], numbers: &mut [u32]) -> Listing
+pub fn list_cut(script: &[u8], numbers: &mut [u32]) -> Result<Listed, Unlisted>
     ensures { CallIs (cut_into script.now numbers.old) numbers.new result }
 {
     let r = cut_all(script, numbers);

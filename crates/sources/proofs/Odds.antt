@@ -1,16 +1,16 @@
 -- Where Python reads a source otherwise, as the code goes over it. Assumes nothing.
-use Rattle.std.specs.Prelude.{if◌then◌else◌}
+use Rattle.std.specs.Prelude.{if◌then◌else◌, min, leb}
 use mathlib.Core.Path.{◌≡◌, refl, sym, subst, ◌∙◌, ap, ap₂}
-use mathlib.Core.Bool.{Bool, true, false, ◌&&◌, not}
-use mathlib.Core.List.{List, [], ◌∷◌}
+use mathlib.Core.Bool.{Bool, true, false, not}
+use mathlib.Core.List.{List, []}
 use Prim.Native.Nat.{ℕ, ◌+◌, ◌-◌, ◌≤◌, ◌<◌}
 use native.Mathlib.Omega.{arith}
-use borrow.Author.Tests.{lt-ltb, le-ltb, ltb-true, eq-eqb, ne_eqb}
+use borrow.Author.Tests.{lt-ltb, le-ltb, ltb-true, leb-true, leb-false, eq-eqb, ne_eqb}
 use lib.Dec.{ltb, eqb}
 use lib.ListN.{length, get_or, take, length-take, get_or-eq_default}
 use Rattle.definition.specs.Chars.{◌is◌, byte}
 use Rattle.definition_scripts.specs.Opening.{opens, is_sign, first_at}
-use Rattle.definition_scripts.specs.IsRun.{body_end, IsLiteral}
+use Rattle.definition_scripts.specs.IsRun.{IsLiteral}
 use Rattle.definition_scripts.specs.IsCut.{reaches_end, breaks_off, Begins, IsCut}
 use Rattle.definition_scripts.specs.Cut.{Cut, first_cut, cut_from, cut_part}
 use Rattle.definition_scripts.specs.Listing.{reached, source_end, first_in, quoted_inside, first_odd, more_after, spec_backslash, least, otherwise}
@@ -19,7 +19,6 @@ use Rattle.definition_scripts_laws.proofs.Literals.OpeningLaws.{opens_in}
 use Rattle.definition_scripts_laws.proofs.Literals.LiteralFound.{literal_lies}
 use Rattle.definition_scripts_laws.proofs.Cut.CutLaws.{cut_is}
 use Rattle.found.specs.declared.Literal.{Literal}
-use Rattle.found.specs.declared.Refusal.{Refusal}
 use Rattle.found.specs.Found.{literal_of}
 use Rattle.sources.specs.declared.Field.{Field}
 use Rattle.sources.specs.Source.{capped, Inside, odd_from, odd_of, signs_of, row_of, Source, otherwise_of}
@@ -37,12 +36,11 @@ module _ (test : ℕ → Bool) (s : List ℕ) (from end i : ℕ) (p : Scanning t
   pub scan_next : i < end → end ≤ length s → test (get_or s i 0) ≡ false → Scanning test s from end (i + 1)
   scan_next h l t = record { within = omega arith; same = p.same ∙ before_next test s i 0 (omega arith) t }
 
-  pub scan_end : end ≤ i → i ≡ capped test s from end
+  pub scan_end : end ≤ i → end ≡ capped test s from end
   scan_end h =
       let w = p.within in
       let e = p.same in
-      let k : i ≡ end = omega arith in
-      k ∙ sym (rw (le-ltb (first_at test s from) end (omega arith)))
+      sym (rw (le-ltb (first_at test s from) end (omega arith)))
 
 -- a literal with its own quote inside
 module _ (s : List ℕ) (l : Literal) (p : Inside s l) where
@@ -187,6 +185,10 @@ module _ (s : List ℕ) (f : Field) where
       pub spec_there : i < length s → get_or s i 0 ≡ 92 → Spec i
       unfolding spec_backslash
       spec_there h n = rw (ne_eqb f.colon 0 z, ← k, one, ← g, ← byte_is s i h, eq-eqb (get_or s i 0) 92 n)
+
+-- the lesser of two
+pub min_is : (a b : ℕ) → min a b ≡ least a b
+min_is a b = cases (leb a b) (λ t. let h = leb-true a b t in rw t (omega arith)) (λ t. let h = leb-false a b t in rw t (omega arith))
 
 -- THE FIRST OF ALL
 pub otherwise_is : (s : List ℕ) (f : Field) (end odd back escaped more spec later first r : ℕ) → end ≡ source_end (signs_of f) → odd ≡ odd_of s f.place end

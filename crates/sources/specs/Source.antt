@@ -1,5 +1,5 @@
 -- A field's source, and where Python reads it otherwise, as the code finds it.
-use Rattle.std.specs.Prelude.{ℕ, ◌+◌, ◌≤◌, ◌<◌, Bool, ◌||◌, List, ltb, length, take, if◌then◌else◌}
+use Rattle.std.specs.Prelude.{ℕ, ◌+◌, ◌≤◌, Bool, ◌||◌, List, ltb, length, take, if◌then◌else◌}
 use Rattle.definition_scripts.specs.Opening.{first_at}
 use Rattle.definition_scripts.specs.Cut.{Cut, cut_from, cut_part}
 use Rattle.definition_scripts.specs.Listing.{reached, source_end, first_odd, otherwise}

@@ -4,11 +4,11 @@
 ghost use Rattle.std.specs.Prelude.{◌≡◌, not, ◌≤◌, eqb, ltb, length, if◌then◌else◌};
 ghost use Rattle.definition.specs.Chars.{◌is◌};
 ghost use Rattle.definition_scripts.specs.Cut.{cut_part};
-ghost use Rattle.definition_scripts.specs.Listing.{source_end, quoted_inside, more_after, spec_backslash, least, otherwise};
+ghost use Rattle.definition_scripts.specs.Listing.{source_end, quoted_inside, more_after, spec_backslash, otherwise};
 ghost use Rattle.found.specs.Found.{literal_of};
 ghost use Rattle.sources.specs.Source.{capped, Inside, odd_of, signs_of, row_of, Source, otherwise_of};
 
-use found::{Literal, Next, next_literal};
+use found::{Broken, Literal, MOST_BYTES, next_literal};
 use scans::opens;
 use searches::first_of;
 
@@ -28,29 +28,26 @@ fn byte_in(s: &[u8], from: usize, end: usize, b: u8) -> usize
     requires { (from ≤ end) × (end ≤ length s.now) }
     ensures { result ≡ capped (λ x. eqb x b) s.now from end }
 {
-    let mut i = from;
-    while i < end {
+    for i in from..end {
         if s[i] == b {
             return i;
         }
-        i += 1;
     }
-    i
+    end
 }
 
 // The first place of anything but a space from one index up to another, or the other.
+// Not one function with `byte_in` over a closure: its contract would be longer than both bodies.
 fn text_in(s: &[u8], from: usize, end: usize) -> usize
     requires { (from ≤ end) × (end ≤ length s.now) }
     ensures { result ≡ capped (λ x. not (x is " ")) s.now from end }
 {
-    let mut i = from;
-    while i < end {
+    for i in from..end {
         if s[i] != b' ' {
             return i;
         }
-        i += 1;
     }
-    i
+    end
 }
 
 // Whether a triple-quoted literal has its own quote inside.
@@ -58,23 +55,16 @@ fn quoted_inside(s: &[u8], l: Literal) -> bool
     requires { Inside s.now l }
     ensures { result ≡ quoted_inside s.now (literal_of l) }
 {
-    if l.triple != 1 {
-        return false;
-    }
     let from = l.offset as usize;
     let end = from + l.size as usize;
-    let last = l.end as usize - 1;
-    byte_in(s, from, end, s[last]) < end
+    l.triple == 1 && byte_in(s, from, end, s[l.end as usize - 1]) < end
 }
 
-// A place that was found before an end, or the script's length.
+// A place that was found before an end, or the script's length: a number and no Option, as the definition and the promise of `otherwise` have it.
 fn found_in(s: &[u8], k: usize, end: usize) -> usize
     ensures { result ≡ (if ltb k end then k else length s.now) }
 {
-    if k < end {
-        return k;
-    }
-    s.len()
+    if k < end { k } else { s.len() }
 }
 
 // The first `#` between the literals of a source, or the start of the first triple-quoted one that has its own quote inside.
@@ -83,19 +73,10 @@ fn odd_in(s: &[u8], from: usize, end: usize) -> usize
     ensures { result ≡ odd_of s.now from end }
 {
     let mut at = from;
+    // A step is a literal of the cut.
     loop {
         match next_literal(&s[..end], at) {
-            Next::TooLong => {
-                return at;
-            }
-            Next::End => {
-                return found_in(s, byte_in(s, at, end, b'#'), end);
-            }
-            Next::Broken(r) => {
-                let stop = r.place as usize;
-                return found_in(s, byte_in(s, at, stop, b'#'), stop);
-            }
-            Next::Literal(l) => {
+            Ok(Some(l)) => {
                 let start = l.start as usize;
                 let sign = byte_in(s, at, start, b'#');
                 if sign < start {
@@ -106,24 +87,28 @@ fn odd_in(s: &[u8], from: usize, end: usize) -> usize
                 }
                 at = l.end as usize;
             }
+            Ok(None) => return found_in(s, byte_in(s, at, end, b'#'), end),
+            Err(Broken::Literal(r)) => {
+                let stop = r.place as usize;
+                return found_in(s, byte_in(s, at, stop, b'#'), stop);
+            }
+            Err(Broken::TooLong) => return at,
         }
     }
 }
 
 // Where a field's source ends: at its first `!`, `:` or `}`.
+#[tactic(auto, unfolding(definition_scripts::specs::Listing::source_end))]
 pub fn source_end(f: Field) -> usize
     ensures { result ≡ source_end (signs_of f) }
 {
     if f.bang != 0 {
-        return f.bang as usize - 1;
+        f.bang as usize - 1
+    } else if f.colon != 0 {
+        f.colon as usize - 1
+    } else {
+        (f.close as usize).saturating_sub(1)
     }
-    if f.colon != 0 {
-        return f.colon as usize - 1;
-    }
-    if f.close == 0 {
-        return 0;
-    }
-    f.close as usize - 1
 }
 
 // Just after a field's first self-documenting `=`, if anything but spaces follows up to the end of its source; else the script's length.
@@ -151,27 +136,14 @@ fn spec_backslash(s: &[u8], f: Field) -> usize
     if f.colon == 0 {
         return s.len();
     }
-    if opens(s, f.start as usize) != 1 {
+    let Some(1) = opens(s, f.start as usize) else {
         return s.len();
-    }
+    };
     let i = first_of(s, f.colon as usize, b'{', b'}', b'\\');
-    if s.len() <= i {
-        return s.len();
+    match s.get(i) {
+        Some(b'\\') => i,
+        _ => s.len(),
     }
-    if s[i] != b'\\' {
-        return s.len();
-    }
-    i
-}
-
-// The lesser of two.
-pub fn lesser(a: usize, b: usize) -> usize
-    ensures { result ≡ least a b }
-{
-    if a <= b {
-        return a;
-    }
-    b
 }
 
 // The first place where Python reads a source that lies in the script, or its spec, otherwise; or the script's length.
@@ -186,9 +158,9 @@ fn first_otherwise(s: &[u8], f: Field) -> usize
     let escaped = found_in(s, back, end);
     let more = more_after(s, f, end);
     let spec = spec_backslash(s, f);
-    let later = lesser(more, spec);
-    let first = lesser(escaped, later);
-    lesser(odd, first)
+    let later = more.min(spec);
+    let first = escaped.min(later);
+    odd.min(first)
 }
 
 // The first place where Python reads a field's source or spec otherwise. The script's length for none, and where the source does not lie in the script or the script is too long.
@@ -202,7 +174,7 @@ pub fn otherwise(s: &[u8], f: Field) -> usize
     if s.len() < end {
         return s.len();
     }
-    if 1048576 < s.len() {
+    if MOST_BYTES < s.len() {
         return s.len();
     }
     first_otherwise(s, f)

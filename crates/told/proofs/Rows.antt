@@ -20,7 +20,7 @@ use Rattle.definition_scripts_laws.proofs.Listing.ListingSteps.{ten}
 use Rattle.buffers.specs.Over.{over}
 use Rattle.buffers.proofs.Over.{over_nil}
 use Rattle.sources.specs.declared.Field.{Field}
-use Rattle.sources.specs.Source.{signs_of, row_of, Source, otherwise_of, is_outside}
+use Rattle.sources.specs.Source.{signs_of, row_of, Source, otherwise_of}
 use Rattle.sources.proofs.Odds.{otherwise_source}
 use Rattle.told.specs.Rows.{Wrote, told_otherwise, row_at, rows_in, refusal}
 
@@ -66,14 +66,6 @@ otherwise_most s w f rows rows' count n p = let e = p.counted in omega (arith, t
 pub otherwise_told : (s : List ℕ) (w : ℕ) (f : Field) → Source s f → told_otherwise s w f ≡ otherwise_row s w (row_of f) (cut_part s f.place (source_end (signs_of f)))
 unfolding told_otherwise otherwise_row
 otherwise_told s w f p = rw (otherwise_source s f p)
-
--- the lesser of two numbers
-pub least_min : (a b : ℕ) → least a b ≡ min a b
-least_min a b = go (leb a b) refl
-  where
-    go : (t : Bool) → leb a b ≡ t → (if t then a else b) ≡ min a b
-    go true e = omega (arith, leb-true a b e)
-    go false e = omega (arith, leb-false a b e)
 
 -- A ROW READ BACK from where it stands
 get_or_behind : (pre xs : List ℕ) (k d : ℕ) → get_or (pre ++ xs) (length pre + k) d ≡ get_or xs k d

@@ -9,12 +9,13 @@ ghost use Rattle.definition_scripts.specs.Listing.{ten_of, refusals_in};
 ghost use Rattle.buffers.specs.Over.{over};
 ghost use Rattle.told.specs.Rows.{refusal_row, rows_in, refusal};
 
+use buffers::put_run;
+use numbering::Reason;
 pub use otherwise::put_otherwise;
 use row_numbers::{Row, put_row};
-use sources::lesser;
 pub use unknown::put_unknown;
 
-const REFUSAL: u32 = 5;
+const REFUSAL: u32 = Reason::Refusal as u32;
 
 // Why a literal or a field is refused, and where.
 #[derive(Clone, Copy)]
@@ -50,15 +51,8 @@ pub fn put_refusal(rows: &mut [u32], count: usize, within: u32, t: Told)
 pub fn put_rows(rows: &mut [u32], count: usize, numbers: &[u32])
     ensures { rows.new ≡ over rows.old (count * 10) numbers.now }
 {
-    if rows.len() / 10 < count {
-        return;
-    }
-    let from = count * 10;
-    let n = lesser(rows.len() - from, numbers.len());
-    let mut i = 0;
-    while i < n {
-        rows[from + i] = numbers[i];
-        i += 1;
+    if count <= rows.len() / 10 {
+        put_run(&mut rows[count * 10..], numbers);
     }
 }
 
@@ -66,23 +60,16 @@ pub fn put_rows(rows: &mut [u32], count: usize, numbers: &[u32])
 fn refusal(first: u32) -> usize
     ensures { (result ≡ refusal first) × (result ≤ 1) }
 {
-    if first == REFUSAL {
-        return 1;
-    }
-    0
+    usize::from(first == REFUSAL)
 }
 
 // How many of the rows in a list are refusals.
 pub fn refusals_in(rows: &[u32]) -> usize
     ensures { result ≡ refusals_in (rows_in rows.now 0 (length rows.now / 10)) }
 {
-    let count = rows.len() / 10;
     let mut n = 0;
-    let mut i = 0;
-    while i < count {
-        let at = i * 10;
-        n += refusal(rows[at]);
-        i += 1;
+    for i in 0..rows.len() / 10 {
+        n += refusal(rows[i * 10]);
     }
     n
 }

@@ -2,9 +2,8 @@
 ghost use Rattle.told.specs.Rows.{Wrote, told_otherwise};
 
 use crate::{Told, put_refusal};
+use numbering::Number;
 use sources::{Field, otherwise};
-
-const READ_OTHERWISE: u32 = 75;
 
 // Writes the row of 75 of a field, if it has one, behind so many rows. Says how many it writes, with room or without.
 pub fn put_otherwise(s: &[u8], f: Field, within: u32, rows: &mut [u32], count: usize) -> usize
@@ -17,7 +16,7 @@ pub fn put_otherwise(s: &[u8], f: Field, within: u32, rows: &mut [u32], count: u
     let told = Told {
         start: f.start,
         place: place as u32,
-        number: READ_OTHERWISE,
+        number: Number::ReadOtherwise as u32,
         a: 0,
         b: 0,
         opened: 0,

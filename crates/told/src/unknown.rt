@@ -7,18 +7,14 @@ ghost use Rattle.told.specs.Rows.{Wrote};
 
 use crate::{Told, put_refusal};
 use found::Literal;
-
-const UNKNOWN_PREFIX: u32 = 76;
+use numbering::Number;
 
 // Whether what ends where a literal starts may stand there, of a word that begins at `word`; where there is none the word is not looked at.
 fn stands(s: &[u8], start: usize, word: usize) -> bool
     requires { word ≡ word_start s.now start }
     ensures { result ≡ may_stand s.now start }
 {
-    if word == start {
-        return true;
-    }
-    words::may_stand(s, start)
+    word == start || words::may_stand(s, start)
 }
 
 // Writes the row of 76 of a literal, if it has one, behind so many rows. Says how many it writes, with room or without.
@@ -33,7 +29,7 @@ pub fn put_unknown(s: &[u8], l: Literal, within: u32, rows: &mut [u32], count: u
     let told = Told {
         start: l.start,
         place: word as u32,
-        number: UNKNOWN_PREFIX,
+        number: Number::UnknownPrefix as u32,
         a: 0,
         b: 0,
         opened: 0,

@@ -8,75 +8,54 @@ ghost use Rattle.definition_scripts.specs.Opening.{is_word, apart};
 ghost use Rattle.definition_scripts.specs.Keywords.{in_word, word_start, keywords, is_one_of, ends_in_keyword, may_stand};
 ghost use Rattle.words.specs.Packed.{packed, bytes, packed_keywords};
 
-// The byte at an index, as a number; 256 past the end.
+// The byte at an index, as a number; 256 past the end, a promise of `byte_at`: it is the definition's `byte`.
 pub fn byte_at(s: &[u8], at: usize) -> u32
     ensures { result ≡ byte s.now at }
 {
-    if at < s.len() {
-        return s[at] as u32;
+    match s.get(at) {
+        Some(b) => u32::from(*b),
+        None => 256,
     }
-    256
-}
-
-// Whether a code lies in a range.
-fn between(c: u32, low: u32, high: u32) -> bool
-    ensures { result ≡ inside (low to high) c }
-{
-    if c < low {
-        return false;
-    }
-    c <= high
 }
 
 // Whether a byte is an ASCII letter, digit or underscore.
-fn is_word(c: u32) -> bool
+fn is_word(c: u8) -> bool
     ensures { result ≡ is_word c }
 {
-    if between(c, 48, 57) {
-        return true;
-    }
-    if between(c, 65, 90) {
-        return true;
-    }
-    if between(c, 97, 122) {
-        return true;
-    }
-    c == 95
+    matches!(c, b'0'..=b'9' | b'A'..=b'Z' | b'a'..=b'z' | b'_')
+}
+
+// Whether one stands at an index.
+fn is_word_at(s: &[u8], at: usize) -> bool
+    ensures { result ≡ is_word (byte s.now at) }
+{
+    s.get(at).is_some_and(|b| is_word(*b))
 }
 
 // Whether none of these stands before an index.
 pub fn apart(s: &[u8], at: usize) -> bool
     ensures { result ≡ apart s.now at }
 {
-    if at == 0 {
-        return true;
-    }
-    !is_word(byte_at(s, at - 1))
+    at == 0 || !is_word_at(s, at - 1)
 }
 
-// Whether a byte stands in words.
-fn in_word(c: u32) -> bool
-    ensures { result ≡ in_word c }
+// Whether a byte that stands in words stands at an index.
+fn in_word_at(s: &[u8], at: usize) -> bool
+    ensures { result ≡ in_word (byte s.now at) }
 {
-    if is_word(c) {
-        return true;
-    }
-    between(c, 128, 255)
+    s.get(at).is_some_and(|b| is_word(*b) || !b.is_ascii())
 }
 
-// Where the word begins that ends before an index; the index, if none does.
+// Where the word begins that ends before an index; the index, if none does: a promise of `word_start`, which the definition has.
 pub fn word_start(s: &[u8], at: usize) -> usize
     ensures { result ≡ word_start s.now at }
 {
-    let mut i = at;
-    while 0 < i {
-        let last = i - 1;
-        if !in_word(byte_at(s, last)) {
-            return i;
+    for i in (0..at).rev() {
+        if !in_word_at(s, i) {
+            return i + 1;
         }
-        i = last;
     }
-    i
+    0
 }
 
 // The bytes from one index up to another, at most six, as one number: the first is the least, and above the last stands 1.
@@ -84,43 +63,41 @@ fn packed(s: &[u8], from: usize, end: usize) -> u64
     requires { (from ≤ end) × (end ≤ from + 6) × (end ≤ length s.now) }
     ensures { (result ≡ packed (part s.now from end)) × (bytes (part s.now from end) ≡ true) }
 {
-    let mut n: u64 = 1;
-    let mut i = end;
-    while from < i {
-        i -= 1;
-        let b = s[i];
-        n = n * 256 + b as u64;
+    let mut n = 1;
+    for i in (from..end).rev() {
+        n = n * 256 + u64::from(s[i]);
     }
     n
 }
 
 // Whether a number is a keyword's that may stand directly before a literal, in the order of the definition.
+// One match over the numbers of all keywords is the plainest.
 fn is_packed(n: u64) -> bool
     ensures { result ≡ n among packed_keywords }
 {
     match n {
-        0x1646E61 => true,
-        0x17361 => true,
-        0x1747265737361 => true,
-        0x17469617761 => true,
-        0x165736163 => true,
-        0x16C6564 => true,
-        0x166696C65 => true,
-        0x165736C65 => true,
-        0x1747065637865 => true,
-        0x1726F66 => true,
-        0x16D6F7266 => true,
-        0x16669 => true,
-        0x16E69 => true,
-        0x17369 => true,
-        0x1686374616D => true,
-        0x1746F6E => true,
-        0x1726F => true,
-        0x16573696172 => true,
-        0x16E7275746572 => true,
-        0x1656C696877 => true,
-        0x168746977 => true,
-        0x1646C656979 => true,
+        0x1646E61
+        | 0x17361
+        | 0x1747265737361
+        | 0x17469617761
+        | 0x165736163
+        | 0x16C6564
+        | 0x166696C65
+        | 0x165736C65
+        | 0x1747065637865
+        | 0x1726F66
+        | 0x16D6F7266
+        | 0x16669
+        | 0x16E69
+        | 0x17369
+        | 0x1686374616D
+        | 0x1746F6E
+        | 0x1726F
+        | 0x16573696172
+        | 0x16E7275746572
+        | 0x1656C696877
+        | 0x168746977
+        | 0x1646C656979 => true,
         _ => false,
     }
 }
@@ -130,10 +107,7 @@ fn is_keyword(s: &[u8], from: usize, end: usize) -> bool
     requires { (from ≤ end) × (end ≤ length s.now) }
     ensures { result ≡ is_one_of (part s.now from end) keywords }
 {
-    if 6 < end - from {
-        return false;
-    }
-    is_packed(packed(s, from, end))
+    end - from <= 6 && is_packed(packed(s, from, end))
 }
 
 // Whether they end in one.
@@ -141,12 +115,10 @@ fn ends_in_keyword(s: &[u8], from: usize, end: usize) -> bool
     requires { (from ≤ end) × (end ≤ length s.now) }
     ensures { result ≡ ends_in_keyword (part s.now from end) }
 {
-    let mut i = from;
-    while i < end {
+    for i in from..end {
         if is_keyword(s, i, end) {
             return true;
         }
-        i += 1;
     }
     false
 }
@@ -156,14 +128,7 @@ pub fn may_stand(s: &[u8], at: usize) -> bool
     ensures { result ≡ may_stand s.now at }
 {
     let from = word_start(s, at);
-    if from == at {
-        return true;
-    }
-    if is_keyword(s, from, at) {
-        return true;
-    }
-    if between(byte_at(s, from), 48, 57) {
-        return ends_in_keyword(s, from + 1, at);
-    }
-    false
+    from == at
+        || is_keyword(s, from, at)
+        || s[from].is_ascii_digit() && ends_in_keyword(s, from + 1, at)
 }

@@ -1,4 +1,3 @@
-use borrow.Author.Rules.{rules}
 use native.Mathlib.Omega.{arith}
 use Prim.Native.Nat.{ℕ}
 use lib.ListN.{length-take, length-replicate}
@@ -9,24 +8,24 @@ pub read_fstring-requires : goal.read_fstring-requires
 read_fstring-requires c = c.requires.0
 
 pub overflow_add-to : goal.overflow_add-to
-overflow_add-to c = let e = rw c.in-Fields.is at c.read_fstring.ensures in let h = e.few in let p = c.requires.1 in omega arith
+overflow_add-to c = let e = c.in-Ok.ensures in let h = e.few in let p = c.requires.1 in omega arith
 
 pub slice_bounds-put_rows-end : goal.slice_bounds-put_rows-end
 slice_bounds-put_rows-end c = rw length-take (omega (arith, c.block-2-1.given))
 
 pub returns-then-n-le8 : goal.returns-then-n-le8
-returns-then-n-le8 c = puts_block _ _ _ _ _ _ _ (length-replicate {A = ℕ} 80 0) (rw c.in-Fields.is at c.read_fstring.ensures) c.if-n-le8.true c.put_rows.ensures
+returns-then-n-le8 c = puts_block _ _ _ _ _ _ _ (length-replicate {A = ℕ} 80 0) c.in-Ok.ensures c.if-n-le8.true c.put_rows.ensures
 
 pub returns-then-rows-to : goal.returns-then-rows-to
-returns-then-rows-to c = let e = rw c.in-Fields.is at c.read_fstring.ensures in (puts_short _ _ _ _ (omega (arith, e.counted)) c.if-rows-to.true, front_none _ _ _)
+returns-then-rows-to c = let e = c.in-Ok.ensures in (puts_short _ _ _ _ (omega (arith, e.counted)) c.if-rows-to.true, front_none _ _ _)
 
-pub read_fstring-requires-in-Fields : goal.read_fstring-requires-in-Fields
-read_fstring-requires-in-Fields c = c.requires.0
+pub read_fstring-requires-in-Ok : goal.read_fstring-requires-in-Ok
+read_fstring-requires-in-Ok c = c.requires.0
 
-pub returns-in-Refused : goal.returns-in-Refused
-returns-in-Refused c =
-    let R = rw c.in-Refused.is at c.read_fstring.ensures in
+pub returns-in-Err : goal.returns-in-Err
+returns-in-Err c =
+    let R = c.in-Err.ensures in
     rw R.0 (puts_one _ _ _ _ c.put_refusal.ensures, front_one _ _ _ _ c.put_refusal.ensures)
 
 pub returns-else-rows-to : goal.returns-else-rows-to
-returns-else-rows-to c = puts_lent _ _ _ _ _ _ _ _ _ c.read_fstring-in-Fields.new.rows c.read_fstring-in-Fields.result (rw c.in-Fields.is at c.read_fstring.ensures) c.if-rows-to.false c.read_fstring-in-Fields.ensures
+returns-else-rows-to c = puts_lent _ _ _ _ _ _ _ _ _ c.read_fstring-in-Ok.new.rows c.read_fstring-in-Ok.result c.in-Ok.ensures c.if-rows-to.false c.read_fstring-in-Ok.ensures

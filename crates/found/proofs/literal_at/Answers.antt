@@ -1,4 +1,3 @@
-use borrow.Author.Rules.{rules}
 use native.Mathlib.Omega.{arith}
 use mathlib.Core.Path.{refl}
 use Rattle.definition_scripts.specs.Literals.{closed_at}
@@ -25,34 +24,34 @@ pub overflow_cast-result : goal.overflow_cast-result
 unfolding closed_at
 overflow_cast-result c = let h = body_in _ _ _ c.requires _ _ _ c.prefix.ensures c.tripled-triple.ensures c.quotes-size.ensures in omega (arith, h, c.requires.not_long_lem)
 
-pub overflow_cast-result-in-Closed : goal.overflow_cast-result-in-Closed
+pub overflow_cast-result-in-Ok : goal.overflow_cast-result-in-Ok
 unfolding closed_at
-overflow_cast-result-in-Closed c = let h = body_in _ _ _ c.requires _ _ _ c.prefix.ensures c.tripled-triple.ensures c.quotes-size.ensures in omega (arith, h, c.requires.not_long_lem)
+overflow_cast-result-in-Ok c = let h = body_in _ _ _ c.requires _ _ _ c.prefix.ensures c.tripled-triple.ensures c.quotes-size.ensures in omega (arith, h, c.requires.not_long_lem)
 
 pub overflow_sub-result : goal.overflow_sub-result
 unfolding closed_at
-overflow_sub-result c = let l = closed_in _ _ _ c.requires _ _ _ c.prefix.ensures c.tripled-triple.ensures c.quotes-size.ensures _ (rw c.in-Closed.is at c.closing_from.ensures) in omega (arith, l.0)
+overflow_sub-result c = let l = closed_in _ _ _ c.requires _ _ _ c.prefix.ensures c.tripled-triple.ensures c.quotes-size.ensures _ c.in-Ok.ensures in omega (arith, l.0)
 
-pub overflow_cast-result-in-Closed-2 : goal.overflow_cast-result-in-Closed-2
+pub overflow_cast-result-in-Ok-2 : goal.overflow_cast-result-in-Ok-2
 unfolding closed_at
-overflow_cast-result-in-Closed-2 c = let l = closed_in _ _ _ c.requires _ _ _ c.prefix.ensures c.tripled-triple.ensures c.quotes-size.ensures _ (rw c.in-Closed.is at c.closing_from.ensures) in omega (arith, l.1, c.requires.not_long_lem)
+overflow_cast-result-in-Ok-2 c = let l = closed_in _ _ _ c.requires _ _ _ c.prefix.ensures c.tripled-triple.ensures c.quotes-size.ensures _ c.in-Ok.ensures in omega (arith, l.1, c.requires.not_long_lem)
 
-pub overflow_cast-result-in-Closed-3 : goal.overflow_cast-result-in-Closed-3
+pub overflow_cast-result-in-Ok-3 : goal.overflow_cast-result-in-Ok-3
 unfolding closed_at
-overflow_cast-result-in-Closed-3 c = omega (arith, starts_in _ _ _ c.requires, c.requires.not_long_lem)
+overflow_cast-result-in-Ok-3 c = omega (arith, starts_in _ _ _ c.requires, c.requires.not_long_lem)
 
-pub overflow_cast-result-in-Closed-4 : goal.overflow_cast-result-in-Closed-4
+pub overflow_cast-result-in-Ok-4 : goal.overflow_cast-result-in-Ok-4
 unfolding closed_at
-overflow_cast-result-in-Closed-4 c = let l = closed_in _ _ _ c.requires _ _ _ c.prefix.ensures c.tripled-triple.ensures c.quotes-size.ensures _ (rw c.in-Closed.is at c.closing_from.ensures) in omega (arith, l.1, c.requires.not_long_lem)
+overflow_cast-result-in-Ok-4 c = let l = closed_in _ _ _ c.requires _ _ _ c.prefix.ensures c.tripled-triple.ensures c.quotes-size.ensures _ c.in-Ok.ensures in omega (arith, l.1, c.requires.not_long_lem)
 
 pub overflow_add-result : goal.overflow_add-result
 unfolding closed_at
-overflow_add-result c = let l = closed_in _ _ _ c.requires _ _ _ c.prefix.ensures c.tripled-triple.ensures c.quotes-size.ensures _ (rw c.in-Closed.is at c.closing_from.ensures) in omega (arith, l.1, c.requires.not_long_lem)
+overflow_add-result c = let l = closed_in _ _ _ c.requires _ _ _ c.prefix.ensures c.tripled-triple.ensures c.quotes-size.ensures _ c.in-Ok.ensures in omega (arith, l.1, c.requires.not_long_lem)
 
-pub returns-in-Fails : goal.returns-in-Fails
+pub returns-in-Err : goal.returns-in-Err
 unfolding closed_at
-returns-in-Fails c = found_is _ _ _ c.requires _ _ _ c.prefix.ensures c.tripled-triple.ensures c.quotes-size.ensures _ (rw c.in-Fails.is at c.closing_from.ensures)
+returns-in-Err c = rw c.from.ensures (found_is _ _ _ c.requires _ _ _ c.prefix.ensures c.tripled-triple.ensures c.quotes-size.ensures _ c.in-Err.ensures)
 
-pub returns-in-Closed : goal.returns-in-Closed
+pub returns-in-Ok : goal.returns-in-Ok
 unfolding closed_at
-returns-in-Closed c = found_closed _ _ _ c.requires _ _ _ c.prefix.ensures c.tripled-triple.ensures c.quotes-size.ensures _ (rw c.in-Closed.is at c.closing_from.ensures)
+returns-in-Ok c = found_closed _ _ _ c.requires _ _ _ c.prefix.ensures c.tripled-triple.ensures c.quotes-size.ensures _ c.in-Ok.ensures

@@ -1,14 +1,10 @@
-use borrow.Author.Rules.{rules}
-use native.Mathlib.Omega.{arith}
 use Prim.Native.Nat.{◌-◌}
 use lib.ListN.{length}
 use Rattle.gaps.specs.Gaps.{Skips}
-use Rattle.gaps.proofs.Gaps.{stays}
-use Rattle.found.proofs.Cuts.{cutting_over, cutting_comment, cutting_known, cutting_breaks, cutting_goes}
 use Rattle.found.proofs.next_literal.Given as goal
 
-abbrev pub invariant-loop-from : goal.invariant-loop-from
-invariant-loop-from l = Skips l.script l.from l.at
+abbrev pub invariant-loop-at : goal.invariant-loop-at
+invariant-loop-at l = Skips l.script l.from l.at
 
-abbrev pub decreases-loop-from : goal.decreases-loop-from
-decreases-loop-from l = length l.script - l.at
+abbrev pub decreases-loop-at : goal.decreases-loop-at
+decreases-loop-at l = length l.script - l.at

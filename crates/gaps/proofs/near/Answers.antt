@@ -1,8 +1,5 @@
 use borrow.Author.Rules.{rules}
-use native.Mathlib.Omega.{arith}
 use mathlib.Core.Path.{sym, ◌∙◌}
-use Prim.Native.Nat.{◌-◌, ◌≤◌}
-use Rattle.gaps.specs.Gaps.{Skips}
 use Rattle.gaps.proofs.Gaps.{near_goes, near_ends}
 use Rattle.gaps.proofs.near.Goals as goal
 

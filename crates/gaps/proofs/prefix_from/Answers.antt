@@ -1,20 +1,14 @@
-use borrow.Author.Rules.{rules}
-use native.Mathlib.Omega.{arith}
-use mathlib.Core.Path.{sym, ◌∙◌}
-use Rattle.gaps.proofs.Gaps.{stays, near_starts, near_past, near_apart}
+use Rattle.std.proofs.Common.{sym, ◌∙◌, arith}
+use Rattle.gaps.proofs.Gaps.{near_starts, near_past, near_apart}
 use Rattle.gaps.proofs.prefix_from.Goals as goal
-
-pub returns-then-s-to : goal.returns-then-s-to
-returns-then-s-to c = (omega arith, near_past _ _ _ c.requires c.if-s-to.true)
+use Rattle.gaps.proofs.prefix_from.Goals.{then-s-to, else-s-to}
 
 pub returns-then-apart : goal.returns-then-apart
-returns-then-apart c = (omega arith, near_apart _ _ _ c.requires (sym c.apart.ensures ∙ c.if-apart.true))
+returns-then-apart c =
+    elim c.if-s-to.branch [
+      | then-s-to w ↦ (omega arith, near_past _ _ _ c.requires w.if-s-to.true)
+      | else-s-to w ↦ (omega arith, near_apart _ _ _ c.requires (sym w.apart.ensures ∙ sym w.value-is ∙ c.if-apart.true))
+    ]
 
-pub overflow_sub-to : goal.overflow_sub-to
-overflow_sub-to c = omega (arith, c.requires)
-
-pub returns-then-to-at-le2 : goal.returns-then-to-at-le2
-returns-then-to-at-le2 c = (omega (arith, c.requires), stays _ _)
-
-pub returns : goal.returns
-returns c = let l = c.if-to-at-le2.false in (omega arith, near_starts _ _ _ c.requires _ (omega arith) (λ h. omega arith))
+pub returns-else-apart : goal.returns-else-apart
+returns-else-apart c = let m = c.max.ensures in let s = c.saturating_sub.ensures in (omega (arith, c.requires), near_starts _ _ _ c.requires _ (omega arith) (λ h. omega arith))

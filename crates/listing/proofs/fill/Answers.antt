@@ -1,11 +1,6 @@
 use borrow.Author.Rules.{rules}
 use native.Mathlib.Omega.{arith}
-use mathlib.Core.List.{List}
-use Prim.Native.Nat.{ℕ, ◌-◌}
-use lib.ListN.{length}
-use Rattle.escapes.specs.Answers.{names_by}
-use Rattle.listing.specs.Put.{PartIs}
-use Rattle.listing.proofs.Filling.{Filling, same_room, filling_start, filling_few, filling_lies, filling_next, filled_short, filled_whole}
+use Rattle.listing.proofs.Filling.{same_room, filling_start, filling_few, filling_lies, filling_next, filled_short, filled_whole}
 use Rattle.listing.proofs.fill.Goals as goal
 
 pub cut_rows-first-requires : goal.cut_rows-first-requires

@@ -1,18 +1,15 @@
-use borrow.Author.Rules.{rules}
 use Rattle.listing.proofs.NamedList.{named_long, named_not, named_listed}
 use Rattle.listing.proofs.list_named.Goals as goal
 
-pub returns-then-script-gt1048576 : goal.returns-then-script-gt1048576
-returns-then-script-gt1048576 c = named_long _ _ _ _ _ c.if-script-gt1048576.true c.fill_words.ensures
+pub returns-then-script-gt-MOST_BYTES : goal.returns-then-script-gt-MOST_BYTES
+returns-then-script-gt-MOST_BYTES c = named_long _ _ _ _ _ c.if-script-gt-MOST_BYTES.true c.fill.ensures
 
-pub returns-in-Refused : goal.returns-in-Refused
-returns-in-Refused c =
+pub returns-in-Err : goal.returns-in-Err
+returns-in-Err c =
     let a = c.args in
-    let n = rw c.in-Refused.is at c.check.ensures in
-    named_not a.file.now a.index.now a.script.now a.rows.now _ _ c.if-script-gt1048576.false n c.fill_words-in-Refused.ensures
+    named_not a.file.now a.index.now a.script.now a.rows.now c.in-Err.e _ _ c.if-script-gt-MOST_BYTES.false c.in-Err.ensures c.from.ensures c.fill-in-Err.ensures
 
-pub returns-in-Entries : goal.returns-in-Entries
-returns-in-Entries c =
+pub returns-in-Ok : goal.returns-in-Ok
+returns-in-Ok c =
     let a = c.args in
-    let n = rw c.in-Entries.is at c.check.ensures in
-    rw (named_listed a.file.now a.index.now a.script.now a.rows.now _ n) c.list_searched.ensures
+    rw (named_listed a.file.now a.index.now a.script.now a.rows.now _ c.in-Ok.ensures) c.list_searched.ensures

@@ -1,14 +1,14 @@
-use borrow.Author.Rules.{rules}
-use Rattle.literals.proofs.Listings.{ends_refused}
+use Rattle.std.proofs.Common.{sym, ◌∙◌, refl}
+use Rattle.definition.proofs.Moves.CharLaws.{no}
+use Rattle.literals.proofs.Listings.{finished}
 use Rattle.literals.proofs.finish.Goals as goal
 
-pub fit-requires : goal.fit-requires
-fit-requires c = rw c.in-Done.is at c.requires
+pub returns-then-is_err : goal.returns-then-is_err
+returns-then-is_err c = λ in_room buffer e p.
+    let k = rw c.fit-given.ensures at (sym c.is_err.ensures.value ∙ c.if-is_err.true) in
+    rw c.fit-given.ensures (finished in_room buffer c.args.numbers.now _ c.args.r e p (λ h. c.fill.ensures) (λ h. no (sym h ∙ k)))
 
-pub returns-in-Refused : goal.returns-in-Refused
-returns-in-Refused c =
-    λ in_room buffer e p. let r = c.refuse.ensures in
-    let h = rw c.in-Refused.is at p in ends_refused _ buffer _ _ _ _ (h _) r.0 e r.1
-
-pub returns-in-Done : goal.returns-in-Done
-returns-in-Done c = λ in_room buffer e p. c.fit.ensures in_room buffer (rw c.in-Done.is at p)
+pub returns-else-is_err : goal.returns-else-is_err
+returns-else-is_err c = λ in_room buffer e p.
+    let k = rw c.fit-given.ensures at (sym c.is_err.ensures.value ∙ c.if-is_err.false) in
+    rw c.fit-given.ensures (finished in_room buffer c.args.numbers.now _ c.args.r e p (λ h. no (sym k ∙ h)) (λ h. refl))

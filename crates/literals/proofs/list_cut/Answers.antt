@@ -1,4 +1,3 @@
-use borrow.Author.Rules.{rules}
 use Rattle.definition_scripts.specs.CutList.{cut_into}
 use Rattle.literals.proofs.list_cut.Goals as goal
 

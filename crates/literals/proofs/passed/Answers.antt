@@ -1,9 +1,6 @@
-use borrow.Author.Rules.{rules}
 use native.Mathlib.Omega.{arith}
 use mathlib.Core.Path.{refl}
-use Prim.Native.Nat.{◌-◌}
-use lib.ListN.{length}
-use Rattle.literals.proofs.Passing.{Passing, ends_other, goes_space, goes_comment}
+use Rattle.literals.proofs.Passing.{ends_other, goes_space, goes_comment}
 use Rattle.literals.proofs.passed.Goals as goal
 
 pub loop-at-init : goal.loop-at-init

@@ -1,9 +1,6 @@
-use borrow.Author.Rules.{rules}
-use native.Mathlib.Omega.{arith}
-use mathlib.Core.Path.{refl}
 use Prim.Native.Nat.{◌-◌}
 use lib.ListN.{length}
-use Rattle.literals.proofs.Passing.{Passing, ends_other, goes_space, goes_comment}
+use Rattle.literals.proofs.Passing.{Passing}
 use Rattle.literals.proofs.passed.Given as goal
 
 abbrev pub invariant-loop-at : goal.invariant-loop-at

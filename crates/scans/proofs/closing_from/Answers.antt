@@ -1,10 +1,5 @@
-use borrow.Author.Rules.{rules}
 use native.Mathlib.Omega.{arith}
-use mathlib.Core.Path.{◌≡◌}
-use Prim.Native.Nat.{◌+◌, ◌-◌}
-use lib.ListN.{length}
-use Rattle.scans.specs.Scans.{third_of}
-use Rattle.scans.proofs.Closings.{past_fails, Going, going_starts, ends_over, ends_closes, ends_breaks, goes_takes, goes_plain}
+use Rattle.scans.proofs.Closings.{past_fails, going_starts, ends_over, ends_closes, ends_breaks, goes_takes, goes_plain}
 use Rattle.scans.proofs.closing_from.Goals as goal
 
 pub returns-then-s-from : goal.returns-then-s-from

@@ -1,10 +1,8 @@
-use borrow.Author.Rules.{rules}
-use native.Mathlib.Omega.{arith}
 use mathlib.Core.Path.{◌≡◌}
 use Prim.Native.Nat.{◌+◌, ◌-◌}
 use lib.ListN.{length}
 use Rattle.scans.specs.Scans.{third_of}
-use Rattle.scans.proofs.Closings.{past_fails, Going, going_starts, ends_over, ends_closes, ends_breaks, goes_takes, goes_plain}
+use Rattle.scans.proofs.Closings.{Going}
 use Rattle.scans.proofs.closing_from.Given as goal
 
 abbrev pub invariant-loop-at : goal.invariant-loop-at

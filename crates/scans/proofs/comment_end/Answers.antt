@@ -1,4 +1,3 @@
-use borrow.Author.Rules.{rules}
 use mathlib.Core.Path.{◌∙◌}
 use Rattle.searches.proofs.Threes.{of_two}
 use Rattle.scans.proofs.comment_end.Goals as goal

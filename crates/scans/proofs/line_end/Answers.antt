@@ -1,4 +1,3 @@
-use borrow.Author.Rules.{rules}
 use mathlib.Core.Path.{◌∙◌}
 use Rattle.searches.proofs.Threes.{of_one}
 use Rattle.scans.proofs.line_end.Goals as goal

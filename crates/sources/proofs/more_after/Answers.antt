@@ -1,5 +1,3 @@
-use borrow.Author.Rules.{rules}
-use native.Mathlib.Omega.{arith}
 use Rattle.sources.proofs.Odds.{more_none, more_past, more_some, more_spaces}
 use Rattle.sources.proofs.more_after.Goals as goal
 

@@ -1,19 +1,30 @@
-use borrow.Author.Rules.{rules}
-use native.Mathlib.Omega.{arith}
+use Rattle.std.proofs.Common.{◌∙◌, sym, arith}
 use Rattle.sources.proofs.Odds.{spec_none, spec_kind, spec_past, spec_brace, spec_there}
 use Rattle.sources.proofs.spec_backslash.Goals as goal
 
 pub returns-then-f-eq0 : goal.returns-then-f-eq0
 returns-then-f-eq0 c = spec_none _ c.args.f c.if-f-eq0.true
 
-pub returns-then-opens-ne1 : goal.returns-then-opens-ne1
-returns-then-opens-ne1 c = spec_kind _ c.args.f c.if-f-eq0.false _ c.opens.ensures c.if-opens-ne1.true
+pub returns-in_default : goal.returns-in_default
+returns-in_default c = spec_kind _ c.args.f c.if-f-eq0.false _ c.in_default.ensures.kind c.in_default.field-0-test.1
 
-pub returns-then-s-i : goal.returns-then-s-i
-returns-then-s-i c = spec_past _ c.args.f c.if-f-eq0.false _ c.opens.ensures c.if-opens-ne1.false _ c.first_of-i.ensures c.if-s-i.true
+pub returns-in_default-2 : goal.returns-in_default-2
+returns-in_default-2 c = let k = rw c.in_default.is at c.opens.ensures.kind in spec_kind _ c.args.f c.if-f-eq0.false _ k (λ e. omega arith)
 
-pub returns-then-s-i-ne92 : goal.returns-then-s-i-ne92
-returns-then-s-i-ne92 c = spec_brace _ c.args.f c.if-f-eq0.false _ c.opens.ensures c.if-opens-ne1.false _ c.first_of-i.ensures c.if-s-i.false c.if-s-i-ne92.true
+pub returns-in-Some-eq92 : goal.returns-in-Some-eq92
+returns-in-Some-eq92 c =
+    let o = c.in-Some-eq1 in
+    let h = c.in-Some-eq92.ensures.lookup in
+    spec_there _ c.args.f c.if-f-eq0.false _ o.ensures.kind o.field-0-test _ c.first_of-i.ensures h.3.0 (sym (h.3.1 0) ∙ c.in-Some-eq92.field-0-test)
 
-pub returns : goal.returns
-returns c = spec_there _ c.args.f c.if-f-eq0.false _ c.opens.ensures c.if-opens-ne1.false _ c.first_of-i.ensures c.if-s-i.false c.if-s-i-ne92.false
+pub returns-in_default-get : goal.returns-in_default-get
+returns-in_default-get c =
+    let o = c.in-Some-eq1 in
+    let h = rw c.in_default-get.is at c.get.ensures.lookup in
+    spec_brace _ c.args.f c.if-f-eq0.false _ o.ensures.kind o.field-0-test _ c.first_of-i.ensures h.3.0 (λ e. c.in_default-get.field-0-test.1 (let z = h.3.1 0 in let y = c.in_default-get.field-0-is in cc))
+
+pub returns-in_default-get-2 : goal.returns-in_default-get-2
+returns-in_default-get-2 c =
+    let o = c.in-Some-eq1 in
+    let h = rw c.in_default-get.is at c.get.ensures.lookup in
+    spec_past _ c.args.f c.if-f-eq0.false _ o.ensures.kind o.field-0-test _ c.first_of-i.ensures h.3

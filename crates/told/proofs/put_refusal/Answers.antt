@@ -1,4 +1,3 @@
-use borrow.Author.Rules.{rules}
 use Rattle.definition_scripts.specs.Listing.{ten_of}
 use Rattle.told.proofs.put_refusal.Goals as goal
 

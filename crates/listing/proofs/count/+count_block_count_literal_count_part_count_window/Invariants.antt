@@ -1,45 +1,37 @@
-use borrow.Author.Rules.{rules}
-use native.Mathlib.Omega.{arith}
-use mathlib.Core.Path.{sym, ◌∙◌}
 use Prim.Native.Nat.{◌+◌, ◌-◌, ◌*◌}
-use lib.ListN.{length, length-take, length-replicate}
+use lib.ListN.{length}
 use Rattle.definition_scripts.specs.Cut.{cut_part}
 use Rattle.definition_scripts.specs.Listing.{read_rows, cut_rows}
 use Rattle.found.specs.Found.{literal_of}
 use Rattle.escapes.specs.Answers.{names_by}
 use Rattle.told.specs.Rows.{rows_in}
 use Rattle.listing.specs.Count.{total}
-use Rattle.listing.proofs.Cutting.{short_part}
-use Rattle.listing.proofs.Counting.{Counting, counting_start, counting_over, counting_breaks, counting_most, counting_found, counting_less, counting_next, literal_most, not_counted, Windows, windows_start, windows_few, windows_most, windows_done, windows_next, window_refused, window_among, window_block, window_less, window_seen, Blocks, blocks_start, blocks_done, in_block, block_source, block_bounded, block_less, block_most, blocks_next}
-use Prim.Native.Nat.{ℕ, ◌<◌}
+use Rattle.listing.proofs.Counting.{Counting, Windows, Blocks}
 use Rattle.listing.proofs.count.+count_block_count_literal_count_part_count_window.Given as goal
 
 abbrev pub decreases-count_block : goal.decreases-count_block
-decreases-count_block l = 4 * total (names_by l.file.now l.index.now) l.s.now (rows_in l.block.now 0 l.n)
+decreases-count_block l = 4 * total (names_by l.names.now.file.now l.names.now.index.now) l.s.now (rows_in l.block.now 0 l.n)
 
 abbrev pub decreases-count_literal : goal.decreases-count_literal
-decreases-count_literal l = 4 * total (names_by l.file.now l.index.now) l.s.now (read_rows (names_by l.file.now l.index.now) l.s.now 0 (literal_of l.l)) + 2
+decreases-count_literal l = 4 * total (names_by l.names.now.file.now l.names.now.index.now) l.s.now (read_rows (names_by l.names.now.file.now l.names.now.index.now) l.s.now 0 (literal_of l.l)) + 2
 
 abbrev pub decreases-count_part : goal.decreases-count_part
-decreases-count_part l = 4 * total (names_by l.file.now l.index.now) l.s.now (cut_rows (names_by l.file.now l.index.now) l.s.now 0 (cut_part l.s.now l.from l.end)) + 3
+decreases-count_part l = 4 * total (names_by l.names.now.file.now l.names.now.index.now) l.s.now (cut_rows (names_by l.names.now.file.now l.names.now.index.now) l.s.now 0 (cut_part l.s.now l.from l.end)) + 3
 
 abbrev pub decreases-count_window : goal.decreases-count_window
-decreases-count_window l = 4 * total (names_by l.file.now l.index.now) l.s.now (read_rows (names_by l.file.now l.index.now) l.s.now 0 (literal_of l.l)) + 1
+decreases-count_window l = 4 * total (names_by l.names.now.file.now l.names.now.index.now) l.s.now (read_rows (names_by l.names.now.file.now l.names.now.index.now) l.s.now 0 (literal_of l.l)) + 1
 
 abbrev pub invariant-count_block-loop-i : goal.invariant-count_block-loop-i
-invariant-count_block-loop-i l = Blocks (names_by l.file l.index) l.s l.block l.n l.rows l.i
-
-abbrev pub decreases-count_block-loop-i : goal.decreases-count_block-loop-i
-decreases-count_block-loop-i l = l.n - l.i
+invariant-count_block-loop-i l = Blocks (names_by l.names.file.now l.names.index.now) l.s l.block l.n l.rows l.i
 
 abbrev pub invariant-count_literal-loop-seen : goal.invariant-count_literal-loop-seen
-invariant-count_literal-loop-seen l = Windows (names_by l.file l.index) l.s (read_rows (names_by l.file l.index) l.s 0 (literal_of l.l)) l.rows l.seen
+invariant-count_literal-loop-seen l = Windows (names_by l.names.file.now l.names.index.now) l.s (read_rows (names_by l.names.file.now l.names.index.now) l.s 0 (literal_of l.l)) l.rows l.seen
 
 abbrev pub decreases-count_literal-loop-seen : goal.decreases-count_literal-loop-seen
-decreases-count_literal-loop-seen l = length (read_rows (names_by l.file l.index) l.s 0 (literal_of l.l)) - l.seen
+decreases-count_literal-loop-seen l = length (read_rows (names_by l.names.file.now l.names.index.now) l.s 0 (literal_of l.l)) - l.seen
 
 abbrev pub invariant-count_part-loop-l : goal.invariant-count_part-loop-l
-invariant-count_part-loop-l l = Counting (names_by l.file l.index) l.s l.from l.end l.at l.rows
+invariant-count_part-loop-l l = Counting (names_by l.names.file.now l.names.index.now) l.s l.from l.end l.at l.rows
 
 abbrev pub decreases-count_part-loop-l : goal.decreases-count_part-loop-l
 decreases-count_part-loop-l l = l.end - l.at

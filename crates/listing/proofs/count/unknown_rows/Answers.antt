@@ -1,4 +1,3 @@
-use borrow.Author.Rules.{rules}
 use Rattle.listing.proofs.count.unknown_rows.Goals as goal
 
 pub returns : goal.returns

@@ -1,13 +1,11 @@
 use borrow.Author.Rules.{rules}
 use native.Mathlib.Omega.{arith}
-use Prim.Native.Nat.{◌-◌}
 use lib.ListN.{length-take}
-use Rattle.escapes.specs.Answers.{names_by}
-use Rattle.listing.proofs.Cutting.{Cutting, cutting_start, cutting_over, cutting_breaks, cutting_few, short_part, cutting_less, cutting_next}
+use Rattle.listing.proofs.Cutting.{cutting_start, cutting_over, cutting_breaks, cutting_few, short_part, cutting_less, cutting_next}
 use Rattle.listing.proofs.rows.cut_rows.Goals as goal
 
-pub loop-r-init : goal.loop-r-init
-loop-r-init c = cutting_start _ _ _ _ _ _ _ c.requires
+pub loop-l-init : goal.loop-l-init
+loop-l-init c = cutting_start _ _ _ _ _ _ _ c.requires
 
 pub slice_bounds-next_literal-end : goal.slice_bounds-next_literal-end
 slice_bounds-next_literal-end c = rw length-take (omega (arith, c.requires.within))
@@ -15,29 +13,29 @@ slice_bounds-next_literal-end c = rw length-take (omega (arith, c.requires.withi
 pub overflow_cast-result : goal.overflow_cast-result
 overflow_cast-result c = let p = c.requires in search rules
 
-pub returns-in-TooLong : goal.returns-in-TooLong
-returns-in-TooLong c = let n = rw c.in-TooLong.is at c.next_literal.ensures in absurd (short_part _ _ _ _ c.requires n)
+pub returns-in-Err-TooLong : goal.returns-in-Err-TooLong
+returns-in-Err-TooLong c = let n = rw c.in-Err-TooLong.field-0-is at c.in-Err-TooLong.ensures in absurd (short_part _ _ _ _ c.requires n)
 
-pub overflow_cast-result-in-End : goal.overflow_cast-result-in-End
-overflow_cast-result-in-End c = let p = c.requires in search rules
+pub overflow_cast-result-in-Err-TooLong : goal.overflow_cast-result-in-Err-TooLong
+overflow_cast-result-in-Err-TooLong c = let p = c.requires in search rules
 
-pub returns-in-End : goal.returns-in-End
-returns-in-End c = let n = rw c.in-End.is at c.next_literal.ensures in cutting_over _ _ _ _ _ _ _ c.requires _ _ _ _ c.loop-r.invariant n.1
+pub returns-in-Ok-None : goal.returns-in-Ok-None
+returns-in-Ok-None c = let n = rw c.in-Ok-None.field-0-is at c.in-Ok-None.ensures in cutting_over _ _ _ _ _ _ _ c.requires _ _ _ _ c.loop-l.invariant n.1
 
 pub overflow_add-result : goal.overflow_add-result
-overflow_add-result c = let f = cutting_few _ _ _ _ _ _ _ c.requires _ _ _ _ c.loop-r.invariant in search rules
+overflow_add-result c = let f = cutting_few _ _ _ _ _ _ _ c.requires _ _ _ _ c.loop-l.invariant in search rules
 
-pub returns-in-Broken : goal.returns-in-Broken
-returns-in-Broken c = let n = rw c.in-Broken.is at c.next_literal.ensures in cutting_breaks _ _ _ _ _ _ _ c.requires _ _ _ _ c.loop-r.invariant _ _ n.1 _ c.put_refusal.ensures
+pub returns-in-Err-Literal : goal.returns-in-Err-Literal
+returns-in-Err-Literal c = let n = rw c.in-Err-Literal.field-0-is at c.in-Err-Literal.ensures in cutting_breaks _ _ _ _ _ _ _ c.requires _ _ _ _ c.loop-l.invariant _ _ n.1 _ c.put_refusal.ensures
 
 pub overflow_cast-done : goal.overflow_cast-done
-overflow_cast-done c = let f = cutting_few _ _ _ _ _ _ _ c.requires _ _ _ _ c.loop-r.invariant in omega (arith, f.0)
+overflow_cast-done c = let f = cutting_few _ _ _ _ _ _ _ c.requires _ _ _ _ c.loop-l.invariant in omega (arith, f.0)
 
 pub overflow_add-literals : goal.overflow_add-literals
-overflow_add-literals c = let f = cutting_few _ _ _ _ _ _ _ c.requires _ _ _ _ c.loop-r.invariant in omega (arith, f.1)
+overflow_add-literals c = let f = cutting_few _ _ _ _ _ _ _ c.requires _ _ _ _ c.loop-l.invariant in omega (arith, f.1)
 
-pub loop-r-smaller : goal.loop-r-smaller
-loop-r-smaller c = let n = rw c.in-Literal.is at c.next_literal.ensures in cutting_less _ _ _ _ _ _ _ c.requires _ _ _ _ c.loop-r.invariant _ n.1
+pub loop-l-smaller : goal.loop-l-smaller
+loop-l-smaller c = let n = rw c.in-Ok-Some.field-0-is at c.in-Ok-Some.ensures in cutting_less _ _ _ _ _ _ _ c.requires _ _ _ _ c.loop-l.invariant _ n.1
 
-pub loop-r-preserved : goal.loop-r-preserved
-loop-r-preserved c = let n = rw c.in-Literal.is at c.next_literal.ensures in cutting_next _ _ _ _ _ _ _ c.requires _ _ _ _ c.loop-r.invariant _ n.1 _ _ c.literal_rows-done.ensures.0
+pub loop-l-preserved : goal.loop-l-preserved
+loop-l-preserved c = let n = rw c.in-Ok-Some.field-0-is at c.in-Ok-Some.ensures in cutting_next _ _ _ _ _ _ _ c.requires _ _ _ _ c.loop-l.invariant _ n.1 _ _ c.literal_rows-done.ensures.0

@@ -30,7 +30,7 @@ pub overflow_add-behind : goal.overflow_add-behind
 overflow_add-behind c = let p = c.requires.few in let m = otherwise_most _ _ _ _ _ _ _ c.put_otherwise.ensures in omega arith
 
 pub cut_rows-part-requires : goal.cut_rows-part-requires
-cut_rows-part-requires c = rw (c.source_end.ensures, c.field_at-f.ensures) (source_bounded (names_by c.args.file.now c.args.index.now) _ _ _ c.if-rows-at-eq-REFUSAL.false _ c.requires _ _ _ (rw c.field_at-f.ensures at c.put_otherwise.ensures))
+cut_rows-part-requires c = rw (c.source_end.ensures, c.field_at-f.ensures) (source_bounded (names_by c.args.names.now.file.now c.args.names.now.index.now) _ _ _ c.if-rows-at-eq-REFUSAL.false _ c.requires _ _ _ (rw c.field_at-f.ensures at c.put_otherwise.ensures))
 
 pub returns : goal.returns
 returns c = source_puts _ _ _ _ c.if-rows-at-eq-REFUSAL.false _ c.requires _ _ _ (rw c.field_at-f.ensures at c.put_otherwise.ensures) _ _ (rw (c.source_end.ensures, c.field_at-f.ensures) at c.cut_rows-part.ensures) (omega arith)

@@ -1,5 +1,4 @@
 use borrow.Author.Rules.{rules}
-use native.Mathlib.Omega.{arith}
 use borrow.Author.Tests.{lt-ltb, le-ltb}
 use Rattle.told.specs.Rows.{told_otherwise}
 use Rattle.told.proofs.Rows.{wrote_none, wrote_one, otherwise_short}
