@@ -1,11 +1,9 @@
 -- What one pass says of literals that pass the checks 4 to 7; of those that don't it says nothing.
-use Rattle.std.specs.Prelude.{ℕ, ◌≤◌, ◌≡◌, false, List, length}
+use Rattle.std.specs.Prelude.{ℕ, ◌≤◌, ◌≡◌, false, List, length, Option, Some, None}
 use Rattle.std.proofs.Math.Option.{none}
 use Rattle.definition.specs.Counts.{counted}
 use Rattle.definition.specs.Entry.{Literal, body, bad, ill_formed}
 use Rattle.definition.specs.Reading.{all_chars}
-use Rattle.checks.specs.declared.Passing.{Passing}
-use Rattle.checks.specs.declared.Passing.TheVariants.{Chars, Not}
 use Rattle.entry.specs.Answers.{later_checks}
 
 -- one literal with so many bytes left, and the characters of its body
@@ -16,11 +14,11 @@ pub record Passes (script : List ℕ) (previous left : ℕ) (l : Literal) (chars
   pub few : chars ≤ l.size
   pub counts : chars ≡ (counted (body script l) (length (body script l))).chars
 
-abbrev pub OneIs : List ℕ → (previous left : ℕ) → Literal → Passing → Type 0
-OneIs script previous left l (Chars n) = Passes script previous left l n
-OneIs script previous left l Not = Unit {0}
+abbrev pub OneIs : List ℕ → (previous left : ℕ) → Literal → Option ℕ → Type 0
+OneIs script previous left l (Some n) = Passes script previous left l n
+OneIs script previous left l None = Unit {0}
 
 -- all of them, and the characters of all bodies
-abbrev pub AllIs : List ℕ → List Literal → Passing → Type 0
-AllIs script ls (Chars n) = (n ≡ all_chars script ls) × (later_checks script ls ≡ none)
-AllIs script ls Not = Unit {0}
+abbrev pub AllIs : List ℕ → List Literal → Option ℕ → Type 0
+AllIs script ls (Some n) = (n ≡ all_chars script ls) × (later_checks script ls ≡ none)
+AllIs script ls None = Unit {0}

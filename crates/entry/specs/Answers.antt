@@ -1,5 +1,5 @@
 -- What the answers say, in the definition's terms; and what the checks of flat numbers give.
-use Rattle.std.specs.Prelude.{ℕ, Bool, not, List, [], ◌∷◌}
+use Rattle.std.specs.Prelude.{ℕ, Bool, not, List, [], ◌∷◌, Result, Ok, Err}
 use Rattle.std.proofs.Math.Option.{Option, none, some}
 use Rattle.definition.specs.Numbers.{is_fstring, is_bytes, not_sixes}
 use Rattle.definition.specs.Entry.{Literal, sixes, refusal, all_good, not_long, all_utf8, not_mixed, first_of, entry}
@@ -7,8 +7,6 @@ use Rattle.definition.specs.Entry as d
 use Rattle.definition.specs.Reading.{Outcome, accepts, refuses, all_chars, outcome_of}
 use Rattle.entry.specs.declared.Descriptor.{Descriptor}
 use Rattle.entry.specs.declared.Refusal.{Refusal}
-use Rattle.entry.specs.declared.Checked.{Checked}
-use Rattle.entry.specs.declared.Checked.TheVariants.{Passed, Refused}
 use Rattle.entry.specs.declared.Class.{Class}
 use Rattle.entry.specs.declared.Class.TheVariants.{FStrings, Bytes, Others}
 
@@ -26,9 +24,9 @@ refusal_of r =
     record { number = r.number; literal = r.literal; place = r.place; a = r.a; b = r.b; opened = r.opened; line = r.line; column = r.column; chars = r.chars }
 
 -- how much passed, or the refusal
-abbrev pub says : Checked → Outcome ℕ
-says (Passed n) = accepts n
-says (Refused r) = refuses (refusal_of r)
+abbrev pub says : Result ℕ Refusal → Outcome ℕ
+says (Ok n) = accepts n
+says (Err r) = refuses (refusal_of r)
 
 -- 4 to 7, in that order
 unfoldable pub later_checks : List ℕ → List Literal → Option d.Refusal

@@ -8,8 +8,10 @@ ghost use Rattle.definition.specs.Reading.{refuses, outcome_of, short_of, room_f
 ghost use Rattle.entry.specs.Answers.{described, says, is_of};
 ghost use Rattle.entry.specs.Literals.{literal_at, literals};
 
+use numbering::Number;
+
 // A literal's descriptor: six numbers.
-#[derive(Clone, Copy)]
+#[derive(Clone, Copy, PartialEq, Eq)]
 pub struct Descriptor {
     pub kind: u32,
     pub triple: u32,
@@ -21,7 +23,7 @@ pub struct Descriptor {
 
 // A refusal: its number, the literal's index from 0, the place, two details, the place just after the bracket that it names, and its own
 // place's line and column in the literal's body.
-#[derive(Clone, Copy)]
+#[derive(Clone, Copy, PartialEq, Eq)]
 pub struct Refusal {
     pub number: u32,
     pub literal: u32,
@@ -34,45 +36,35 @@ pub struct Refusal {
     pub chars: u32,
 }
 
-// What a check says: how much passed, literals or characters or records; or the refusal.
-#[derive(Clone, Copy)]
-pub enum Checked {
-    Passed(u32),
-    Refused(Refusal),
-}
-
 // A class of kinds.
-#[derive(Clone, Copy)]
+#[derive(Clone, Copy, PartialEq, Eq)]
 pub enum Class {
     FStrings,
     Bytes,
     Others,
 }
 
-const TOO_FEW_RECORD_PLACES: u32 = 30;
-
-const TOO_LITTLE_TEXT_ROOM: u32 = 31;
-
-// The number at an index; 0 where the numbers end.
+// The number at an index; 0 where the numbers end, as the definition has it.
 fn number_at(numbers: &[u32], at: usize) -> u32
     ensures { result ≡ get_or numbers.now at 0 }
 {
-    if at < numbers.len() { numbers[at] } else { 0 }
+    numbers.get(at).copied().unwrap_or(0)
 }
 
 // The literal of an index from 0: its six numbers; zeros where the numbers end.
+#[tactic(auto, unfolding(crate::specs::Literals::literal_at, crate::specs::Answers::described))]
 pub fn literal_at(numbers: &[u32], i: u32) -> Descriptor
     ensures { described result ≡ literal_at numbers.now i }
 {
     let at = i as usize * 6;
-    if at + 6 <= numbers.len() {
+    if let Some([kind, triple, offset, size, start, end, ..]) = numbers.get(at..) {
         return Descriptor {
-            kind: numbers[at],
-            triple: numbers[at + 1],
-            offset: numbers[at + 2],
-            size: numbers[at + 3],
-            start: numbers[at + 4],
-            end: numbers[at + 5],
+            kind: *kind,
+            triple: *triple,
+            offset: *offset,
+            size: *size,
+            start: *start,
+            end: *end,
         };
     }
     Descriptor {
@@ -86,21 +78,19 @@ pub fn literal_at(numbers: &[u32], i: u32) -> Descriptor
 }
 
 // The length of a kind's prefix; 0 if the kind is unknown.
+#[tactic(auto, unfolding(definition::specs::Numbers::prefix))]
 fn prefix(kind: u32) -> u8
     ensures { result ≡ prefix kind }
 {
-    if 6 < kind {
-        return 0;
-    }
     match kind {
-        0 => 0,
-        4 => 2,
-        5 => 2,
-        _ => 1,
+        1 | 2 | 3 | 6 => 1,
+        4 | 5 => 2,
+        _ => 0,
     }
 }
 
 // The length of a literal's opening: the prefix plus 3 quotes if the flag is 1, else 1.
+#[tactic(auto, unfolding(definition::specs::Entry::opening, crate::specs::Answers::described))]
 pub fn opening(l: Descriptor) -> u32
     ensures { result ≡ opening (described l) }
 {
@@ -113,6 +103,7 @@ pub fn opening(l: Descriptor) -> u32
 }
 
 // The place of so many bytes taken.
+#[tactic(auto, unfolding(definition::specs::Entry::place_of, crate::specs::Answers::described))]
 pub fn place(l: Descriptor, taken: u32) -> u64
     ensures { result ≡ place_of (described l) taken }
 {
@@ -120,10 +111,11 @@ pub fn place(l: Descriptor, taken: u32) -> u64
 }
 
 // A refusal with no details.
-pub fn refuse(number: u32, literal: u32, place: u32) -> Checked
+#[tactic(auto, unfolding(definition::specs::Entry::refusal))]
+pub fn refuse(number: u32, literal: u32, place: u32) -> Result<u32, Refusal>
     ensures { says result ≡ refuses (refusal number literal place 0 0) }
 {
-    Checked::Refused(Refusal {
+    Err(Refusal {
         number,
         literal,
         place,
@@ -137,35 +129,16 @@ pub fn refuse(number: u32, literal: u32, place: u32) -> Checked
 }
 
 // Whether a descriptor is bad, after one that ended at `previous`.
+#[tactic(auto, unfolding(definition::specs::Entry::bad, crate::specs::Answers::described))]
 pub fn is_bad(script: &[u8], previous: u32, l: Descriptor) -> bool
     ensures { result ≡ bad script.now previous (described l) }
 {
-    if 6 < l.kind {
-        return true;
-    }
-    if 1 < l.triple {
-        return true;
-    }
-    if (script.len() as u64) < l.offset as u64 + l.size as u64 {
-        return true;
-    }
-    if l.end < l.start {
-        return true;
-    }
-    if l.start < previous {
-        return true;
-    }
-    (l.end as u64) < place(l, l.size)
-}
-
-// Whether a kind is one of two.
-fn is_either(kind: u32, a: u32, b: u32) -> bool
-    ensures { result ≡ eqb kind a || eqb kind b }
-{
-    if kind == a {
-        return true;
-    }
-    kind == b
+    6 < l.kind
+        || 1 < l.triple
+        || (script.len() as u64) < l.offset as u64 + l.size as u64
+        || l.end < l.start
+        || l.start < previous
+        || (l.end as u64) < place(l, l.size)
 }
 
 // Whether a kind is of a class.
@@ -173,9 +146,9 @@ pub fn is_of(class: Class, kind: u32) -> bool
     ensures { result ≡ is_of class kind }
 {
     match class {
-        Class::FStrings => is_either(kind, 1, 4),
-        Class::Bytes => is_either(kind, 2, 5),
-        Class::Others => !is_either(kind, 2, 5),
+        Class::FStrings => matches!(kind, 1 | 4),
+        Class::Bytes => matches!(kind, 2 | 5),
+        Class::Others => !matches!(kind, 2 | 5),
     }
 }
 
@@ -183,22 +156,20 @@ pub fn is_of(class: Class, kind: u32) -> bool
 pub fn any_of(class: Class, numbers: &[u32], count: u32) -> bool
     ensures { result ≡ any_of (is_of class) (literals numbers.now 0 count) }
 {
-    let mut i = 0;
-    while i < count {
-        let l = literal_at(numbers, i);
-        if is_of(class, l.kind) {
+    for i in 0..count {
+        if is_of(class, literal_at(numbers, i).kind) {
             return true;
         }
-        i += 1;
     }
     false
 }
 
 // A refusal for want of room, with what is needed, after all characters.
-fn short(number: u32, records: u32, used: u32, chars: u32) -> Checked
+#[tactic(auto, unfolding(definition::specs::Entry::refusal, definition::specs::Entry::moved, definition::specs::Reading::short_of))]
+fn short(number: u32, records: u32, used: u32, chars: u32) -> Result<u32, Refusal>
     ensures { says result ≡ refuses (short_of number records used chars) }
 {
-    Checked::Refused(Refusal {
+    Err(Refusal {
         number,
         literal: 0,
         place: 0,
@@ -212,14 +183,21 @@ fn short(number: u32, records: u32, used: u32, chars: u32) -> Checked
 }
 
 // 30 and 31: whether the record places and text bytes that are lent are as many as are needed.
-pub fn room(places: usize, bytes: usize, records: u32, used: u32, chars: u32) -> Checked
+#[tactic(auto, unfolding(definition::specs::Reading::outcome_of, definition::specs::Reading::room_for))]
+pub fn room(
+    places: usize,
+    bytes: usize,
+    records: u32,
+    used: u32,
+    chars: u32,
+) -> Result<u32, Refusal>
     ensures { says result ≡ outcome_of records (room_for places bytes records used chars) }
 {
     if places < records as usize {
-        return short(TOO_FEW_RECORD_PLACES, records, used, chars);
+        return short(Number::TooFewRecordPlaces as u32, records, used, chars);
     }
     if bytes < used as usize {
-        return short(TOO_LITTLE_TEXT_ROOM, records, used, chars);
+        return short(Number::TooLittleTextRoom as u32, records, used, chars);
     }
-    Checked::Passed(records)
+    Ok(records)
 }

@@ -1,13 +1,10 @@
 -- By which lookup a reading goes, by whether a file is lent; and a file that stands for an empty one. Assumes nothing.
-use Rattle.std.specs.Prelude.{if◌then◌else◌}
-use mathlib.Core.Path.{◌≡◌, refl, sym, ap, ◌∙◌}
+use mathlib.Core.Path.{◌≡◌, refl, sym, ◌∙◌}
 use mathlib.Core.List.{List, [], ◌∷◌}
 use Prim.Native.Nat.{ℕ, zero, suc, ◌+◌, ◌-◌, ◌/◌, ◌≤◌}
 use native.Mathlib.Omega.{arith}
-use borrow.Author.Tests.{ne_eqb}
 use lib.Dec.{ltb}
-use lib.ListN.{length, get_or, drop, drop_of_length-le, get_or-eq_default}
-use Rattle.definition.specs.Chars.{byte, same}
+use lib.ListN.{length, get_or, drop_of_length-le, get_or-eq_default}
 use Rattle.definition.specs.Escapes.{held_names}
 use Rattle.definition_names.specs.Names.{at_most, up_to, hex_value, name_at, name_of, bound_n, bound, entry_of, code_at, scalar_at, searched}
 use Rattle.definition.proofs.Moves.CharLaws.{cases}

@@ -1,5 +1,6 @@
 -- What the character after a backslash asks for, where no single key tells it.
 -- Assumes nothing.
+use mathlib.Core.Logic.{◌⊎◌, inl, inr}
 use Rattle.std.specs.Prelude.{if◌then◌else◌}
 use mathlib.Core.Path.{◌≡◌, refl}
 use mathlib.Core.Bool.{Bool, true, false, ◌&&◌}
@@ -10,7 +11,7 @@ use borrow.Author.Tests.{lt-leb, ne_eqb}
 use lib.Dec.{T, leb, eqb, lit≤}
 use Rattle.definition.specs.Numbers.{is_bytes, non_ascii_in_bytes}
 use Rattle.definition.specs.Chars.{ascii, ◌is◌}
-use Rattle.definition.specs.Escapes.{Naming, fault, got, refused, stays, octal_digit, octal_from, octal, foreign, other, escape_case, escape}
+use Rattle.definition.specs.Escapes.{stands, Naming, fault, got, refused, stays, octal_digit, octal_from, octal, foreign, other, escape_case, escape}
 use Rattle.utf8.specs.declared.Cursor.{Cursor}
 use Rattle.definition.proofs.Moves.CharLaws.{inside_yes}
 use Rattle.utf8.proofs.Steps.{Stepped}
@@ -55,14 +56,18 @@ below c h l m = omega arith
 pub above : (c : ℕ) → 56 ≤ c → NoDigit c
 above c h l m = omega arith
 
--- the number is none of the list
+-- the character stands for itself
+abbrev pub Same : ℕ → Type 0
+Same c = (c ≡ 34) ⊎ ((c ≡ 39) ⊎ (c ≡ 92))
+
+-- the number is none of these nor of the list
 abbrev pub Not : ℕ → List ℕ → Type 0
-Not c [] = Unit {0}
+Not c [] = Unit {0} × (Same c → ⊥)
 Not c (m ∷ ms) = Not c ms × (c ≡ m → ⊥)
 
 -- the keys of the other escapes, the last first
 abbrev pub keys : List ℕ
-keys = 10 ∷ 78 ∷ 85 ∷ 117 ∷ 120 ∷ 118 ∷ 116 ∷ 114 ∷ 110 ∷ 102 ∷ 98 ∷ 97 ∷ 34 ∷ 39 ∷ 92 ∷ []
+keys = 10 ∷ 78 ∷ 85 ∷ 117 ∷ 120 ∷ 118 ∷ 116 ∷ 114 ∷ 110 ∷ 102 ∷ 98 ∷ 97 ∷ []
 
 -- the escape of the character c, with k after it
 module _ (look : Naming) (kind : ℕ) (s : List ℕ) (i c : ℕ) (k : Cursor) (t : Stepped s i c k) where
@@ -87,13 +92,13 @@ module _ (look : Naming) (kind : ℕ) (s : List ℕ) (i c : ℕ) (k : Cursor) (t
 
   other_case : Not c keys → NoDigit c → escape_case kind s i ≡ (if leb 0x80 c && is_bytes kind then foreign else other)
   unfolding escape_case
-  other_case (((((((((((((((u, a), b), c'), d), e), f), g), h), j), l), m), n), o), p), q) r =
+  other_case (((((((((((((u, z), d), e), f), g), h), j), l), m), n), o), p), q) r =
       rw (
         lt-leb _ _ t.there,
         t.code_is,
-        ne_eqb c 92 a,
-        ne_eqb c 39 b,
-        ne_eqb c 34 c',
+        ne_eqb c 92 (λ x. z (inr (inr x))),
+        ne_eqb c 39 (λ x. z (inr (inl x))),
+        ne_eqb c 34 (λ x. z (inl x)),
         ne_eqb c 97 d,
         ne_eqb c 98 e,
         ne_eqb c 102 f,
@@ -108,6 +113,12 @@ module _ (look : Naming) (kind : ℕ) (s : List ℕ) (i c : ℕ) (k : Cursor) (t
         ne_eqb c 78 p,
         ne_eqb c 10 q,
       )
+
+  pub same_escape : Same c → escape look kind s i ≡ got (stands c) k.at
+  unfolding escape escape_case
+  same_escape (inl e) = rw (lt-leb _ _ t.there, t.code_is, e, t.next_is, escape, escape_case)
+  same_escape (inr (inl e)) = rw (lt-leb _ _ t.there, t.code_is, e, t.next_is, escape, escape_case)
+  same_escape (inr (inr e)) = rw (lt-leb _ _ t.there, t.code_is, e, t.next_is, escape, escape_case)
 
   pub octal_escape : 48 ≤ c → c ≤ 55 → escape look kind s i ≡ octal_from 2 (c - 48) s k.at
   unfolding escape octal_digit

@@ -1,7 +1,7 @@
 -- Two answers that say the same are the same. Assumes nothing.
 use mathlib.Core.Path.{◌≡◌, ap, ap₂}
 use Rattle.utf8.specs.declared.Cursor.{Cursor}
-use Rattle.definition.specs.Escapes.{Fault, fault, Read, got, refused, Meaning, stands, stays, vanishes}
+use Rattle.definition.specs.Escapes.{Fault, fault, Read, refused, Meaning}
 use Rattle.escapes.specs.declared.Refusal.{Refusal}
 use Rattle.escapes.specs.declared.Escaped.{Escaped}
 use Rattle.escapes.specs.declared.Escaped.TheVariants.{Code, Kept, Gone, Refused}

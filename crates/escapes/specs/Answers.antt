@@ -2,6 +2,7 @@
 use Rattle.std.specs.Prelude.{ℕ, List, [], ◌∷◌}
 use Rattle.definition.specs.Escapes.{fault, Read, got, refused, Meaning, stands, stays, vanishes, Naming, held_names}
 use Rattle.definition_names.specs.Names.{searched}
+use Rattle.names.specs.declared.Names.{Names}
 use Rattle.escapes.specs.declared.Escaped.{Escaped}
 use Rattle.escapes.specs.declared.Escaped.TheVariants.{Code, Kept, Gone, Refused}
 
@@ -16,3 +17,7 @@ says (Refused r) = refused (fault r.number r.at)
 unfoldable pub names_by : (file index : List ℕ) → Naming
 names_by [] index = held_names
 names_by (b ∷ file) index = searched (b ∷ file) index
+
+-- the naming of a lent file with its index
+abbrev pub naming : Names → Naming
+naming n = names_by n.file.now n.index.now

@@ -1,11 +1,14 @@
 // Escapes: Python 3.11 Language Reference, "String and Bytes literals". Nothing is written here: an answer says what to write.
 #![tactic(auto)]
 
-ghost use Rattle.std.specs.Prelude.{◌≡◌, ◌<◌, ◌≤◌};
+ghost use Rattle.std.specs.Prelude.{◌≡◌, ◌<◌, ◌≤◌, unwrap_or, IfSome};
+ghost use Rattle.definition.specs.Chars.{no_code};
 ghost use Rattle.definition.specs.Numbers.{is_bytes};
 ghost use Rattle.definition.specs.Escapes.{fault, refused, octal_digit, octal_from, scalar, hex_from, unicode_name, escape};
-ghost use Rattle.escapes.specs.Answers.{says, names_by};
+ghost use Rattle.escapes.specs.Answers.{says, naming};
 
+use names::Names;
+use numbering::Number;
 use searches::first_of;
 use utf8::{Cursor, Step};
 
@@ -17,6 +20,7 @@ pub struct Refusal {
 }
 
 // What an escape stands for, with the cursor after it: a code; the backslash and the character as they are; nothing. Or a refusal.
+// An answer of our own, as docs/DECISIONS.md, "Forms", has it.
 #[derive(Clone, Copy)]
 pub enum Escaped {
     Code(u32, Cursor),
@@ -24,18 +28,6 @@ pub enum Escaped {
     Gone(Cursor),
     Refused(Refusal),
 }
-
-// Numbers of the table in RULES 11.
-const STRING_ERROR: u32 = 10;
-
-const UNICODE_ERROR: u32 = 11;
-
-const NON_ASCII_IN_BYTES: u32 = 12;
-
-const NAME_NOT_HELD: u32 = 13;
-
-// What stands where there is no code.
-const NO_CODE: u32 = 0x110000;
 
 // A refusal with a number, at a place.
 fn refuse(number: u32, at: usize) -> Escaped
@@ -48,20 +40,18 @@ fn refuse(number: u32, at: usize) -> Escaped
 pub fn is_any_bytes(kind: u32) -> bool
     ensures { result ≡ is_bytes kind }
 {
-    match kind {
-        2 => true,
-        5 => true,
-        _ => false,
-    }
+    matches!(kind, 2 | 5)
 }
 
-// The value of an octal digit; 8 if the character is none.
-fn octal_digit(c: u32) -> u32
-    ensures { result ≡ octal_digit c }
+// The value of an octal digit.
+fn octal_digit(c: u32) -> Option<u32>
+    ensures value { unwrap_or result 8 ≡ octal_digit c }
+    ensures digit { IfSome result (λ d. d < 8) }
 {
+    // A code may be past every byte, so the range is numbers: that of `0` to `7`.
     match c {
-        48..=55 => c - 48,
-        _ => 8,
+        48..=55 => Some(c - 48),
+        _ => None,
     }
 }
 
@@ -70,10 +60,9 @@ fn char_of(v: u32, to: Cursor, letter: usize) -> Escaped
     ensures { says result ≡ scalar v to.at letter }
 {
     match v {
-        0..=0xD7FF => Escaped::Code(v, to),
+        0..=0xD7FF | 0xE000..=0x10FFFF => Escaped::Code(v, to),
         0xD800..=0xDFFF => Escaped::Code(0xFFFD, to),
-        0xE000..=0x10FFFF => Escaped::Code(v, to),
-        _ => refuse(UNICODE_ERROR, letter),
+        _ => refuse(Number::UnicodeError as u32, letter),
     }
 }
 
@@ -85,18 +74,15 @@ fn parse_unicode_literal(s: &[u8], from: Cursor, digits: usize) -> Escaped
     let letter = from.at;
     let mut p: u32 = 0;
     let mut cursor = from;
-    let mut left = digits;
-    while left > 0 {
+    for _done in 0..digits {
         let Step::Char(c, next) = cursor.next_char(s) else {
-            return refuse(UNICODE_ERROR, letter);
+            return refuse(Number::UnicodeError as u32, letter);
         };
-        let d = names::hex_digit(c);
-        if 16 <= d {
-            return refuse(UNICODE_ERROR, letter);
-        }
+        let Some(d) = names::hex_digit(c) else {
+            return refuse(Number::UnicodeError as u32, letter);
+        };
         p = p * 16 + d;
         cursor = next;
-        left -= 1;
     }
     char_of(p, cursor, letter)
 }
@@ -108,72 +94,70 @@ fn parse_octet(s: &[u8], from: Cursor, first: u32) -> Escaped
 {
     let mut p = first;
     let mut cursor = from;
-    let mut left: usize = 2;
-    while left > 0 {
+    for _done in 0..2usize {
         let Step::Char(c, next) = cursor.next_char(s) else {
             return Escaped::Code(p, cursor);
         };
-        let d = octal_digit(c);
-        if 8 <= d {
+        let Some(d) = octal_digit(c) else {
             return Escaped::Code(p, cursor);
-        }
+        };
         p = p * 8 + d;
         cursor = next;
-        left -= 1;
     }
     Escaped::Code(p, cursor)
 }
 
 // The code of a name: in a lent file, by its index; where that is empty, among the held ones.
-fn code_in(name: &[u8], file: &[u8], index: &[u32]) -> u32
-    ensures { result ≡ names_by file.now index.now name.now }
+fn code_in(name: &[u8], names: &Names) -> Option<u32>
+    ensures code { unwrap_or result no_code ≡ naming names.now name.now }
+    ensures below { IfSome result (λ v. v < no_code) }
 {
-    if file.len() == 0 {
-        return held::code_of(name);
+    if names.file.is_empty() {
+        held::code_of(name)
+    } else {
+        names::look_up(names.file, names.index, name)
     }
-    names::look_up(file, index, name)
 }
 
 // A name in braces, after the `N`.
-fn parse_unicode_name(s: &[u8], from: Cursor, file: &[u8], index: &[u32]) -> Escaped
-    ensures { says result ≡ unicode_name (names_by file.now index.now) s.now from.at }
+fn parse_unicode_name(s: &[u8], from: Cursor, names: &Names) -> Escaped
+    ensures { says result ≡ unicode_name (naming names.now) s.now from.at }
 {
     let at = from.at;
     let Step::Char(c, inner) = from.next_char(s) else {
-        return refuse(STRING_ERROR, at);
+        return refuse(Number::StringError as u32, at);
     };
     if c != 0x7B {
-        return refuse(STRING_ERROR, at);
+        return refuse(Number::StringError as u32, at);
     }
     let start = inner.at;
     let n = s.len();
     let end = first_of(s, start, b'}', b'}', b'}');
     if n <= end {
-        return refuse(STRING_ERROR, n);
+        return refuse(Number::StringError as u32, n);
     }
     let past = end + 1;
     if 88 < end - start {
-        return refuse(UNICODE_ERROR, past);
+        return refuse(Number::UnicodeError as u32, past);
     }
-    let code = code_in(&s[start..end], file, index);
-    if code == NO_CODE {
-        return refuse(NAME_NOT_HELD, start);
-    }
+    let Some(code) = code_in(&s[start..end], names) else {
+        return refuse(Number::NameNotHeld as u32, start);
+    };
     Escaped::Code(code, Cursor { at: past })
 }
 
 // The escape whose backslash was just taken; names are looked up in a lent file by its index, or where that is empty among the held ones.
-pub fn parse_escaped_char(s: &[u8], from: Cursor, kind: u32, file: &[u8], index: &[u32]) -> Escaped
-    ensures { says result ≡ escape (names_by file.now index.now) kind s.now from.at }
+pub fn parse_escaped_char(s: &[u8], from: Cursor, kind: u32, names: &Names) -> Escaped
+    ensures { says result ≡ escape (naming names.now) kind s.now from.at }
 {
     let Step::Char(c, next) = from.next_char(s) else {
-        return refuse(STRING_ERROR, from.at);
+        return refuse(Number::StringError as u32, from.at);
     };
     let bytes = is_any_bytes(kind);
+    // A code may be past every byte, so the characters are numbers.
+    // A guard over the three letters that bytes keep was tried, and the proof did not close.
     match c {
-        92 => Escaped::Code(92, next),
-        39 => Escaped::Code(39, next),
-        34 => Escaped::Code(34, next),
+        34 | 39 | 92 => Escaped::Code(c, next),
         97 => Escaped::Code(7, next),
         98 => Escaped::Code(8, next),
         102 => Escaped::Code(12, next),
@@ -201,15 +185,13 @@ pub fn parse_escaped_char(s: &[u8], from: Cursor, kind: u32, file: &[u8], index:
             if bytes {
                 Escaped::Kept(next)
             } else {
-                parse_unicode_name(s, next, file, index)
+                parse_unicode_name(s, next, names)
             }
         }
         10 => Escaped::Gone(next),
         _ => {
-            if c < 0x80 {
-                Escaped::Kept(next)
-            } else if bytes {
-                refuse(NON_ASCII_IN_BYTES, next.at)
+            if bytes && 0x80 <= c {
+                refuse(Number::NonAsciiInBytes as u32, next.at)
             } else {
                 Escaped::Kept(next)
             }

@@ -1,6 +1,6 @@
 -- Laws of the check of what is lent: one pass over the records is what the record rules say. Assumes nothing.
 use mathlib.Core.Path.{◌≡◌, refl, sym, ◌∙◌, ap, ap₂}
-use mathlib.Core.Bool.{Bool, true, false, ◌&&◌, ◌||◌, not, beq, and-true, and-false}
+use mathlib.Core.Bool.{Bool, true, false, ◌&&◌, ◌||◌, not, and-true, and-false}
 use mathlib.Core.List.{List, [], ◌∷◌, map}
 use Prim.Native.Nat.{ℕ, zero, suc, ◌+◌, ◌-◌, ◌*◌, ◌≤◌, ◌<◌, min}
 use native.Mathlib.Nat.{add-zero, sub-zero}
@@ -11,7 +11,7 @@ use lib.Seq.{get_or-drop, drop-drop, length-take-le}
 use borrow.Author.Tests.{eq-eqb, ne_eqb, le-leb, lt-leb, leb-true}
 use Rattle.definition.specs.Chars.{part, well_formed}
 use Rattle.definition.specs.Records.{Record}
-use Rattle.definition.specs.Words.{owing, role_at, records_from, sort_from, answer_from, held_from, lie, is_conversion, fits, all_fit, has_spec, ordered, gapless, no_bytes, one_of, sorted, records_formed}
+use Rattle.definition.specs.Words.{owing, role_at, records_from, sort_from, answer_from, held_from, lie, fits, all_fit, has_spec, ordered, gapless, no_bytes, one_of, sorted, records_formed}
 use Rattle.definition_formed.specs.Formed.{lent, unplaced, lent_answer, is_utf8, texts_utf8, is_formed}
 use Rattle.definition.proofs.Moves.CharLaws.{cases}
 use Rattle.definition_formed.proofs.Formed.FormedLaws.{both, is_formed_lem}
@@ -20,93 +20,12 @@ use Rattle.formed.specs.Heads.{head_at}
 use Rattle.formed.specs.Good.{records_at, follows_in, good_head, good_from}
 use Rattle.formed.proofs.Parts.{part_within}
 
--- WHERE A RECORD MAY STAND
-pub follows_spec : (due : Bool) (owed kind : ℕ) → kind ≡ 3 → due ≡ follows_in due owed kind
-follows_spec due owed kind e = rw e (go due)
-  where
-    go : (b : Bool) → b ≡ (beq true b && true)
-    go true = refl
-    go false = refl
-
-pub follows_due : (due : Bool) (owed kind : ℕ) → (kind ≡ 3 → ⊥) → due ≡ true → false ≡ follows_in due owed kind
-follows_due due owed kind h e = rw (ne_eqb kind 3 h, e) refl
-
-pub follows_any : (due : Bool) (owed kind : ℕ) → (kind ≡ 3 → ⊥) → due ≡ false → (kind ≡ 4 → ⊥) → true ≡ follows_in due owed kind
-follows_any due owed kind h e n = rw (ne_eqb kind 3 h, e, ne_eqb kind 4 n) refl
-
-pub follows_bytes : (due : Bool) (owed kind : ℕ) → (kind ≡ 3 → ⊥) → due ≡ false → kind ≡ 4 → eqb owed 0 ≡ follows_in due owed kind
-follows_bytes due owed kind h e n = rw (ne_eqb kind 3 h, e, eq-eqb kind 4 n) refl
-
--- WHAT A KIND MAY HAVE
-module _ (kind size mode parts : ℕ) where
-  abbrev F : Bool
-  F = fits kind size mode parts 0
-
-  pub fits_literal : kind ≡ 1 → eqb parts 0 ≡ F
-  unfolding fits
-  fits_literal e = rw (eq-eqb kind 1 e) (sym (and-true (eqb parts 0)))
-
-  module _ (n1 : kind ≡ 1 → ⊥) where
-    pub fits_no : kind ≡ 2 → is_conversion mode ≡ false → false ≡ F
-    unfolding fits
-    fits_no e f = rw (ne_eqb kind 1 n1, eq-eqb kind 2 e, f) refl
-
-    pub fits_field : kind ≡ 2 → is_conversion mode ≡ true → leb parts 1 ≡ F
-    unfolding fits
-    fits_field e f = rw (ne_eqb kind 1 n1, eq-eqb kind 2 e, f) refl
-
-    module _ (n2 : kind ≡ 2 → ⊥) where
-      pub fits_text : kind ≡ 3 → (size ≡ 0 → ⊥) → false ≡ F
-      unfolding fits
-      fits_text e f = rw (ne_eqb kind 1 n1, ne_eqb kind 2 n2, eq-eqb kind 3 e, ne_eqb size 0 f) refl
-
-      pub fits_spec : kind ≡ 3 → size ≡ 0 → eqb mode 0 ≡ F
-      unfolding fits
-      fits_spec e f = rw (ne_eqb kind 1 n1, ne_eqb kind 2 n2, eq-eqb kind 3 e, eq-eqb size 0 f) (sym (and-true (eqb mode 0)))
-
-      module _ (n3 : kind ≡ 3 → ⊥) where
-        pub fits_none : (kind ≡ 4 → ⊥) → false ≡ F
-        unfolding fits
-        fits_none e = rw (ne_eqb kind 1 n1, ne_eqb kind 2 n2, ne_eqb kind 3 n3, ne_eqb kind 4 e) refl
-
-        pub fits_bytes : kind ≡ 4 → eqb parts 0 ≡ F
-        unfolding fits
-        fits_bytes e = rw (ne_eqb kind 1 n1, ne_eqb kind 2 n2, ne_eqb kind 3 n3, eq-eqb kind 4 e) (sym (and-true (eqb parts 0)))
-
 -- A TEXT THAT IS UTF-8
 pub utf8_is : (text : List ℕ) (i n a b len : ℕ) → a ≡ min i (length text) → b ≡ min (i + n) (length text) → len ≡ well_formed (part text a b) → leb (b - a) len ≡ is_utf8 (part text i (i + n))
 unfolding is_utf8
 utf8_is text i n a b len e f g =
     let l : length (part text a b) ≡ b - a = length-take-le (b - a) (drop a text) (omega (arith, length-drop a text)) in
     rw (← part_within text i n a b e f, l, ← g) refl
-
--- A RECORD THAT IS GOOD
-module _ (text : List ℕ) (due : Bool) (owed at : ℕ) (h : Head) where
-  abbrev G : Bool
-  G = good_head text due owed at h
-
-  module _ {f : Bool} (e : f ≡ fits h.kind h.size h.mode h.parts 0) where
-    pub good_unfit : f ≡ false → false ≡ G
-    unfolding good_head
-    good_unfit t = rw (sym e ∙ t) refl
-
-    module _ {o : Bool} (t : f ≡ true) (e' : o ≡ follows_in due owed h.kind) where
-      pub good_misplaced : o ≡ false → false ≡ G
-      unfolding good_head
-      good_misplaced u = rw (sym e ∙ t, sym e' ∙ u) refl
-
-      module _ (u : o ≡ true) where
-        pub good_gap : (h.offset ≡ at → ⊥) → false ≡ G
-        unfolding good_head
-        good_gap n = rw (sym e ∙ t, sym e' ∙ u, ne_eqb h.offset at n) refl
-
-        pub good_bytes : h.offset ≡ at → h.kind ≡ 4 → true ≡ G
-        unfolding good_head
-        good_bytes n k = rw (sym e ∙ t, sym e' ∙ u, eq-eqb h.offset at n, eq-eqb h.kind 4 k) refl
-
-        pub good_text : h.offset ≡ at → (h.kind ≡ 4 → ⊥) → is_utf8 (part text h.offset (h.offset + h.size)) ≡ G
-        unfolding good_head
-        good_text n k = rw (sym e ∙ t, sym e' ∙ u, eq-eqb h.offset at n, ne_eqb h.kind 4 k) refl
 
 -- RECORD BY RECORD
 unfoldable pub rec : (w : List ℕ) (i owed : ℕ) → Record
@@ -298,8 +217,8 @@ module _ (ns w t : List ℕ) where
       (leb-true (count * 8) (length w) p.0, leb-true (get_or ns 6 0) (length t) p.1)
 
   -- from the numbers as they were read
-  pub good_read : {g : Bool} {m n : ℕ} → m ≡ get_or ns 6 0 → n ≡ count → g ≡ good_from (take (m - 0) t) false 0 0 (records_at w n 0 0) → g ≡ good_from text false 0 0 (records_at w count 0 0)
-  good_read {g} {m} {n} e f h = h ∙ ap₂ (λ k l. good_from (take k t) false 0 0 (records_at w l 0 0)) (sub-zero m ∙ e) f
+  pub good_read : {g : Bool} {m n : ℕ} → m ≡ get_or ns 6 0 → n ≡ count → g ≡ good_from (take m t) false 0 0 (records_at w n 0 0) → g ≡ good_from text false 0 0 (records_at w count 0 0)
+  good_read {g} {m} {n} e f h = h ∙ ap₂ (λ k l. good_from (take k t) false 0 0 (records_at w l 0 0)) e f
 
   pub sorted_read : {g : Bool} {k n : ℕ} → k ≡ get_or ns 1 0 → n ≡ count → g ≡ sorted (sort_from k) (records_at w n 0 0) → g ≡ sorted (sort_from (get_or ns 1 0)) (records_at w count 0 0)
   sorted_read e f h = h ∙ ap₂ (λ k l. sorted (sort_from k) (records_at w l 0 0)) e f

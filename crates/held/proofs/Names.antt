@@ -1,21 +1,28 @@
 -- The held names by their lengths. Assumes nothing.
 use Rattle.std.specs.Prelude.{if◌then◌else◌}
-use mathlib.Core.Path.{◌≡◌, refl, sym, ◌∙◌}
-use mathlib.Core.Bool.{Bool, true, false}
+use Rattle.std.specs.Prelude.{unwrap_or}
+use Rattle.std.specs.Option.{option_or}
+use Rattle.std.specs.Bool.{then_some}
+use mathlib.Core.Path.{◌≡◌, refl, sym, ap, ◌∙◌}
+use mathlib.Core.Bool.{Bool, true, false, ◌&&◌}
 use mathlib.Core.List.{List, [], ◌∷◌}
 use Prim.Native.Nat.{ℕ}
 use Prim.Native.String.{String}
 use borrow.Author.Tests.{eq-eqb, ne_eqb}
 use lib.Dec.{eqb}
 use lib.ListN.{length}
+use lib.Pointwise.{pointwise}
 use Rattle.definition.specs.Chars.{ascii, same}
 use Rattle.definition.specs.Escapes.{held, lookup}
-use Rattle.definition.proofs.Moves.CharLaws.{cases, no, same_true, same_refl}
+use Rattle.definition.proofs.Moves.CharLaws.{cases, no, same_true}
 
--- the test of two texts, by what it must say
-pub same_iff : (r : Bool) (xs ys : List ℕ) → (r ≡ true → xs ≡ ys) → (xs ≡ ys → r ≡ true) → r ≡ same xs ys
-same_iff true xs ys f g = rw (f refl) (sym (same_refl ys))
-same_iff false xs ys f g = cases (same xs ys) (λ e. no (g (same_true xs ys e))) (λ e. sym e)
+-- the library's test of two texts is the definition's
+pub same_pointwise : (xs ys : List ℕ) → pointwise eqb xs ys ≡ same xs ys
+unfolding same
+same_pointwise [] [] = refl
+same_pointwise [] (y ∷ ys) = refl
+same_pointwise (x ∷ xs) [] = refl
+same_pointwise (x ∷ xs) (y ∷ ys) = ap (λ t. eqb x y && t) (same_pointwise xs ys)
 
 -- those of a length
 unfoldable pub of_length : ℕ → List (String × ℕ) → List (String × ℕ)
@@ -61,3 +68,16 @@ without n (h ∷ hs) w = rw (ne_eqb _ _ w.0) (without n hs w.1)
 pub none_of : (t : List ℕ) → Without (length t) held → lookup held t ≡ 0x110000
 unfolding chosen
 none_of t w = by_length held t ∙ rw (without (length t) held w)
+
+-- what stands where a code is none
+pub code_one : (b : Bool) (x n : ℕ) → unwrap_or (then_some b x) n ≡ (if b then x else n)
+code_one true x n = refl
+code_one false x n = refl
+
+pub code_two : (b d : Bool) (x y n : ℕ) → unwrap_or (option_or (then_some b x) (then_some d y)) n ≡ (if b then x else (if d then y else n))
+code_two true d x y n = refl
+code_two false d x y n = code_one d y n
+
+pub code_three : (b d e : Bool) (x y z n : ℕ) → unwrap_or (option_or (option_or (then_some b x) (then_some d y)) (then_some e z)) n ≡ (if b then x else (if d then y else (if e then z else n)))
+code_three true d e x y z n = refl
+code_three false d e x y z n = code_two d e y z n

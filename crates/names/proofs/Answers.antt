@@ -1,53 +1,57 @@
 -- The answers of building, checking and searching. Assumes nothing.
+use Rattle.std.specs.Prelude.{Some, None, Result, Ok, Err, is_err}
 use mathlib.Core.Path.{◌≡◌, refl, sym, ap, ◌∙◌}
-use mathlib.Core.Bool.{Bool, true, false, not}
+use mathlib.Core.Bool.{true≢false, Bool, true, false, not}
 use mathlib.Core.List.{List, [], ◌∷◌, ◌++◌}
 use mathlib.Core.Option.{Option, none, some}
 use Prim.Native.Nat.{ℕ, suc, ◌≤◌, ◌<◌, ◌^◌}
 use native.Mathlib.Omega.{arith}
 use lib.Dec.{ltb}
-use lib.ListN.{length, take, drop, get_or, replicate, length-drop, length-append}
-use lib.Seq.{length-take-le}
+use lib.ListN.{length, drop, get_or, replicate}
 use borrow.Author.Tests.{le-leb, lt-leb, lt-ltb, le-ltb, not-true, not-false}
-use Rattle.definition.specs.Numbers.{line_malformed, name_twice, too_little_index_room, wrong_index}
+use Rattle.definition.specs.Numbers.{line_malformed, name_twice, too_little_index_room}
 use Rattle.definition.specs.Chars.{same, no_code}
 use Rattle.definition.specs.Entry.{refusal}
-use Rattle.definition.specs.Reading.{Outcome, accepts, refuses, zeros}
+use Rattle.definition.specs.Reading.{Outcome, accepts, refuses}
 use Rattle.definition_names.specs.Names.{Entry, named, twice, index_of, refuse, indexed, in_room, against, build, check, index_after, build_into, first_field, name_of, bound, entry_of, scalar_at, searched}
 use Rattle.definition_names.specs.IsIndex.{count}
 use Rattle.definition.proofs.Moves.CharLaws.{cases, same_true, same_eq}
 use Rattle.definition_names.proofs.NameLists.{same?, count_later, count_none}
 use Rattle.definition_names.proofs.NameFields.{stop_at, go_on, up_to_none}
 use Rattle.definition_names.proofs.NameChecked.{index_size}
-use Rattle.definition_names.proofs.NamedShown.{check_plain}
-use Rattle.names.specs.Answers.{count_of, Sized, OrderedIs, CheckedIs, DistinctIs, answer_of, CallIs}
-use Rattle.names.specs.declared.Counted.TheVariants.{Wrong, Names}
-use Rattle.names.specs.declared.Answer.{Answer}
-use Rattle.names.specs.declared.Answer.TheVariants.{Entries, Refused}
+use Rattle.names.specs.Answers.{count_of, Sized, OrderedIs, CheckedIs, DistinctIs, number_of, says, answer_of, WrittenIs, CallIs}
+use Rattle.names.specs.declared.IndexError.{IndexError}
+use Rattle.names.specs.declared.IndexError.TheVariants.{LineMalformed, NameTwice, WrongIndex}
 
 -- a file counted
-counted_none : (file : List ℕ) → Wrong ≡ count_of (named file) → named file ≡ none
+counted_none : (file : List ℕ) → None ≡ count_of (named file) → named file ≡ none
 counted_none file h = by (named file) refl
   where
     by : (o : Option (List Entry)) → named file ≡ o → named file ≡ none
     by none e = e
-    by (some es) e = let z : Wrong ≡ Names (length es) = h ∙ ap count_of e in let y : ◌≡◌ {A = ℕ} 0 1 = cc in absurd (omega arith)
+    by (some es) e = let z : None ≡ Some (length es) = h ∙ ap count_of e in let y : ◌≡◌ {A = ℕ} 0 1 = cc in absurd (omega arith)
 
-pub counted_sized : (file : List ℕ) (n : ℕ) → Names n ≡ count_of (named file) → Sized file n
+pub counted_sized : (file : List ℕ) (n : ℕ) → Some n ≡ count_of (named file) → Sized file n
 counted_sized file n h = by (named file) refl
   where
     by : (o : Option (List Entry)) → named file ≡ o → Sized file n
-    by none e = let z : Names n ≡ Wrong = h ∙ ap count_of e in let y : ◌≡◌ {A = ℕ} 0 1 = cc in absurd (omega arith)
-    by (some es) e = let z : Names n ≡ Names (length es) = h ∙ ap count_of e in record { names = es; is = e; size = cc }
+    by none e = let z : Some n ≡ None = h ∙ ap count_of e in let y : ◌≡◌ {A = ℕ} 0 1 = cc in absurd (omega arith)
+    by (some es) e = let z : Some n ≡ Some (length es) = h ∙ ap count_of e in record { names = es; is = e; size = cc }
 
 -- a part of n places
-pub sized_part : (file l : List ℕ) (n : ℕ) → n ≤ length l → Sized file n → Sized file (length (take n l))
-sized_part file l n h s = rw (length-take-le n l h) s
+-- a call that refuses: before the list is filled with zeros, and after
+pub write_refused : (file l m : List ℕ) (e : IndexError) → build file (length l) ≡ refuse (number_of e) → WrittenIs (build_into file l) m (Err e)
+unfolding build_into
+write_refused file l m e h = (rw h, tt)
 
--- a call that refuses
-pub build_refused : (file l m : List ℕ) (r : Answer) (k n : ℕ) → build file (length l) ≡ refuse k → r ≡ Refused k → m ≡ replicate n 0 → n ≡ length l → CallIs (build_into file l) m r
-unfolding build_into index_after refusal
-build_refused file l m r k n e a b h = rw (e, ← h) (a, b)
+pub build_zeroed : (file l k m : List ℕ) (r : Result ℕ IndexError) → is_err r ≡ true → WrittenIs (build_into file l) k r → m ≡ replicate (length l) 0 → CallIs (build_into file l) m r
+unfolding build_into index_after
+build_zeroed file l k m (Ok n) t w a = absurd (true≢false (sym t))
+build_zeroed file l k m (Err e) t w a = (w.0, by (build file (length l)) refl)
+  where
+    by : (o : Outcome (List ℕ)) → build file (length l) ≡ o → m ≡ index_after (build file (length l)) l
+    by (accepts x) q = let z : says (Err e) ≡ accepts (length x) = w.0 ∙ ap answer_of q in let y : ◌≡◌ {A = ℕ} 0 1 = cc in absurd (omega arith)
+    by (refuses r) q = rw (q, index_after) a
 
 module _ (file : List ℕ) where
   -- a file that is too long
@@ -56,8 +60,8 @@ module _ (file : List ℕ) where
     unfolding build
     build_long room = rw (le-leb (2 ^ 32) (length file) long)
 
-    pub check_long : (l : List ℕ) → Refused wrong_index ≡ answer_of (check file l)
-    unfolding check refusal
+    pub check_long : (l : List ℕ) → says (Err WrongIndex) ≡ answer_of (check file l)
+    unfolding check
     check_long l = rw (le-leb (2 ^ 32) (length file) long)
 
   module _ (short : length file < 2 ^ 32) where
@@ -70,7 +74,7 @@ module _ (file : List ℕ) where
     check_is l o e = rw (lt-leb (2 ^ 32) (length file) short, e)
 
     -- a malformed one
-    module _ (w : Wrong ≡ count_of (named file)) where
+    module _ (w : None ≡ count_of (named file)) where
       malformed_is : indexed (named file) ≡ refuse line_malformed
       unfolding indexed
       malformed_is = rw (counted_none file w)
@@ -78,8 +82,7 @@ module _ (file : List ℕ) where
       pub build_malformed : (room : ℕ) → build file room ≡ refuse line_malformed
       build_malformed room = build_is room _ malformed_is
 
-      pub check_malformed : (l : List ℕ) → Refused line_malformed ≡ answer_of (check file l)
-      unfolding refusal
+      pub check_malformed : (l : List ℕ) → says (Err LineMalformed) ≡ answer_of (check file l)
       check_malformed l = rw (check_is l _ malformed_is)
 
     -- one with n names
@@ -97,21 +100,19 @@ module _ (file : List ℕ) where
       indexed_once t = rw (s.is, t)
 
       -- a lent list checked
-      pub check_right : (l : List ℕ) → CheckedIs file l true → Entries n ≡ answer_of (check file l)
+      pub check_right : (l : List ℕ) → CheckedIs file l true → says (Ok n) ≡ answer_of (check file l)
       check_right l c =
           let r = c s.names s.is in
           rw (check_is l _ (indexed_once r.0), same_eq l (index_of s.names) r.1, index_size s.names, s.size)
 
-      pub check_wrong : (l : List ℕ) → CheckedIs file l false → DistinctIs file true → Refused wrong_index ≡ answer_of (check file l)
-      unfolding refusal
+      pub check_wrong : (l : List ℕ) → CheckedIs file l false → DistinctIs file true → says (Err WrongIndex) ≡ answer_of (check file l)
       check_wrong l c d =
           let t = twice_is true d in
           rw (check_is l _ (indexed_once t))
           (cases (same l (index_of s.names)) (λ u. absurd (c s.names s.is t (same_true l (index_of s.names) u)))
           (λ u. rw u))
 
-      pub check_twice : (l : List ℕ) → DistinctIs file false → Refused name_twice ≡ answer_of (check file l)
-      unfolding refusal
+      pub check_twice : (l : List ℕ) → DistinctIs file false → says (Err NameTwice) ≡ answer_of (check file l)
       check_twice l d = rw (check_is l _ (indexed_twice (twice_is false d)))
 
       -- an index built
@@ -124,14 +125,10 @@ module _ (file : List ℕ) where
       pub build_met : (room : ℕ) → DistinctIs file false → build file room ≡ refuse name_twice
       build_met room d = build_is room _ (indexed_twice (twice_is false d))
 
-      pub build_twice : (l m part : List ℕ) (r : Answer) → n ≤ length l → OrderedIs file part false → length part ≡ length (take n l) → r ≡ Refused name_twice → m ≡ zeros (part ++ drop n l) → CallIs (build_into file l) m r
-      build_twice l m part r h o p a b =
-          let t = length-take-le n l h in
-          let d = length-drop n l in
-          build_refused file l m r name_twice (length (part ++ drop n l)) (build_is (length l) _ (indexed_twice (o s.names s.is))) a b
-          (length-append part (drop n l) ∙ omega arith)
+      pub build_twice : (l part : List ℕ) → OrderedIs file part false → build file (length l) ≡ refuse name_twice
+      build_twice l part o = build_is (length l) _ (indexed_twice (o s.names s.is))
 
-      pub build_done : (l m part : List ℕ) → n ≤ length l → OrderedIs file part true → m ≡ part ++ drop n l → CallIs (build_into file l) m (Entries n)
+      pub build_done : (l m part : List ℕ) → n ≤ length l → OrderedIs file part true → m ≡ part ++ drop n l → WrittenIs (build_into file l) m (Ok n)
       unfolding build_into index_after
       build_done l m part h o w =
           let r = o s.names s.is in
@@ -179,23 +176,20 @@ module _ (file index name : List ℕ) where
 
 -- THE CHECK'S ANSWER TAKEN APART: a refusal has its number alone; else there is an index
 module _ (file index : List ℕ) where
-  pub answer_refused : (n : ℕ) → Refused n ≡ answer_of (check file index) → check file index ≡ refuses (refusal n 0 0 0 0)
-  answer_refused n h = by (check file index) refl
+  pub answer_refused : (e : IndexError) → says (Err e) ≡ answer_of (check file index) → check file index ≡ refuses (refusal (number_of e) 0 0 0 0)
+  answer_refused e h = by (check file index) refl
     where
-      by : (o : Outcome (List ℕ)) → check file index ≡ o → check file index ≡ refuses (refusal n 0 0 0 0)
-      by (accepts l) e = let z : Refused n ≡ Entries (length l) = h ∙ ap answer_of e in let y : ◌≡◌ {A = ℕ} 0 1 = cc in absurd (omega arith)
-      by (refuses r) e =
-          let z : Refused n ≡ Refused r.number = h ∙ ap answer_of e in
-          let y : n ≡ r.number = cc in
-          e ∙ ap refuses ((check_plain file index r e).alone ∙ ap (λ k. refusal k 0 0 0 0) (sym y))
+      by : (o : Outcome (List ℕ)) → check file index ≡ o → check file index ≡ refuses (refusal (number_of e) 0 0 0 0)
+      by (accepts l) q = let z : says (Err e) ≡ accepts (length l) = h ∙ ap answer_of q in let y : ◌≡◌ {A = ℕ} 0 1 = cc in absurd (omega arith)
+      by (refuses r) q = let z : says (Err e) ≡ refuses r = h ∙ ap answer_of q in let y : r ≡ refusal (number_of e) 0 0 0 0 = cc in rw (← y) q
 
   pub record Indexed : Type 0 where
     pub list : List ℕ
     pub is : check file index ≡ accepts list
 
-  pub answer_indexed : (n : ℕ) → Entries n ≡ answer_of (check file index) → Indexed
+  pub answer_indexed : (n : ℕ) → says (Ok n) ≡ answer_of (check file index) → Indexed
   answer_indexed n h = by (check file index) refl
     where
       by : (o : Outcome (List ℕ)) → check file index ≡ o → Indexed
-      by (accepts l) e = record { list = l; is = e }
-      by (refuses r) e = let z : Entries n ≡ Refused r.number = h ∙ ap answer_of e in let y : ◌≡◌ {A = ℕ} 0 1 = cc in absurd (omega arith)
+      by (accepts l) q = record { list = l; is = q }
+      by (refuses r) q = let z : says (Ok n) ≡ refuses r = h ∙ ap answer_of q in let y : ◌≡◌ {A = ℕ} 0 1 = cc in absurd (omega arith)

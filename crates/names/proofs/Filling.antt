@@ -9,10 +9,9 @@ use native.Mathlib.Omega.{arith}
 use lib.ListN.{length, take, set, length-append, length-set}
 use lib.Seq.{take-suc-set}
 use Rattle.definition_names.specs.Names.{name_of, Entry, at, names, with_line, named_from, code_at}
-use Rattle.definition_names.proofs.NameLists.{same?}
 use Rattle.definition_names.proofs.NameIndex.{Faithful, all_none, all_cons}
 use Rattle.definition_names.proofs.NameLookup.{all_append}
-use Rattle.names.specs.Answers.{onto, FilledOf}
+use Rattle.names.specs.Answers.{onto}
 
 pub onto_none : (o : Option (List Entry)) → o ≡ onto [] o
 onto_none none = refl
@@ -50,48 +49,6 @@ filling file start l = record {
 }
 
 module _ (file : List ℕ) (start : ℕ) (l : List ℕ) (p n : ℕ) (g : Filling file start l p n) where
-  pub fill_bad : {P : Type 0} → (named_from file start ≡ none → ⊥) → named_from file p ≡ none → P
-  fill_bad h k = absurd (h (g.is ∙ rw k))
-
-  pub fill_full : n ≡ length l → p < length file → FilledOf file start l n p
-  fill_full h k = record {
-    run = g.run;
-    is = g.is;
-    count = g.count;
-    offsets = g.offsets;
-    faithful = g.faithful;
-    room = g.room;
-    moves = λ a b. same? p start (λ e. let z = g.begun e in absurd (omega arith)) (λ e. let o = g.on in omega arith);
-    ended = λ a. absurd (omega arith);
-  }
-
-  pub fill_end : length file ≤ p → FilledOf file start l n p
-  fill_end h = record {
-    run = g.run;
-    is = g.is;
-    count = g.count;
-    offsets = g.offsets;
-    faithful = g.faithful;
-    room = g.room;
-    moves = λ a b. omega arith;
-    ended = λ a. h;
-  }
-
-  pub fill_skip : (next : ℕ) → (p < next) × (next ≤ length file) × (named_from file p ≡ named_from file next) → Filling file start l next n
-  fill_skip next h =
-      let o = g.on in
-      let k = h.0 in
-      record {
-        run = g.run;
-        is = g.is ∙ ap (onto g.run) h.2;
-        count = g.count;
-        offsets = g.offsets;
-        faithful = g.faithful;
-        room = g.room;
-        on = omega arith;
-        begun = λ a. absurd (omega arith);
-      }
-
   pub fill_add : (next : ℕ) → n < length l → (p < next) × (next ≤ length file) × (named_from file p ≡ with_line p (names (name_of file p) (code_at file p)) (named_from file next)) → Filling file start (set l n p) next (n + 1)
   fill_add next r h =
       let o = g.on in

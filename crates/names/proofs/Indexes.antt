@@ -3,13 +3,12 @@ use mathlib.Core.Path.{◌≡◌, refl, sym, ap, ◌∙◌}
 use mathlib.Core.Bool.{Bool, true, false}
 use mathlib.Core.List.{List, [], ◌∷◌, ◌++◌, map, append-nil}
 use mathlib.Core.Option.{Option, none, some}
-use Prim.Native.Nat.{ℕ, zero, suc, ◌+◌, ◌-◌}
+use Prim.Native.Nat.{ℕ, ◌+◌}
 use native.Mathlib.Omega.{arith}
-use lib.Dec.{eqb}
 use lib.ListN.{length, get_or, length-map, length-append}
 use lib.Seq.{take_all}
 use Rattle.definition_names.specs.Names.{Entry, at, named_from, named, twice, index_of}
-use Rattle.definition_names.specs.IsIndex.{bit, count, Perm, Rising, starts_at, is_start, in_order}
+use Rattle.definition_names.specs.IsIndex.{bit, count, Perm, Rising, is_start, in_order}
 use Rattle.definition.proofs.Moves.CharLaws.{cases}
 use Rattle.definition_names.proofs.NameOrder.{never}
 use Rattle.definition_names.proofs.NameLists.{same?, count_at}
@@ -21,13 +20,6 @@ use Rattle.ordering.specs.Sorting.{Sorted, Falls, RisingIs}
 use Rattle.names.specs.Answers.{Starts, Strays, FilledOf, Sized, OrderedIs, CheckedIs}
 
 -- where a line begins
-pub starts_after : (file : List ℕ) (p : ℕ) → (p ≡ 0 → ⊥) → eqb (get_or file (p - 1) 0) 10 ≡ starts_at file p
-starts_after file zero h = absurd (h refl)
-starts_after file (suc q) h = let e : suc q - 1 ≡ q = omega arith in rw e
-
-pub starts_more : (file l : List ℕ) (k : ℕ) → Starts file l k → is_start file (get_or l k 0) ≡ true → Starts file l (k + 1)
-starts_more file l k s h i m = same? i k (λ e. rw e h) (λ e. s i (omega arith))
-
 bit_one : (t : Bool) → t ≡ true → bit t ≡ 1
 unfolding bit
 bit_one t e = rw e

@@ -1,4 +1,6 @@
 -- Names found distinct block by block. Assumes nothing.
+use Rattle.std.specs.Prelude as p
+use Rattle.std.proofs.Common.{Some, None, unwrap_or, IfSome, is_some, true≢false, le_refl}
 use mathlib.Core.Path.{◌≡◌, refl, sym, ap, ◌∙◌}
 use mathlib.Core.Bool.{Bool, true, false, not}
 use mathlib.Core.List.{List, [], ◌∷◌, ◌++◌, map, append-nil}
@@ -26,6 +28,15 @@ pub entry_name : (file block : List ℕ) (p q k : ℕ) → Rising (in_order file
 unfolding name_of
 entry_name file block p q k r e h = rw (h, e) (entry_is file block (first_field (drop (name_at file p) file)) r)
 
+-- an entry that is found, and one that is not
+pub found_within : (r : p.Option ℕ) (n k : ℕ) → unwrap_or r n ≡ k → IfSome r (λ j. j < n) → is_some r ≡ true → k < n
+found_within None n k e h t = absurd (true≢false (sym t))
+found_within (Some j) n k e h t = rw (← e) h
+
+pub missed_past : (r : p.Option ℕ) (n k : ℕ) → unwrap_or r n ≡ k → is_some r ≡ false → n ≤ k
+missed_past None n k e t = rw (← e) (le_refl n)
+missed_past (Some j) n k e t = absurd (true≢false t)
+
 -- a block met by later lines
 module _ (file block : List ℕ) where
   pub record Meeting (start p : ℕ) : Type 0 where
@@ -37,12 +48,6 @@ module _ (file block : List ℕ) where
   meeting start = record { run = []; is = onto_none _; free = all_none _ }
 
   module _ (start p : ℕ) (g : Meeting start p) where
-    pub meet_bad : {P : Type 0} → (named_from file start ≡ none → ⊥) → named_from file p ≡ none → P
-    meet_bad h k = absurd (h (g.is ∙ rw k))
-
-    pub meet_skip : (next : ℕ) → named_from file p ≡ named_from file next → Meeting start next
-    meet_skip next h = record { run = g.run; is = g.is ∙ ap (onto g.run) h; free = g.free }
-
     module _ (next k : ℕ) (h : named_from file p ≡ with_line p (names (name_of file p) (code_at file p)) (named_from file next)) (e : EntryIs file block (name_of file p) k) where
       abbrev here : Entry
       here = record { at = p; name = name_of file p; code = code_at file p }
@@ -124,9 +129,6 @@ run_part file start l used next r f o p = record {
         (λ h. rises_new file start l p.list used next f p.sorted h.0 true h.1) p.is
 
 -- the file is read on after a run
-pub onto_sound : (file : List ℕ) (start : ℕ) (l : List ℕ) (used next : ℕ) → FilledOf file start l used next → (named_from file start ≡ none → ⊥) → named_from file next ≡ none → ⊥
-onto_sound file start l used next f h k = h (f.is ∙ rw k)
-
 -- blocks passed
 pub record Rest (file : List ℕ) (p : ℕ) (es : List Entry) : Type 0 where
   pub rest : List Entry

@@ -5,7 +5,7 @@ use Prim.Native.Nat.{ℕ, ◌+◌, ◌*◌, ◌≤◌, ◌<◌}
 use native.Mathlib.Omega.{arith}
 use lib.Dec.{eqb}
 use lib.ListN.{length, get_or, drop}
-use borrow.Author.Tests.{le-leb, lt-leb}
+use borrow.Author.Tests.{ne_eqb, le-leb, lt-leb}
 use Rattle.definition.specs.Escapes.{hex_digit}
 use Rattle.definition_names.specs.Names.{no_value, hex_value, up_to, first_field, code_at}
 use Rattle.definition_names.specs.IsIndex.{bit, count}
@@ -85,3 +85,11 @@ module _ (file : List ℕ) (p i marks : ℕ) (g : Ending file p i marks) where
       ends = let e = rw (up_to_more 10 file i inl h) at g.ends in omega arith;
       has = let e = rw (up_to_more 10 file i inl h) at g.has in omega arith;
     }
+
+    pub ends_mark : get_or file i 0 ≡ 59 → Ending file p (i + 1) (marks + 1)
+    unfolding bit
+    ends_mark h = ends_later (λ z. omega arith) 1 (rw h) (omega arith)
+
+    pub ends_other : (get_or file i 0 ≡ 10 → ⊥) → (get_or file i 0 ≡ 59 → ⊥) → Ending file p (i + 1) marks
+    unfolding bit
+    ends_other h n = let e : marks + 0 ≡ marks = omega arith in rw e at (ends_later h 0 (rw (ne_eqb 59 (get_or file i 0) (λ z. n (sym z)))) (omega arith))

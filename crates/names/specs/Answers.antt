@@ -1,29 +1,37 @@
 -- What the readers of a file of names answer.
-use Rattle.std.specs.Prelude.{ℕ, ◌≤◌, ◌<◌, ◌≡◌, ◌⊎◌, Bool, true, false, not, List, ◌++◌, map, length, take, get_or}
+use Rattle.std.specs.Prelude.{ℕ, ◌≤◌, ◌<◌, ◌≡◌, ◌⊎◌, Bool, true, false, not, if◌then◌else◌, List, ◌++◌, map, length, take, get_or, Some, None, Result, Ok, Err, IfOk}
+use Rattle.std.specs.Prelude as p
 use Rattle.std.proofs.Math.Option.{Option, none, some}
+use Rattle.definition.specs.Numbers.{line_malformed, name_twice, too_little_index_room, wrong_index}
+use Rattle.definition.specs.Entry.{refusal}
 use Rattle.definition.specs.Reading.{Outcome, accepts, refuses}
-use Rattle.definition_names.specs.Names.{Entry, at, names, with_line, named_from, named, twice, index_of, first_field, name_of, code_at, BuildCall}
-use Rattle.definition_names.specs.IsIndex.{count, Rising, is_start, in_order}
+use Rattle.definition_names.specs.Names.{Entry, at, names, with_line, named_from, named, twice, index_of, name_of, code_at, no_value, BuildCall}
+use Rattle.definition_names.specs.IsIndex.{Rising, is_start, in_order}
+use Rattle.definition_names.proofs.NameScan.{DigitsOf}
 use Rattle.definition_names.proofs.NameIndex.{All, Faithful}
 use Rattle.ordering.specs.Sorting.{Sorted, Falls}
+use Rattle.names.specs.declared.Digits.{Digits}
 use Rattle.names.specs.declared.Line.{Line}
-use Rattle.names.specs.declared.Line.TheVariants.{Malformed, Nameless, Named}
-use Rattle.names.specs.declared.Counted.{Counted}
-use Rattle.names.specs.declared.Counted.TheVariants.{Wrong, Names}
-use Rattle.names.specs.declared.Answer.{Answer}
-use Rattle.names.specs.declared.Answer.TheVariants.{Entries, Refused}
+use Rattle.names.specs.declared.IndexError.{IndexError}
+use Rattle.names.specs.declared.IndexError.TheVariants.{LineMalformed, NameTwice, TooLittleRoom, WrongIndex}
+
+-- the value of the digits at p, and where they end
+abbrev pub DigitsIs : List ℕ → ℕ → p.Option Digits → Type 0
+DigitsIs file p None = code_at file p ≡ no_value
+DigitsIs file p (Some d) = DigitsOf file p d.value d.mark × (d.value < no_value)
 
 -- what the line at p adds, and where the next one begins
-abbrev pub Steps : List ℕ → ℕ → Line → Type 0
-Steps file p Malformed = named_from file p ≡ none
-Steps file p (Nameless next) = (p < next) × (next ≤ length file) × (named_from file p ≡ named_from file next)
-Steps file p (Named next) =
-    (p < next) × (next ≤ length file) × (named_from file p ≡ with_line p (names (name_of file p) (code_at file p)) (named_from file next))
+abbrev pub Steps : List ℕ → ℕ → p.Option Line → Type 0
+Steps file p None = named_from file p ≡ none
+Steps file p (Some l) =
+    (p < l.next)
+    × (l.next ≤ length file)
+    × (named_from file p ≡ (if l.named then with_line p (names (name_of file p) (code_at file p)) (named_from file l.next) else named_from file l.next))
 
 -- how many names
-abbrev pub count_of : Option (List Entry) → Counted
-count_of none = Wrong
-count_of (some es) = Names (length es)
+abbrev pub count_of : Option (List Entry) → p.Option ℕ
+count_of none = None
+count_of (some es) = Some (length es)
 
 -- a line with a name begins at each of the first n offsets
 abbrev pub Starts : List ℕ → List ℕ → ℕ → Type 0
@@ -111,15 +119,26 @@ pub record RunIs (file : List ℕ) (p : ℕ) (r : Bool) (next : ℕ) : Type 0 wh
 abbrev pub DistinctIs : List ℕ → Bool → Type 0
 DistinctIs file r = (es : List Entry) → named file ≡ some es → r ≡ not (twice es)
 
--- r: a `;` stands in a name
-abbrev pub MarkedIs : List ℕ → Bool → Type 0
-MarkedIs name true = 1 ≤ count 59 name
-MarkedIs name false = first_field name ≡ name
+-- the number of a refusal
+abbrev pub number_of : IndexError → ℕ
+number_of LineMalformed = line_malformed
+number_of NameTwice = name_twice
+number_of TooLittleRoom = too_little_index_room
+number_of WrongIndex = wrong_index
+
+-- how many entries, or the refusal
+abbrev pub says : Result ℕ IndexError → Outcome ℕ
+says (Ok n) = accepts n
+says (Err e) = refuses (refusal (number_of e) 0 0 0 0)
 
 -- what a call returns, and what it leaves
-abbrev pub answer_of : Outcome (List ℕ) → Answer
-answer_of (accepts l) = Entries (length l)
-answer_of (refuses r) = Refused r.number
+abbrev pub answer_of : Outcome (List ℕ) → Outcome ℕ
+answer_of (accepts l) = accepts (length l)
+answer_of (refuses r) = refuses r
 
-abbrev pub CallIs : BuildCall → List ℕ → Answer → Type 0
-CallIs c index r = (r ≡ answer_of c.outcome) × (index ≡ c.index)
+abbrev pub CallIs : BuildCall → List ℕ → Result ℕ IndexError → Type 0
+CallIs c index r = (says r ≡ answer_of c.outcome) × (index ≡ c.index)
+
+-- the same, but for what it leaves where it refuses
+abbrev pub WrittenIs : BuildCall → List ℕ → Result ℕ IndexError → Type 0
+WrittenIs c index r = (says r ≡ answer_of c.outcome) × IfOk r (λ n. index ≡ c.index)

@@ -1,25 +1,54 @@
 // Names from a lent file: its lines, its index built and checked, and names looked up.
 #![tactic(auto)]
 
-ghost use Rattle.std.specs.Prelude.{◌≡◌, ◌≤◌, ◌<◌, ◌^◌, eqb, length};
+ghost use Rattle.std.specs.Prelude.{◌≡◌, ◌≤◌, ◌<◌, ◌^◌, length, unwrap_or, IfSome};
 ghost use Rattle.std.proofs.Math.Option.{none};
-ghost use Rattle.definition.specs.Chars.{byte};
+ghost use Rattle.definition.specs.Chars.{no_code};
 ghost use Rattle.definition.specs.Escapes.{hex_digit};
-ghost use Rattle.definition.specs.Reading.{zeros};
 ghost use Rattle.definition_names.specs.Names.{is_scalar, named_from, named, scalar_at, searched, check, build_into};
-ghost use Rattle.definition_names.specs.IsIndex.{bit, starts_at, is_start, in_order, Rising};
-ghost use Rattle.definition_names.proofs.NameScan.{EndsOf, DigitsOf};
-ghost use Rattle.names.specs.declared.Answer.TheVariants.{Refused};
-ghost use Rattle.names.specs.Answers.{Steps, count_of, StartsIs, FilledOf, Sized, OrderedIs, CheckedIs, MeetsIs, PartIs, RunIs, DistinctIs, answer_of, CallIs, MarkedIs};
+ghost use Rattle.definition_names.specs.IsIndex.{starts_at, is_start, in_order, Rising};
+ghost use Rattle.definition_names.proofs.NameScan.{EndsOf};
+ghost use Rattle.names.specs.Answers.{number_of, Steps, DigitsIs, count_of, StartsIs, FilledOf, Sized, OrderedIs, CheckedIs, MeetsIs, PartIs, RunIs, DistinctIs, says, answer_of, WrittenIs, CallIs};
+
+use numbering::Number;
 
 // What is searched as an empty file is, and is not empty.
+// A file, and no sentinel: nothing is compared with it.
 pub const NO_NAMES: [u8; 1] = *b";";
 
-// What a call for an index gives: how many entries it has, or a refusal's number.
+// A lent file of names, with the index beside it; where the file is empty, the held names are meant.
 #[derive(Clone, Copy)]
-pub enum Answer {
-    Entries(u32),
-    Refused(u32),
+pub struct Names<'a> {
+    pub file: &'a [u8],
+    pub index: &'a [u32],
+}
+
+// The held names.
+pub const HELD: Names<'static> = Names {
+    file: &[],
+    index: &[],
+};
+
+// Why a file has no index, or a list is not its index.
+#[derive(Clone, Copy, PartialEq, Eq)]
+pub enum IndexError {
+    LineMalformed,
+    NameTwice,
+    TooLittleRoom,
+    WrongIndex,
+}
+
+impl From<IndexError> for u32 {
+    ghost from_gives = { λ e n. n ≡ number_of e };
+
+    fn from(e: IndexError) -> u32 {
+        match e {
+            IndexError::LineMalformed => Number::LineMalformed as u32,
+            IndexError::NameTwice => Number::NameTwice as u32,
+            IndexError::TooLittleRoom => Number::TooLittleIndexRoom as u32,
+            IndexError::WrongIndex => Number::WrongIndex as u32,
+        }
+    }
 }
 
 // The value of the hex digits up to a `;`, and where that stands.
@@ -36,19 +65,11 @@ pub(crate) struct Ends {
     marks: usize,
 }
 
-// What a line is, with the offset of the next one.
+// A line that is not malformed: whether it has a name, and where the next one begins.
 #[derive(Clone, Copy)]
-pub(crate) enum Line {
-    Malformed,
-    Nameless(usize),
-    Named(usize),
-}
-
-// How many lines have a name.
-#[derive(Clone, Copy)]
-pub(crate) enum Counted {
-    Wrong,
-    Names(u32),
+pub(crate) struct Line {
+    named: bool,
+    next: usize,
 }
 
 // How many lines of a run have a name, and where the run ended.
@@ -65,175 +86,105 @@ pub(crate) struct Run {
     next: usize,
 }
 
-const LINE_MALFORMED: u32 = 60;
-
-const NAME_TWICE: u32 = 61;
-
-const TOO_LITTLE_INDEX_ROOM: u32 = 62;
-
-const WRONG_INDEX: u32 = 63;
-
-// Past every value of six hex digits.
-const NO_VALUE: u32 = 0x1000000;
-
-// Past every code.
-const NO_CODE: u32 = 0x110000;
-
-// The value of a hex digit; 16 if the character is none.
-pub fn hex_digit(c: u32) -> u32
-    ensures { result ≡ hex_digit c }
+// The value of a hex digit.
+pub fn hex_digit(c: u32) -> Option<u32>
+    ensures value { unwrap_or result 16 ≡ hex_digit c }
+    ensures digit { IfSome result (λ d. d < 16) }
 {
+    // A code may be past every byte, so the ranges are numbers: those of `0` to `9`, `A` to `F` and `a` to `f`.
     match c {
-        48..=57 => c - 48,
-        65..=70 => c - 55,
-        97..=102 => c - 87,
-        _ => 16,
+        48..=57 => Some(c - 48),
+        65..=70 => Some(c - 55),
+        97..=102 => Some(c - 87),
+        _ => None,
     }
 }
 
-// The value of the hex digits at an index.
-fn read_digits(file: &[u8], at: usize) -> Digits
-    ensures { DigitsOf file.now at result.value result.mark }
+// The value of the hex digits at an index, if it has no more than six of them.
+fn read_digits(file: &[u8], at: usize) -> Option<Digits>
+    ensures { DigitsIs file.now at result }
 {
     let mut v: u32 = 0;
-    let mut i = at;
-    while i < file.len() {
+    for i in at..file.len() {
         let b = file[i];
         if b == b';' {
-            return Digits { value: v, mark: i };
+            return Some(Digits { value: v, mark: i });
         }
-        let d = hex_digit(b as u32);
-        if 16 <= d {
-            return Digits {
-                value: NO_VALUE,
-                mark: i,
-            };
-        }
+        let d = hex_digit(b as u32)?;
         if 0x100000 <= v {
-            return Digits {
-                value: NO_VALUE,
-                mark: i,
-            };
+            return None;
         }
         v = v * 16 + d;
-        i += 1;
     }
-    Digits { value: v, mark: i }
-}
-
-// 1 for a `;`.
-fn mark_count(b: u8) -> usize
-    ensures { (result ≡ bit (eqb 59 b)) × (result ≤ 1) }
-{
-    if b == b';' { 1 } else { 0 }
+    Some(Digits {
+        value: v,
+        mark: at.max(file.len()),
+    })
 }
 
 // Where the line at an index ends.
 fn line_ends(file: &[u8], at: usize) -> Ends
+    requires { at ≤ length file.now }
     ensures { EndsOf file.now at result.end result.marks }
 {
-    let mut i = at;
-    let mut marks: usize = 0;
-    while i < file.len() {
-        let b = file[i];
-        if b == b'\n' {
-            return Ends { end: i, marks };
+    let mut marks = 0;
+    for i in at..file.len() {
+        match file[i] {
+            b'\n' => return Ends { end: i, marks },
+            b';' => marks += 1,
+            _ => {}
         }
-        let n = mark_count(b);
-        marks += n;
-        i += 1;
     }
-    Ends { end: i, marks }
+    Ends {
+        end: file.len(),
+        marks,
+    }
 }
 
 // Whether a code is a scalar.
 fn is_scalar(v: u32) -> bool
     ensures { result ≡ is_scalar v }
 {
-    if v < 0xD800 {
-        return true;
-    }
-    if v < 0xE000 {
-        return false;
-    }
-    v < NO_CODE
+    matches!(v, 0..=0xD7FF | 0xE000..=0x10FFFF)
 }
 
-// What the line at an index is.
-fn read_line(file: &[u8], at: usize) -> Line
+// What the line at an index is, if it is not malformed.
+fn read_line(file: &[u8], at: usize) -> Option<Line>
     requires { (at < length file.now) × (length file.now < 2 ^ 32) }
     ensures { Steps file.now at result }
 {
-    let e = line_ends(file, at);
-    let end = e.end;
-    let marks = e.marks;
-    if file.len() <= end {
-        return Line::Malformed;
+    let Ends { end, marks } = line_ends(file, at);
+    if file.len() <= end || marks != 14 {
+        return None;
     }
-    if marks != 14 {
-        return Line::Malformed;
+    let Digits { value, mark } = read_digits(file, at)?;
+    if mark < at + 4 || at + 6 < mark {
+        return None;
     }
-    let d = read_digits(file, at);
-    let v = d.value;
-    let mark = d.mark;
-    if v == NO_VALUE {
-        return Line::Malformed;
+    let next = end + 1;
+    match file[mark + 1] {
+        b';' => None,
+        b'<' => Some(Line { named: false, next }),
+        _ => is_scalar(value).then_some(Line { named: true, next }),
     }
-    if mark < at + 4 {
-        return Line::Malformed;
-    }
-    if at + 6 < mark {
-        return Line::Malformed;
-    }
-    let name = mark + 1;
-    let b = file[name];
-    if b == b';' {
-        return Line::Malformed;
-    }
-    if b == b'<' {
-        return Line::Nameless(end + 1);
-    }
-    if is_scalar(v) {
-        return Line::Named(end + 1);
-    }
-    Line::Malformed
 }
 
 // How many lines of a file have a name.
-fn count_named(file: &[u8]) -> Counted
+fn count_named(file: &[u8]) -> Option<u32>
     requires { length file.now < 2 ^ 32 }
     ensures { result ≡ count_of (named file.now) }
 {
     let mut at = 0;
     let mut n: u32 = 0;
+    // A step is a line.
     while at < file.len() {
-        let l = read_line(file, at);
-        match l {
-            Line::Malformed => {
-                return Counted::Wrong;
-            }
-            Line::Nameless(next) => {
-                at = next;
-                continue;
-            }
-            Line::Named(next) => {
-                n += 1;
-                at = next;
-                continue;
-            }
+        let line = read_line(file, at)?;
+        if line.named {
+            n += 1;
         }
+        at = line.next;
     }
-    Counted::Names(n)
-}
-
-// Whether a byte stands at an index.
-fn is_at(file: &[u8], at: usize, b: u8) -> bool
-    ensures { result ≡ eqb (byte file.now at) b }
-{
-    if file.len() <= at {
-        return false;
-    }
-    file[at] == b
+    Some(n)
 }
 
 // Whether a line begins at an index.
@@ -241,38 +192,30 @@ fn begins(file: &[u8], at: usize) -> bool
     requires { at < length file.now }
     ensures { result ≡ starts_at file.now at }
 {
-    if at == 0 {
-        return true;
-    }
-    let before = at - 1;
-    file[before] == b'\n'
+    at == 0 || file[at - 1] == b'\n'
 }
 
 // Whether a line with a name begins at an offset.
+// A guard, since the name is looked for in the file alone.
 fn is_start(file: &[u8], offset: u32) -> bool
     ensures { result ≡ is_start file.now offset }
 {
     let at = offset as usize;
-    if file.len() <= at {
-        return false;
-    }
-    if !begins(file, at) {
+    if file.len() <= at || !begins(file, at) {
         return false;
     }
     let name = ordering::name_at(file, offset);
-    !is_at(file, name, b'<')
+    file.len() <= name || file[name] != b'<'
 }
 
 // Whether a line with a name begins at each offset of a list.
 fn are_starts(file: &[u8], list: &[u32]) -> bool
     ensures { StartsIs file.now list.now result }
 {
-    let mut k = 0;
-    while k < list.len() {
-        if !is_start(file, list[k]) {
+    for &offset in list {
+        if !is_start(file, offset) {
             return false;
         }
-        k += 1;
     }
     true
 }
@@ -284,26 +227,19 @@ fn fill(file: &[u8], start: usize, list: &mut [u32]) -> Filled
 {
     let mut at = start;
     let mut n = 0;
+    // A step is a line.
     while at < file.len() {
         if n == list.len() {
             return Filled { used: n, next: at };
         }
-        let l = read_line(file, at);
-        match l {
-            Line::Malformed => {
-                return Filled { used: n, next: at };
-            }
-            Line::Nameless(next) => {
-                at = next;
-                continue;
-            }
-            Line::Named(next) => {
-                list[n] = at as u32;
-                n += 1;
-                at = next;
-                continue;
-            }
+        let Some(line) = read_line(file, at) else {
+            return Filled { used: n, next: at };
+        };
+        if line.named {
+            list[n] = at as u32;
+            n += 1;
         }
+        at = line.next;
     }
     Filled { used: n, next: at }
 }
@@ -313,7 +249,7 @@ fn order_names(file: &[u8], index: &mut [u32]) -> bool
     requires { (length file.now < 2 ^ 32) × Sized file.now (length index.old) }
     ensures { OrderedIs file.now index.new result }
 {
-    let f = fill(file, 0, index);
+    fill(file, 0, index);
     ordering::sort(file, index);
     ordering::is_rising(file, index)
 }
@@ -323,13 +259,7 @@ fn is_index(file: &[u8], index: &[u32], n: usize) -> bool
     requires { Sized file.now n }
     ensures { CheckedIs file.now index.now result }
 {
-    if n != index.len() {
-        return false;
-    }
-    if !are_starts(file, index) {
-        return false;
-    }
-    ordering::is_rising(file, index)
+    n == index.len() && are_starts(file, index) && ordering::is_rising(file, index)
 }
 
 // Whether a line with a name, from a line on, has the name of an entry of a block.
@@ -338,26 +268,18 @@ fn meets(file: &[u8], start: usize, block: &[u32]) -> bool
     ensures { MeetsIs file.now start block.now result }
 {
     let mut at = start;
+    // A step is a line.
     while at < file.len() {
-        let l = read_line(file, at);
-        match l {
-            Line::Malformed => {
-                return false;
-            }
-            Line::Nameless(next) => {
-                at = next;
-                continue;
-            }
-            Line::Named(next) => {
-                let q = ordering::name_at(file, at as u32);
-                let k = ordering::entry_of(file, block, file, q);
-                if k < block.len() {
-                    return true;
-                }
-                at = next;
-                continue;
+        let Some(line) = read_line(file, at) else {
+            return false;
+        };
+        if line.named {
+            let name = ordering::name_at(file, at as u32);
+            if ordering::entry_of(file, block, file, name).is_some() {
+                return true;
             }
         }
+        at = line.next;
     }
     false
 }
@@ -368,13 +290,7 @@ fn is_apart(file: &[u8], next: usize, part: &mut [u32]) -> bool
     ensures { PartIs file.now part.old next result }
 {
     ordering::sort(file, part);
-    if ordering::is_rising(file, part) {
-        if meets(file, next, part) {
-            return false;
-        }
-        return true;
-    }
-    false
+    ordering::is_rising(file, part) && !meets(file, next, part)
 }
 
 // The run of lines from a line on that a block has room for.
@@ -382,9 +298,7 @@ fn read_run(file: &[u8], start: usize, block: &mut [u32]) -> Run
     requires { (length file.now < 2 ^ 32) × (named_from file.now start ≡ none → ⊥) × (start < length file.now) × (0 < length block.old) }
     ensures { RunIs file.now start result.apart result.next }
 {
-    let f = fill(file, start, block);
-    let used = f.used;
-    let next = f.next;
+    let Filled { used, next } = fill(file, start, block);
     let apart = is_apart(file, next, &mut block[..used]);
     Run { apart, next }
 }
@@ -396,106 +310,83 @@ fn is_distinct(file: &[u8]) -> bool
 {
     let mut block = [0u32; 4096];
     let mut at = 0;
+    // A step is a run of lines.
     while at < file.len() {
         let run = read_run(file, at, &mut block);
-        let apart = run.apart;
-        let next = run.next;
-        if !apart {
+        if !run.apart {
             return false;
         }
-        at = next;
+        at = run.next;
     }
     true
 }
 
-// A refusal: the list is filled with zeros.
-fn refuse(index: &mut [u32], number: u32) -> Answer
-    ensures { (result ≡ Refused number) × (index.new ≡ zeros index.old) }
-{
-    buffers::fill_words(index, 0);
-    Answer::Refused(number)
-}
-
-// Builds the index of a file at the front of a list.
-pub fn build(file: &[u8], index: &mut [u32]) -> Answer
-    ensures { CallIs (build_into file.now index.old) index.new result }
+// Writes the index of a file at the front of a list; where there is none, the list is left in any state.
+fn write_index(file: &[u8], index: &mut [u32]) -> Result<u32, IndexError>
+    ensures { WrittenIs (build_into file.now index.old) index.new result }
 {
     if 0x100000000 <= file.len() {
-        return refuse(index, TOO_LITTLE_INDEX_ROOM);
+        return Err(IndexError::TooLittleRoom);
     }
-    let c = count_named(file);
-    let Counted::Names(n) = c else {
-        return refuse(index, LINE_MALFORMED);
-    };
+    let n = count_named(file).ok_or(IndexError::LineMalformed)?;
     let places = n as usize;
     if index.len() < places {
         if is_distinct(file) {
-            return refuse(index, TOO_LITTLE_INDEX_ROOM);
+            return Err(IndexError::TooLittleRoom);
         }
-        return refuse(index, NAME_TWICE);
+        return Err(IndexError::NameTwice);
     }
-    if order_names(file, &mut index[..places]) {
-        return Answer::Entries(n);
+    if !order_names(file, &mut index[..places]) {
+        return Err(IndexError::NameTwice);
     }
-    refuse(index, NAME_TWICE)
+    Ok(n)
+}
+
+// Builds the index of a file at the front of a list; where there is none, the list is filled with zeros.
+pub fn build(file: &[u8], index: &mut [u32]) -> Result<u32, IndexError>
+    ensures { CallIs (build_into file.now index.old) index.new result }
+{
+    let built = write_index(file, index);
+    if built.is_err() {
+        buffers::fill(index, 0);
+    }
+    built
 }
 
 // Checks that a lent list is the index of a file.
-pub fn check(file: &[u8], index: &[u32]) -> Answer
-    ensures { result ≡ answer_of (check file.now index.now) }
+pub fn check(file: &[u8], index: &[u32]) -> Result<u32, IndexError>
+    ensures { says result ≡ answer_of (check file.now index.now) }
 {
     if 0x100000000 <= file.len() {
-        return Answer::Refused(WRONG_INDEX);
+        return Err(IndexError::WrongIndex);
     }
-    let c = count_named(file);
-    let Counted::Names(n) = c else {
-        return Answer::Refused(LINE_MALFORMED);
-    };
+    let n = count_named(file).ok_or(IndexError::LineMalformed)?;
     if is_index(file, index, n as usize) {
-        return Answer::Entries(n);
+        return Ok(n);
     }
     if is_distinct(file) {
-        return Answer::Refused(WRONG_INDEX);
+        return Err(IndexError::WrongIndex);
     }
-    Answer::Refused(NAME_TWICE)
-}
-
-// Whether a `;` stands in a name.
-fn has_mark(name: &[u8]) -> bool
-    ensures { MarkedIs name.now result }
-{
-    let mut i = 0;
-    while i < name.len() {
-        if name[i] == b';' {
-            return true;
-        }
-        i += 1;
-    }
-    false
+    Err(IndexError::NameTwice)
 }
 
 // The code of the line at an offset, if it is a scalar.
-fn scalar_at(file: &[u8], offset: u32) -> u32
-    ensures { result ≡ scalar_at file.now offset }
+fn scalar_at(file: &[u8], offset: u32) -> Option<u32>
+    ensures code { unwrap_or result no_code ≡ scalar_at file.now offset }
+    ensures below { IfSome result (λ v. v < no_code) }
 {
-    let d = read_digits(file, offset as usize);
-    let v = d.value;
-    if is_scalar(v) {
-        return v;
-    }
-    NO_CODE
+    let value = read_digits(file, offset as usize)?.value;
+    is_scalar(value).then_some(value)
 }
 
-// The code of a name, by any list of offsets; 0x110000 if it is not found.
-pub fn look_up(file: &[u8], index: &[u32], name: &[u8]) -> u32
-    ensures { result ≡ searched file.now index.now name.now }
+// The code of a name, by any list of offsets, if it is found.
+pub fn look_up(file: &[u8], index: &[u32], name: &[u8]) -> Option<u32>
+    ensures code { unwrap_or result no_code ≡ searched file.now index.now name.now }
+    ensures below { IfSome result (λ v. v < no_code) }
 {
-    if has_mark(name) {
-        return NO_CODE;
+    if name.contains(&b';') {
+        return None;
     }
-    let k = ordering::entry_of(file, index, name, 0);
-    if index.len() <= k {
-        return NO_CODE;
-    }
+    let k = ordering::entry_of(file, index, name, 0)?;
     scalar_at(file, index[k])
 }

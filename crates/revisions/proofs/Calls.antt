@@ -2,7 +2,7 @@
 use mathlib.Core.Path.{◌≡◌, refl, sym, ◌∙◌, ap, ap₂}
 use mathlib.Core.Bool.{true, false}
 use mathlib.Core.List.{List, ◌∷◌, map}
-use Prim.Native.Nat.{ℕ, zero, suc, ◌+◌, ◌-◌, ◌*◌}
+use Prim.Native.Nat.{ℕ, zero, suc, ◌+◌, ◌*◌}
 use native.Mathlib.Nat.{add-zero, sub-zero}
 use native.Mathlib.Omega.{arith}
 use lib.ListN.{length, get_or, take, drop}
@@ -33,8 +33,8 @@ module _ (ns w t : List ℕ) where
   unfolding items_of lent_answer held_from answer_from
   items_are = rw (sub-zero count) (ap (items_from 0) (shapes_are text count 0 0))
 
-  pub items_read : (m n : ℕ) → m ≡ get_or ns 6 0 → n ≡ count → items_at w (take (m - 0) t) n 0 ≡ items_of (lent ns w t)
-  items_read m n e f = ap₂ (λ k l. items_at w (take k t) l 0) (sub-zero m ∙ e) f ∙ sym items_are
+  pub items_read : (m n : ℕ) → m ≡ get_or ns 6 0 → n ≡ count → items_at w (take m t) n 0 ≡ items_of (lent ns w t)
+  items_read m n e f = ap₂ (λ k l. items_at w (take k t) l 0) e f ∙ sym items_are
 
 -- THE CALL
 module _ (x y : Lent) (list : List ℕ) where

@@ -10,7 +10,6 @@ use lib.ListN.{length, drop, length-drop, length-append, length-reverse}
 use lib.Seq.{drop-drop, drop-nil}
 use borrow.Author.Tests.{lt-ltb, le-ltb}
 use Rattle.definition.specs.Reading.{zeros}
-use Rattle.definition_revisions.specs.Revisions as d
 use Rattle.definition_revisions.specs.Revisions.{Shape, items_from, same_item, run, front, back, comparison, counting, middle, middles, compares, short, compare_roomed, middles_after, compare_called}
 use Rattle.definition_revisions.proofs.Laws.Runs.{Items, run_yes, run_no, run_other, run_begins}
 use Rattle.definition_revisions.proofs.Laws.Forward.{last_run, forward, forward_back}
@@ -19,7 +18,8 @@ use Rattle.buffers.specs.Over.{over}
 use Rattle.buffers.proofs.Over.{over_nil, over_append, over_front}
 use Rattle.revisions.specs.declared.Front.{Front}
 use Rattle.revisions.specs.declared.Comparison.{Comparison}
-use Rattle.revisions.specs.declared.Answer.TheVariants.{Compares, Short}
+use Rattle.std.specs.Prelude.{Ok, Err}
+use Rattle.revisions.specs.declared.Uncompared.TheVariants.{Short}
 use Rattle.revisions.specs.Walks.{shapes_from, items_at, FrontIs}
 use Rattle.revisions.specs.Answers.{comparison_of, Within, CallIs}
 
@@ -151,7 +151,7 @@ module _ (list : List ℕ) (x : Comparison) where
 
   -- there is no room, and there is
   pub no_room : length list < size x.first + size x.second → {n : ℕ} {list' : List ℕ} → n ≡ min (size x.first + size x.second) 4294967295 → list' ≡ zeros list
-      → CallIs (compare_called (compare_roomed (length list) (compares (comparison_of x))) list) list' (Short n)
+      → CallIs (compare_called (compare_roomed (length list) (compares (comparison_of x))) list) list' (Err (Short n))
   unfolding compare_called compare_roomed middles_after
   no_room h e f =
       let t = lt-ltb (length list) (length (middles (comparison_of x))) (rw sizes h) in
@@ -168,7 +168,7 @@ module _ (list : List ℕ) (x : Comparison) where
 
   pub with_room : size x.first + size x.second ≤ length list → {list' list'' : List ℕ}
       → list' ≡ over list 0 (counting x.front (size x.first)) → list'' ≡ over list' (size x.first) (counting x.front (size x.second))
-      → CallIs (compare_called (compare_roomed (length list) (compares (comparison_of x))) list) list'' (Compares x)
+      → CallIs (compare_called (compare_roomed (length list) (compares (comparison_of x))) list) list'' (Ok x)
   unfolding compare_called compare_roomed middles_after
   with_room h {list'} {list''} e f =
       let t = le-ltb (length list) (length (middles (comparison_of x))) (rw sizes h) in

@@ -7,82 +7,28 @@ use native.Mathlib.Nat.{sub_self, sub-zero, add-zero}
 use native.Mathlib.Numerals.{add-one}
 use native.Mathlib.Omega.{arith}
 use lib.Dec.{eqb}
-use lib.ListN.{length, get_or, drop, drop_of_length-le}
-use lib.Seq.{drop-cons}
-use borrow.Author.Tests.{eq-eqb, ne_eqb}
-use Rattle.definition.specs.Chars.{part, same}
+use lib.Pointwise.{pointwise}
+use lib.ListN.{length}
+use Rattle.definition.specs.Chars.{same}
 use Rattle.definition.specs.Words.{owing}
 use Rattle.definition_revisions.specs.Revisions.{Shape, onto, items_from, same_shape, same_item}
-use Rattle.definition.proofs.Moves.CharLaws.{same_true}
-use Rattle.definition_revisions.proofs.Laws.Runs.{item_true, shape_true}
+use Rattle.definition_revisions.proofs.Laws.Runs.{item_true}
 use Rattle.definition_revisions.proofs.Laws.Items.{opened, onto_all, items_turn, onto_append, onto_first}
-use Rattle.formed.specs.declared.Head.{Head}
 use Rattle.formed.specs.Heads.{head_at}
-use Rattle.revisions.specs.Walks.{conversion_of, shape_of_head, shape_at, shapes_from, items_at}
+use Rattle.revisions.specs.Walks.{shape_of_head, shape_at, shapes_from, items_at}
 
 -- a test that cannot hold
 pub not_so : (t : Bool) → (t ≡ true → ⊥) → t ≡ false
 not_so true f = absurd (f refl)
 not_so false f = refl
 
--- TEXTS THAT ARE THE SAME, byte by byte
-pub same_longer : (s t : List ℕ) → (length t ≡ length s → ⊥) → same s t ≡ false
-same_longer s t h = not_so (same s t) (λ e. h (ap length (sym (same_true s t e))))
-
-same_turn : (s t : List ℕ) (i : ℕ) → i < length s → i < length t → same (drop i s) (drop i t) ≡ (eqb (get_or s i 0) (get_or t i 0) && same (drop (i + 1) s) (drop (i + 1) t))
+-- TEXTS THAT ARE THE SAME: the library's test is the definition's
+pub same_pointwise : (xs ys : List ℕ) → pointwise eqb xs ys ≡ same xs ys
 unfolding same
-same_turn s t i h k = rw (drop-cons s i 0 h, drop-cons t i 0 k, add-one)
-
-module _ (s t : List ℕ) (i : ℕ) (h : i < length s) (k : i < length t) where
-  pub same_here : get_or s i 0 ≡ get_or t i 0 → same (drop i s) (drop i t) ≡ same (drop (i + 1) s) (drop (i + 1) t)
-  same_here e = same_turn s t i h k ∙ rw (eq-eqb (get_or s i 0) (get_or t i 0) e) refl
-
-  pub differs_here : (get_or s i 0 ≡ get_or t i 0 → ⊥) → same (drop i s) (drop i t) ≡ false
-  differs_here e = same_turn s t i h k ∙ rw (ne_eqb (get_or s i 0) (get_or t i 0) e) refl
-
-pub same_over : (s t : List ℕ) (i : ℕ) → length s ≤ i → length t ≤ i → same (drop i s) (drop i t) ≡ true
-unfolding same
-same_over s t i h k = rw (drop_of_length-le s h, drop_of_length-le t k) refl
-
--- RECORDS THAT ARE EQUAL
-module _ (x y : Shape) where
-  pub other_kind : (x.kind ≡ y.kind → ⊥) → same_shape x y ≡ false
-  other_kind h = not_so (same_shape x y) (λ e. h (ap (λ z. z.kind) (shape_true x y e)))
-
-  pub other_parts : (x.parts ≡ y.parts → ⊥) → same_shape x y ≡ false
-  other_parts h = not_so (same_shape x y) (λ e. h (ap (λ z. z.parts) (shape_true x y e)))
-
-  pub other_conversion : (x.conversion ≡ y.conversion → ⊥) → same_shape x y ≡ false
-  other_conversion h = not_so (same_shape x y) (λ e. h (ap (λ z. z.conversion) (shape_true x y e)))
-
-  pub by_text : x.kind ≡ y.kind → x.conversion ≡ y.conversion → x.parts ≡ y.parts → same_shape x y ≡ same x.text y.text
-  unfolding same_shape
-  by_text k c p = rw (eq-eqb x.kind y.kind k, eq-eqb x.conversion y.conversion c, eq-eqb x.parts y.parts p) (last (same x.text y.text))
-    where
-      last : (t : Bool) → (t && true && true) ≡ t
-      last true = refl
-      last false = refl
-
-module _ (text other : List ℕ) (a b : Head) where
-  abbrev heads : Bool
-  heads = same_shape (shape_of_head text a) (shape_of_head other b)
-
-  pub head_kind : (a.kind ≡ b.kind → ⊥) → false ≡ heads
-  unfolding shape_of_head
-  head_kind h = sym (other_kind (shape_of_head text a) (shape_of_head other b) h)
-
-  pub head_parts : (a.parts ≡ b.parts → ⊥) → false ≡ heads
-  unfolding shape_of_head
-  head_parts h = sym (other_parts (shape_of_head text a) (shape_of_head other b) h)
-
-  pub head_conversion : {m n : ℕ} → m ≡ conversion_of a.kind a.mode → n ≡ conversion_of b.kind b.mode → (m ≡ n → ⊥) → false ≡ heads
-  unfolding shape_of_head
-  head_conversion p q h = sym (other_conversion (shape_of_head text a) (shape_of_head other b) (λ e. h (p ∙ e ∙ sym q)))
-
-  pub head_text : {m n : ℕ} → a.kind ≡ b.kind → a.parts ≡ b.parts → m ≡ conversion_of a.kind a.mode → n ≡ conversion_of b.kind b.mode → m ≡ n
-      → same (part text a.offset (a.offset + a.size)) (part other b.offset (b.offset + b.size)) ≡ heads
-  unfolding shape_of_head
-  head_text k p c d e = sym (by_text (shape_of_head text a) (shape_of_head other b) k (sym c ∙ e ∙ d) p)
+same_pointwise [] [] = refl
+same_pointwise [] (y ∷ ys) = refl
+same_pointwise (x ∷ xs) [] = refl
+same_pointwise (x ∷ xs) (y ∷ ys) = ap (λ t. eqb x y && t) (same_pointwise xs ys)
 
 -- SHAPES one by one
 module _ (w text : List ℕ) where

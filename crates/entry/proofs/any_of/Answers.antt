@@ -1,11 +1,8 @@
-use borrow.Author.Rules.{rules}
-use Prim.Native.Nat.{◌-◌}
 use native.Mathlib.Nat.{sub-zero}
 use mathlib.Core.Path.{◌≡◌, sym, ◌∙◌}
 use mathlib.Core.Bool.{Bool}
-use Rattle.definition.specs.Entry.{any_of}
 use Rattle.entry.specs.Answers.{described, is_of}
-use Rattle.entry.specs.Literals.{literal_at, literals}
+use Rattle.entry.specs.Literals.{literal_at}
 use Rattle.entry.proofs.Literals.{any_turn, any_found, any_none}
 use Rattle.entry.proofs.any_of.Goals as goal
 use Rattle.entry.proofs.any_of.Goals.{After-is_of}
@@ -13,7 +10,7 @@ use Rattle.entry.proofs.any_of.Goals.{After-is_of}
 -- what the test says of the literal
 told : (c : After-is_of) (b : Bool) → c.is_of.result ≡ b → let a = c.args in is_of a.class (literal_at a.numbers.now c.loop-i.i).kind ≡ b
 unfolding described
-told c b t = rw (← c.literal_at-l.ensures) (sym c.is_of.ensures ∙ t)
+told c b t = rw (← c.literal_at.ensures) (sym c.is_of.ensures ∙ t)
 
 pub loop-i-init : goal.loop-i-init
 loop-i-init c = rw sub-zero

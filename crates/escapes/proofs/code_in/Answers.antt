@@ -1,10 +1,10 @@
-use borrow.Author.Rules.{rules}
-use mathlib.Core.Path.{◌∙◌, sym}
+use Rattle.std.proofs.Common.{sym, ◌∙◌, eqb-true}
+use Rattle.std.proofs.lemmas.Bool.{eqb-false}
 use Rattle.escapes.proofs.Lent.{none_lent, some_lent}
 use Rattle.escapes.proofs.code_in.Goals as goal
 
-pub returns-then-file-eq0 : goal.returns-then-file-eq0
-returns-then-file-eq0 c = c.code_of.ensures ∙ sym (none_lent _ _ _ c.if-file-eq0.true)
+pub returns-then-is_empty-clause-code : goal.returns-then-is_empty-clause-code
+returns-then-is_empty-clause-code c = c.code_of.ensures.code ∙ sym (none_lent _ _ _ (eqb-true _ _ (sym c.if-is_empty.ensures)))
 
-pub returns : goal.returns
-returns c = c.look_up.ensures ∙ sym (some_lent _ _ _ c.if-file-eq0.false)
+pub returns-else-is_empty-clause-code : goal.returns-else-is_empty-clause-code
+returns-else-is_empty-clause-code c = c.look_up.ensures.code ∙ sym (some_lent _ _ _ (eqb-false _ _ (sym c.if-is_empty.ensures)))

@@ -1,14 +1,14 @@
-use borrow.Author.Rules.{rules}
+use Rattle.std.proofs.Common.{◌≡◌, Bool, true, false, ◌&&◌, refl}
+use Rattle.escapes.proofs.parse_escaped_char.Goals.{else-bytes-4-via-then-bytes-4+else-c-ge128, else-bytes-4-via-else-bytes-4}
 use native.Mathlib.Omega.{arith}
 use borrow.Author.Tests.{le-leb, lt-leb}
 use Prim.Native.Nat.{ℕ, ◌-◌, ◌<◌}
 use native.Mathlib.Nat.{le_of_suc-le-suc}
 use mathlib.Core.Bool.{true, false}
-use mathlib.Core.Logic.{⊎_elim}
 use mathlib.Core.Path.{sym, ◌∙◌}
 use Rattle.definition.specs.Escapes.{escape_case, escape}
 use Rattle.utf8.proofs.Steps.{Stepped, step_char, step_end}
-use Rattle.escapes.proofs.Letters.{NoDigit, below, above, octal_escape, other_escape}
+use Rattle.escapes.proofs.Letters.{same_escape, NoDigit, below, above, octal_escape, other_escape}
 use Rattle.escapes.proofs.parse_escaped_char.Goals as goal
 use Rattle.escapes.proofs.parse_escaped_char.Goals.{in_default-c-via-then-c-lt48, in_default-c-via-else-c-lt48+else-c-lt56, After-is_any_bytes-bytes, In_default-c}
 
@@ -30,17 +30,8 @@ pub parse_octet-requires : goal.parse_octet-requires
 unfolding escape escape_case
 parse_octet-requires c = digit _ c.in-48-to-55.if-c-lt56-own.true
 
-pub returns-in-92 : goal.returns-in-92
-unfolding escape escape_case
-returns-in-92 c = let t = step (goal.at.returns-in-92 c).After-is_any_bytes-bytes in rw (lt-leb _ _ t.there, t.code_is, c.in-92.is, t.next_is, escape, escape_case)
-
-pub returns-in-39 : goal.returns-in-39
-unfolding escape escape_case
-returns-in-39 c = let t = step (goal.at.returns-in-39 c).After-is_any_bytes-bytes in rw (lt-leb _ _ t.there, t.code_is, c.in-39.is, t.next_is, escape, escape_case)
-
 pub returns-in-34 : goal.returns-in-34
-unfolding escape escape_case
-returns-in-34 c = let t = step (goal.at.returns-in-34 c).After-is_any_bytes-bytes in rw (lt-leb _ _ t.there, t.code_is, c.in-34.is, t.next_is, escape, escape_case)
+returns-in-34 c = sym (same_escape _ c.args.kind _ _ _ _ (step (goal.at.returns-in-34 c).After-is_any_bytes-bytes) c.in-34.is)
 
 pub returns-in-97 : goal.returns-in-97
 unfolding escape escape_case
@@ -106,14 +97,19 @@ pub returns-in-48-to-55 : goal.returns-in-48-to-55
 unfolding escape escape_case
 returns-in-48-to-55 c = c.parse_octet.ensures ∙ sym (octal_escape _ c.args.kind _ _ _ _ (step (goal.at.returns-in-48-to-55 c).After-is_any_bytes-bytes) c.in-48-to-55.if-c-lt48-own.false (le_of_suc-le-suc c.in-48-to-55.if-c-lt56-own.true))
 
-pub returns-then-c-lt128 : goal.returns-then-c-lt128
+pub returns-then-c-ge128 : goal.returns-then-c-ge128
 unfolding escape escape_case
-returns-then-c-lt128 c = sym (other_escape _ c.args.kind _ _ _ _ (step (goal.at.returns-then-c-lt128 c).After-is_any_bytes-bytes) c.in_default-1.rest (outside (goal.at.returns-then-c-lt128 c).In_default-c) false (rw (lt-leb 0x80 _ c.if-c-lt128.true)))
-
-pub returns-then-bytes-4 : goal.returns-then-bytes-4
-unfolding escape escape_case
-returns-then-bytes-4 c = c.refuse-then-bytes-4.ensures ∙ sym (other_escape _ c.args.kind _ _ _ _ (step (goal.at.returns-then-bytes-4 c).After-is_any_bytes-bytes) c.in_default-1.rest (outside (goal.at.returns-then-bytes-4 c).In_default-c) true (rw (le-leb 0x80 _ c.if-c-lt128.false, ← c.is_any_bytes-bytes.ensures, c.if-bytes-4.true)))
+returns-then-c-ge128 c = c.refuse-then-c-ge128.ensures ∙ sym (other_escape _ c.args.kind _ _ _ _ (step (goal.at.returns-then-c-ge128 c).After-is_any_bytes-bytes) c.in_default-1.rest (outside (goal.at.returns-then-c-ge128 c).In_default-c) true (rw (le-leb 0x80 _ c.if-c-ge128.true, ← c.is_any_bytes-bytes.ensures, c.if-bytes-4.true)))
 
 pub returns-else-bytes-4 : goal.returns-else-bytes-4
 unfolding escape escape_case
-returns-else-bytes-4 c = sym (other_escape _ c.args.kind _ _ _ _ (step (goal.at.returns-else-bytes-4 c).After-is_any_bytes-bytes) c.in_default-1.rest (outside (goal.at.returns-else-bytes-4 c).In_default-c) false (rw (le-leb 0x80 _ c.if-c-lt128.false, ← c.is_any_bytes-bytes.ensures, c.if-bytes-4.false)))
+returns-else-bytes-4 c =
+    sym (other_escape _ c.args.kind _ _ _ _ (step (goal.at.returns-else-bytes-4 c).After-is_any_bytes-bytes) c.in_default-1.rest (outside (goal.at.returns-else-bytes-4 c).In_default-c) false
+    (elim c.else-bytes-4.branch [
+      | else-bytes-4-via-then-bytes-4+else-c-ge128 w ↦ rw (lt-leb 0x80 _ w.if-c-ge128.false)
+      | else-bytes-4-via-else-bytes-4 w ↦ rw (← c.is_any_bytes-bytes.ensures, w.if-bytes-4.false) (and_false _)
+    ]))
+  where
+    and_false : (b : Bool) → b && false ≡ false
+    and_false true = refl
+    and_false false = refl

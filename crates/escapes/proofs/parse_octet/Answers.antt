@@ -1,40 +1,28 @@
-use borrow.Author.Rules.{rules}
-use native.Mathlib.Omega.{arith}
-use Prim.Native.Nat.{ℕ, suc, ◌-◌, ◌^◌, ◌≤◌, ◌<◌}
-use mathlib.Core.Path.{◌≡◌, refl, sym, ◌∙◌}
-use lib.Dec.{lit<}
-use Rattle.definition.specs.Escapes.{octal_from}
+use Rattle.std.proofs.Common.{arith, ◌≡◌, ◌+◌, ◌-◌, sym, ◌∙◌, add-one, lit<, le_refl}
 use Rattle.utf8.proofs.Steps.{step_char, step_end}
 use Rattle.escapes.proofs.Digits.{digits_below, digits_fit, octal_end, octal_done, octal_none, octal_more}
 use Rattle.escapes.proofs.parse_octet.Goals as goal
-use Rattle.escapes.proofs.parse_octet.Goals.{Else-d-ge8}
-
-abbrev left : Else-d-ge8 → ℕ
-left c = c.loop-left.left
-
-few : (c : Else-d-ge8) → 3 - left c < 3
-few c = omega arith
-
-one_more_lem : (c : Else-d-ge8) → suc (3 - left c) ≡ 3 - (left c - 1)
-one_more_lem c = omega arith
-
-pub loop-left-init : goal.loop-left-init
-loop-left-init c = (search rules, c.requires, refl)
 
 pub returns-in_default : goal.returns-in_default
-returns-in_default c = sym (c.loop-left.invariant.2 ∙ octal_none _ _ _ _ c.loop-left-test.true (octal_end _ _ (step_end _ _ (sym c.next_char.ensures ∙ c.in_default.is))))
+returns-in_default c = sym (c.loop-done.invariant.1 ∙ octal_none _ _ _ _ (omega arith) (octal_end _ _ (step_end _ _ (sym c.next_char.ensures ∙ c.in_default.is))))
 
-pub returns-then-d-ge8 : goal.returns-then-d-ge8
-returns-then-d-ge8 c = sym (c.loop-left.invariant.2 ∙ octal_none _ _ _ _ c.loop-left-test.true (rw ((step_char _ _ _ _ (sym c.next_char.ensures ∙ c.in-Char.is)).code_is, ← c.octal_digit-d.ensures) c.if-d-ge8.true))
+pub returns-in_default-octal_digit : goal.returns-in_default-octal_digit
+returns-in_default-octal_digit c =
+    sym (c.loop-done.invariant.1
+    ∙ octal_none _ _ _ _ (omega arith) (rw ((step_char _ _ _ _ (sym c.next_char.ensures ∙ c.in-Char.is)).code_is, ← c.in_default-octal_digit.ensures.value) (le_refl 8)))
 
 pub overflow_mul-p : goal.overflow_mul-p
-overflow_mul-p c = let h = digits_fit 8 _ 3 _ _ (lit< tt) (few (goal.at.overflow_mul-p c).Else-d-ge8) c.loop-left.invariant.1 c.if-d-ge8.false in omega arith
+overflow_mul-p c = let h = digits_fit 8 (c.loop-done._done + 1) 3 _ _ (lit< tt) (omega arith) c.loop-done.invariant.0 c.in-Some.ensures.digit in omega arith
 
 pub overflow_add-p : goal.overflow_add-p
-overflow_add-p c = let h = digits_fit 8 _ 3 _ _ (lit< tt) (few (goal.at.overflow_add-p c).Else-d-ge8) c.loop-left.invariant.1 c.if-d-ge8.false in omega arith
+overflow_add-p c = let h = digits_fit 8 (c.loop-done._done + 1) 3 _ _ (lit< tt) (omega arith) c.loop-done.invariant.0 c.in-Some.ensures.digit in omega arith
 
-pub loop-left-preserved : goal.loop-left-preserved
-loop-left-preserved c = (omega arith, rw (one_more_lem (goal.at.loop-left-preserved c).Else-d-ge8) at (digits_below 8 _ _ _ c.loop-left.invariant.1 c.if-d-ge8.false), c.loop-left.invariant.2 ∙ octal_more _ _ _ _ _ c.loop-left-test.true (step_char _ _ _ _ (sym c.next_char.ensures ∙ c.in-Char.is)) c.octal_digit-d.ensures c.if-d-ge8.false)
+pub loop-done-preserved : goal.loop-done-preserved
+loop-done-preserved c =
+    let e : 2 - c.loop-done._done - 1 ≡ 2 - (c.loop-done._done + 1) = omega arith in (
+      rw (add-one (c.loop-done._done + 1)) (digits_below 8 _ _ _ c.loop-done.invariant.0 c.in-Some.ensures.digit),
+      c.loop-done.invariant.1 ∙ (rw e at (octal_more (2 - c.loop-done._done) c.loop-done.p _ _ _ (omega arith) (step_char _ _ _ _ (sym c.next_char.ensures ∙ c.in-Char.is)) c.in-Some.ensures.value c.in-Some.ensures.digit)),
+    )
 
 pub returns : goal.returns
-returns c = sym (c.loop-left.invariant.2 ∙ octal_done _ _ _ _ c.loop-left-test.false)
+returns c = sym (c.loop-done.invariant.1 ∙ octal_done _ _ _ _ (omega arith))

@@ -1,12 +1,11 @@
 use Rattle.std.specs.Prelude.{if◌then◌else◌}
-use borrow.Author.Rules.{rules}
 use native.Mathlib.Omega.{arith}
 use borrow.Author.Tests.{lt-ltb, le-ltb, le-leb, lt-leb, ne_eqb}
 use mathlib.Core.Path.{◌≡◌, sym, ◌∙◌}
 use mathlib.Core.List.{List}
 use Prim.Native.Nat.{ℕ, ◌+◌}
 use lib.ListN.{length, drop}
-use Rattle.definition.specs.Chars.{◌is◌, at_end, before}
+use Rattle.definition.specs.Chars.{◌is◌, at_end, before, no_code}
 use Rattle.definition.specs.Numbers.{string_error}
 use Rattle.definition.specs.Escapes.{Naming, fault, refused, named, unicode_name}
 use Rattle.utf8.specs.declared.Cursor.{Cursor}
@@ -57,10 +56,14 @@ pub returns-then-end-start-gt88 : goal.returns-then-end-start-gt88
 unfolding unicode_name named
 returns-then-end-start-gt88 c = let e = found (goal.at.returns-then-end-start-gt88 c).After-first_of-end in rw (opened _ _ _ _ _ (step (goal.at.returns-then-end-start-gt88 c).In-Char) c.if-c-ne123.false, ← found (goal.at.returns-then-end-start-gt88 c).After-first_of-end, lt-leb _ _ c.if-n-end.false, lt-ltb 88 (size (goal.at.returns-then-end-start-gt88 c).After-first_of-end) (omega arith)) c.refuse-then-end-start-gt88.ensures
 
-pub returns-then-code-eq-NO_CODE : goal.returns-then-code-eq-NO_CODE
+pub returns-in_default-code_in : goal.returns-in_default-code_in
 unfolding unicode_name named
-returns-then-code-eq-NO_CODE c = let e = found (goal.at.returns-then-code-eq-NO_CODE c).After-first_of-end in rw (opened _ _ _ _ _ (step (goal.at.returns-then-code-eq-NO_CODE c).In-Char) c.if-c-ne123.false, ← found (goal.at.returns-then-code-eq-NO_CODE c).After-first_of-end, lt-leb _ _ c.if-n-end.false, le-ltb 88 (size (goal.at.returns-then-code-eq-NO_CODE c).After-first_of-end) (omega arith), ← c.code_in-code.ensures, c.if-code-eq-NO_CODE.true) c.refuse-then-code-eq-NO_CODE.ensures
+returns-in_default-code_in c =
+    let e = found (goal.at.returns-in_default-code_in c).After-first_of-end in
+    rw (opened _ _ _ _ _ (step (goal.at.returns-in_default-code_in c).In-Char) c.if-c-ne123.false, ← found (goal.at.returns-in_default-code_in c).After-first_of-end, lt-leb _ _ c.if-n-end.false, le-ltb 88 (size (goal.at.returns-in_default-code_in c).After-first_of-end) (omega arith), ← c.in_default-code_in.ensures.code) c.refuse-in_default-code_in.ensures
 
 pub returns : goal.returns
 unfolding unicode_name named
-returns c = let e = found (goal.at.returns c).After-first_of-end in rw (opened _ _ _ _ _ (step (goal.at.returns c).In-Char) c.if-c-ne123.false, ← found (goal.at.returns c).After-first_of-end, lt-leb _ _ c.if-n-end.false, le-ltb 88 (size (goal.at.returns c).After-first_of-end) (omega arith), ← c.code_in-code.ensures, ne_eqb _ _ c.if-code-eq-NO_CODE.false)
+returns c =
+    let e = found (goal.at.returns c).After-first_of-end in
+    rw (opened _ _ _ _ _ (step (goal.at.returns c).In-Char) c.if-c-ne123.false, ← found (goal.at.returns c).After-first_of-end, lt-leb _ _ c.if-n-end.false, le-ltb 88 (size (goal.at.returns c).After-first_of-end) (omega arith), ← c.in-Some.ensures.code, ne_eqb c.in-Some.code no_code (λ z. omega (arith, c.in-Some.ensures.below)))

@@ -1,10 +1,7 @@
-use borrow.Author.Rules.{rules}
-use borrow.Author.Tests.{not-true, not-false}
-use mathlib.Core.Path.{◌≡◌, refl, sym, ◌∙◌}
+use mathlib.Core.Path.{◌≡◌}
 use mathlib.Core.Bool.{false}
-use Prim.Native.Nat.{◌*◌, ◌-◌, ◌≤◌}
+use Prim.Native.Nat.{◌*◌, ◌≤◌}
 use Rattle.formed.specs.Good.{records_at, good_from}
-use Rattle.formed.proofs.Goods.{good_stops, good_next, good_owes, good_ends}
 use Rattle.formed.proofs.are_good.Given as goal
 
 abbrev pub invariant-loop-i : goal.invariant-loop-i
@@ -12,6 +9,3 @@ invariant-loop-i l = (l.i ≤ l.count)
     × (l.owed ≤ l.i * 4294967295)
     × (l.at ≤ l.i * 4294967295)
     × (good_from l.text false 0 0 (records_at l.words l.count 0 0) ≡ good_from l.text l.due l.owed l.at (records_at l.words l.count l.i l.owed))
-
-abbrev pub decreases-loop-i : goal.decreases-loop-i
-decreases-loop-i l = l.count - l.i

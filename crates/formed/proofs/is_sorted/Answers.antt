@@ -1,16 +1,18 @@
-use borrow.Author.Rules.{rules}
-use mathlib.Core.Path.{◌∙◌, ap}
+use Rattle.std.proofs.Common.{arith, ap, ◌∙◌, ne_eqb}
 use Rattle.formed.proofs.Goods.{sorted_joined, sorted_many, sorted_plain, sorted_bytes}
 use Rattle.formed.proofs.is_sorted.Goals as goal
 
-pub returns-then-sort-eq1 : goal.returns-then-sort-eq1
-returns-then-sort-eq1 c = c.no_bytes.ensures ∙ sorted_joined _ _ _ c.if-sort-eq1.true
+pub returns-then-count-eq1 : goal.returns-then-count-eq1
+returns-then-count-eq1 c = sorted_plain _ _ _ (λ e. omega arith) c.if-count-eq1.true (ap (λ h. h.kind) c.record_at.ensures) c.in-0.is
 
-pub returns-then-count-ne1 : goal.returns-then-count-ne1
-returns-then-count-ne1 c = sorted_many _ _ _ c.if-sort-eq1.false c.if-count-ne1.true
+pub returns-else-count-eq1 : goal.returns-else-count-eq1
+returns-else-count-eq1 c = ne_eqb c.args.count 1 c.if-count-eq1.false ∙ sorted_many _ _ _ (λ e. omega arith) c.if-count-eq1.false
 
-pub returns-then-sort-eq0 : goal.returns-then-sort-eq0
-returns-then-sort-eq0 c = sorted_plain _ _ _ c.if-sort-eq1.false c.if-count-ne1.false (ap (λ h. h.kind) c.record_at-h.ensures) c.if-sort-eq0.true
+pub returns-in-1 : goal.returns-in-1
+returns-in-1 c = c.no_bytes.ensures ∙ sorted_joined _ _ _ c.in-1.is
 
-pub returns : goal.returns
-returns c = sorted_bytes _ _ _ c.if-sort-eq1.false c.if-count-ne1.false (ap (λ h. h.kind) c.record_at-h.ensures) c.if-sort-eq0.false
+pub returns-then-count-eq1-2 : goal.returns-then-count-eq1-2
+returns-then-count-eq1-2 c = sorted_bytes _ _ _ (λ e. omega arith) c.if-count-eq1-2.true (ap (λ h. h.kind) c.record_at-then-count-eq1-2.ensures) (λ e. omega arith)
+
+pub returns-else-count-eq1-2 : goal.returns-else-count-eq1-2
+returns-else-count-eq1-2 c = ne_eqb c.args.count 1 c.if-count-eq1-2.false ∙ sorted_many _ _ _ (λ e. omega arith) c.if-count-eq1-2.false

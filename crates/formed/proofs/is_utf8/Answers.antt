@@ -1,6 +1,5 @@
-use borrow.Author.Rules.{rules}
 use Rattle.formed.proofs.Goods.{utf8_is}
 use Rattle.formed.proofs.is_utf8.Goals as goal
 
 pub returns : goal.returns
-returns c = utf8_is _ _ _ _ _ _ c.least-start.ensures c.least-end.ensures c.well_formed-formed.ensures.0
+returns c = utf8_is _ _ _ _ _ _ c.min-start.ensures c.min-end.ensures c.well_formed-formed.ensures.0

@@ -1,8 +1,6 @@
-use borrow.Author.Rules.{rules}
-use native.Mathlib.Omega.{arith}
 use Prim.Native.Nat.{◌-◌}
 use lib.ListN.{length}
-use Rattle.names.proofs.Counting.{Counting, counting, count_wrong, count_skip, count_add, count_end}
+use Rattle.names.proofs.Counting.{Counting}
 use Rattle.names.proofs.count_named.Given as goal
 
 abbrev pub invariant-loop-at : goal.invariant-loop-at

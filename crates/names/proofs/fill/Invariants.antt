@@ -1,9 +1,7 @@
-use borrow.Author.Rules.{rules}
-use native.Mathlib.Omega.{arith}
-use mathlib.Core.Path.{◌≡◌, refl}
+use mathlib.Core.Path.{◌≡◌}
 use Prim.Native.Nat.{◌-◌}
-use lib.ListN.{length, length-set}
-use Rattle.names.proofs.Filling.{Filling, filling, fill_bad, fill_full, fill_end, fill_skip, fill_add}
+use lib.ListN.{length}
+use Rattle.names.proofs.Filling.{Filling}
 use Rattle.names.proofs.fill.Given as goal
 
 abbrev pub invariant-loop-at : goal.invariant-loop-at

@@ -1,22 +1,22 @@
-use borrow.Author.Rules.{rules}
-use native.Mathlib.Omega.{arith}
-use Prim.Native.Nat.{◌-◌, zero-le}
-use mathlib.Core.Path.{refl}
-use lib.ListN.{length}
-use Rattle.names.proofs.Scans.{Ending, ends_end, ends_here, ends_later}
+use Rattle.std.proofs.Common.{arith, ◌≡◌, length}
+use Rattle.names.proofs.Scans.{ends_here, ends_mark, ends_other, ends_end}
 use Rattle.names.proofs.line_ends.Goals as goal
+use Rattle.names.proofs.line_ends.Goals.{in-59, in_default}
 
-pub loop-i-init : goal.loop-i-init
-loop-i-init c = record { few = zero-le; ends = refl; has = omega arith }
-
-pub returns-then-b-eq10 : goal.returns-then-b-eq10
-returns-then-b-eq10 c = ends_here _ _ _ _ c.loop-i.invariant c.loop-i-test.true c.if-b-eq10.true
+pub returns-in-10 : goal.returns-in-10
+returns-in-10 c = ends_here _ _ _ _ c.loop-i.invariant c.loop-i-test.true c.in-10.is
 
 pub overflow_add-marks : goal.overflow_add-marks
-overflow_add-marks c = let f = c.loop-i.invariant.few in let g = c.mark_count-n.ensures.1 in omega arith
+overflow_add-marks c = let f = c.loop-i.invariant.few in omega arith
 
 pub loop-i-preserved : goal.loop-i-preserved
-loop-i-preserved c = ends_later _ _ _ _ c.loop-i.invariant c.loop-i-test.true c.if-b-eq10.false _ c.mark_count-n.ensures.0 c.mark_count-n.ensures.1
+loop-i-preserved c =
+    elim c.match-file-i.branch [
+      | in-59 w ↦ rw w.marks-is (ends_mark _ _ _ _ c.loop-i.invariant c.loop-i-test.true w.in-59.is)
+      | in_default w ↦ rw w.marks-is (ends_other _ _ _ _ c.loop-i.invariant c.loop-i-test.true (λ z. omega arith) (λ z. omega arith))
+    ]
 
 pub returns : goal.returns
-returns c = ends_end _ _ _ _ c.loop-i.invariant c.loop-i-test.false
+returns c =
+    let e : c.loop-i.i ≡ length c.args.file.now = omega (arith, c.loop-i.auto.i-end c.requires) in
+    rw e at (ends_end _ _ _ _ c.loop-i.invariant c.loop-i-test.false)

@@ -1,8 +1,6 @@
-use borrow.Author.Rules.{rules}
-use native.Mathlib.Omega.{arith}
 use Prim.Native.Nat.{◌-◌}
 use lib.ListN.{length}
-use Rattle.names.proofs.Runs.{Meeting, meeting, meet_bad, meet_skip, meet_more, meet_here, meet_end, entry_name}
+use Rattle.names.proofs.Runs.{Meeting}
 use Rattle.names.proofs.meets.Given as goal
 
 abbrev pub invariant-loop-at : goal.invariant-loop-at

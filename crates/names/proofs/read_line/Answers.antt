@@ -1,39 +1,51 @@
-use borrow.Author.Rules.{rules}
-use native.Mathlib.Omega.{arith}
-use mathlib.Core.Path.{sym, ◌∙◌}
-use Rattle.definition_names.proofs.NameScan.{mark_inside, scan_unended, scan_few, scan_novalue, scan_short, scan_long, scan_empty, scan_nameless, scan_named, scan_none}
+use Rattle.std.proofs.Common.{arith, refl, sym}
+use Rattle.definition_names.specs.Names.{is_scalar, no_value}
+use Rattle.definition.proofs.Moves.CharLaws.{cases}
+use Rattle.definition_names.proofs.NameScan.{scan_unended, scan_few, scan_novalue, scan_short, scan_long, mark_inside, scan_empty, scan_nameless, scan_named, scan_none}
 use Rattle.names.proofs.read_line.Goals as goal
+use Rattle.names.proofs.read_line.Goals.{then-file-end-via-then-file-end, then-file-end-via-else-file-end+then-marks-ne14, then-mark-at-via-then-mark-at, then-mark-at-via-else-mark-at+then-at-mark}
 
 pub returns-then-file-end : goal.returns-then-file-end
-returns-then-file-end c = scan_unended _ _ _ _ c.requires.0 c.line_ends-e.ensures c.if-file-end.true
+returns-then-file-end c =
+    elim c.then-file-end.branch [
+      | then-file-end-via-then-file-end w ↦ scan_unended _ _ _ _ c.requires.0 c.line_ends-end.ensures w.if-file-end.true
+      | then-file-end-via-else-file-end+then-marks-ne14 w ↦ scan_few _ _ _ _ c.requires.0 c.line_ends-end.ensures w.if-file-end.false w.if-marks-ne14.true
+    ]
 
-pub returns-then-marks-ne14 : goal.returns-then-marks-ne14
-returns-then-marks-ne14 c = scan_few _ _ _ _ c.requires.0 c.line_ends-e.ensures c.if-file-end.false c.if-marks-ne14.true
-
-pub returns-then-v-eq-NO_VALUE : goal.returns-then-v-eq-NO_VALUE
-returns-then-v-eq-NO_VALUE c = scan_novalue _ _ _ _ c.requires.0 c.line_ends-e.ensures c.if-file-end.false _ _ c.if-marks-ne14.false c.read_digits-d.ensures c.if-v-eq-NO_VALUE.true
+pub returns-in_err-value : goal.returns-in_err-value
+returns-in_err-value c =
+    rw c.from_residual.ensures
+    (scan_novalue _ _ _ _ c.requires.0 c.line_ends-end.ensures c.if-file-end.false no_value 0 c.if-marks-ne14.false (record { is = sym c.in_err-value.ensures; ends = λ n. absurd (n refl) }) refl)
 
 pub returns-then-mark-at : goal.returns-then-mark-at
-returns-then-mark-at c = scan_short _ _ _ _ c.requires.0 c.line_ends-e.ensures c.if-file-end.false _ _ c.if-marks-ne14.false c.read_digits-d.ensures c.if-v-eq-NO_VALUE.false c.if-mark-at.true
+returns-then-mark-at c =
+    let d = c.in_ok-value.ensures in
+    elim c.then-mark-at.branch [
+      | then-mark-at-via-then-mark-at w ↦ scan_short _ _ _ _ c.requires.0 c.line_ends-end.ensures c.if-file-end.false _ _ c.if-marks-ne14.false d.0 (λ z. omega (arith, d.1)) w.if-mark-at.true
+      | then-mark-at-via-else-mark-at+then-at-mark w ↦ scan_long _ _ _ _ c.requires.0 c.line_ends-end.ensures c.if-file-end.false _ _ c.if-marks-ne14.false d.0 (λ z. omega (arith, d.1)) w.if-at-mark.true
+    ]
 
-pub returns-then-at-mark : goal.returns-then-at-mark
-returns-then-at-mark c = scan_long _ _ _ _ c.requires.0 c.line_ends-e.ensures c.if-file-end.false _ _ c.if-marks-ne14.false c.read_digits-d.ensures c.if-v-eq-NO_VALUE.false c.if-at-mark.true
+pub bounds-file-mark : goal.bounds-file-mark
+bounds-file-mark c =
+    let d = c.in_ok-value.ensures in
+    let m = mark_inside _ _ _ _ c.requires.0 c.line_ends-end.ensures c.if-file-end.false _ _ c.if-marks-ne14.false d.0 (λ z. omega (arith, d.1)) in omega arith
 
-pub bounds-file-name : goal.bounds-file-name
-bounds-file-name c = let m = mark_inside _ _ _ _ c.requires.0 c.line_ends-e.ensures c.if-file-end.false _ _ c.if-marks-ne14.false c.read_digits-d.ensures c.if-v-eq-NO_VALUE.false in omega arith
+pub returns-in-59 : goal.returns-in-59
+returns-in-59 c =
+    let d = c.in_ok-value.ensures in
+    scan_empty _ _ _ _ c.requires.0 c.line_ends-end.ensures c.if-file-end.false _ _ c.if-marks-ne14.false d.0 (λ z. omega (arith, d.1)) c.if-mark-at.false c.if-at-mark.false c.in-59.is
 
-pub returns-then-b-eq59 : goal.returns-then-b-eq59
-returns-then-b-eq59 c = scan_empty _ _ _ _ c.requires.0 c.line_ends-e.ensures c.if-file-end.false _ _ c.if-marks-ne14.false c.read_digits-d.ensures c.if-v-eq-NO_VALUE.false c.if-mark-at.false c.if-at-mark.false c.if-b-eq59.true
+pub returns-in-60 : goal.returns-in-60
+returns-in-60 c =
+    let e = c.line_ends-end.ensures.ends in
+    let d = c.in_ok-value.ensures in
+    (omega arith, omega arith, scan_nameless _ _ _ _ c.requires.0 c.line_ends-end.ensures c.if-file-end.false _ _ c.if-marks-ne14.false d.0 (λ z. omega (arith, d.1)) c.if-mark-at.false c.if-at-mark.false (λ z. omega arith) c.in-60.is)
 
-pub returns-then-b-eq60 : goal.returns-then-b-eq60
-returns-then-b-eq60 c =
-    let e = c.line_ends-e.ensures.ends in
-    (omega arith, omega arith, scan_nameless _ _ _ _ c.requires.0 c.line_ends-e.ensures c.if-file-end.false _ _ c.if-marks-ne14.false c.read_digits-d.ensures c.if-v-eq-NO_VALUE.false c.if-mark-at.false c.if-at-mark.false c.if-b-eq59.false c.if-b-eq60.true)
-
-pub returns-then-is_scalar : goal.returns-then-is_scalar
-returns-then-is_scalar c =
-    let e = c.line_ends-e.ensures.ends in
-    (omega arith, omega arith, scan_named _ _ _ _ c.requires.0 c.line_ends-e.ensures c.if-file-end.false _ _ c.if-marks-ne14.false c.read_digits-d.ensures c.if-v-eq-NO_VALUE.false c.if-mark-at.false c.if-at-mark.false c.if-b-eq59.false c.if-b-eq60.false (sym c.is_scalar.ensures ∙ c.if-is_scalar.true))
-
-pub returns : goal.returns
-returns c = scan_none _ _ _ _ c.requires.0 c.line_ends-e.ensures c.if-file-end.false _ _ c.if-marks-ne14.false c.read_digits-d.ensures c.if-v-eq-NO_VALUE.false c.if-mark-at.false c.if-at-mark.false c.if-b-eq59.false c.if-b-eq60.false (sym c.is_scalar.ensures ∙ c.if-is_scalar.false)
+pub returns-in_default : goal.returns-in_default
+returns-in_default c =
+    let e = c.line_ends-end.ensures.ends in
+    let d = c.in_ok-value.ensures in
+    rw (c.then_some.ensures, c.is_scalar.ensures)
+    (cases (is_scalar c.in_ok-value.field-0.value)
+    (λ t. rw t (omega arith, omega arith, scan_named _ _ _ _ c.requires.0 c.line_ends-end.ensures c.if-file-end.false _ _ c.if-marks-ne14.false d.0 (λ z. omega (arith, d.1)) c.if-mark-at.false c.if-at-mark.false (λ z. omega arith) (λ z. omega arith) t))
+    (λ t. rw t (scan_none _ _ _ _ c.requires.0 c.line_ends-end.ensures c.if-file-end.false _ _ c.if-marks-ne14.false d.0 (λ z. omega (arith, d.1)) c.if-mark-at.false c.if-at-mark.false (λ z. omega arith) (λ z. omega arith) t)))

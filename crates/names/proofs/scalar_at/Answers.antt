@@ -1,13 +1,13 @@
-use borrow.Author.Rules.{rules}
-use mathlib.Core.Path.{◌≡◌, sym, ◌∙◌}
-use mathlib.Core.Bool.{true, false}
+use Rattle.definition.proofs.Moves.CharLaws.{cases}
 use Rattle.definition_names.specs.Names.{is_scalar, scalar_at}
 use Rattle.names.proofs.scalar_at.Goals as goal
 
-pub returns-then-is_scalar : goal.returns-then-is_scalar
+pub returns-in_err-value-clause-code : goal.returns-in_err-value-clause-code
 unfolding scalar_at
-returns-then-is_scalar c = let s : is_scalar c.read_digits-d.result.value ≡ true = sym c.is_scalar.ensures ∙ c.if-is_scalar.true in rw (← c.read_digits-d.ensures.is, s)
+returns-in_err-value-clause-code c = rw (c.from_residual.ensures, c.in_err-value.ensures)
 
-pub returns : goal.returns
+pub returns-clause-code : goal.returns-clause-code
 unfolding scalar_at
-returns c = let s : is_scalar c.read_digits-d.result.value ≡ false = sym c.is_scalar.ensures ∙ c.if-is_scalar.false in rw (← c.read_digits-d.ensures.is, s)
+returns-clause-code c =
+    let d = c.in_ok-value.ensures in
+    rw (c.then_some.ensures, c.is_scalar.ensures, ← d.0.is) (cases (is_scalar c.in_ok-value.field-0.value) (λ t. rw t) (λ t. rw t))

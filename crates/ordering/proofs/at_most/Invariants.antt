@@ -1,8 +1,7 @@
-use borrow.Author.Rules.{rules}
-use mathlib.Core.Path.{◌≡◌, refl, sym, ◌∙◌}
+use mathlib.Core.Path.{◌≡◌}
 use Prim.Native.Nat.{◌-◌}
 use lib.ListN.{length}
-use Rattle.ordering.proofs.Compare.{Before, first_ends, first_marked, second_ends, second_marked, less, more, equal}
+use Rattle.ordering.proofs.Compare.{Before}
 use Rattle.ordering.proofs.at_most.Given as goal
 
 abbrev pub invariant-loop-i : goal.invariant-loop-i

@@ -1,9 +1,7 @@
-use borrow.Author.Rules.{rules}
-use mathlib.Core.Path.{sym, ◌∙◌}
 use Prim.Native.Nat.{◌-◌, ◌≤◌}
 use lib.ListN.{length, drop}
-use Rattle.definition_names.specs.Names.{first_field, name_of}
-use Rattle.definition_names.proofs.NameSearch.{Goes, goes_start, goes_end, goes_down, goes_up}
+use Rattle.definition_names.specs.Names.{first_field}
+use Rattle.definition_names.proofs.NameSearch.{Goes}
 use Rattle.ordering.proofs.bound.Given as goal
 
 abbrev pub invariant-loop-low : goal.invariant-loop-low

@@ -1,8 +1,6 @@
-use borrow.Author.Rules.{rules}
 use native.Mathlib.Omega.{arith}
-use Rattle.definition_names.specs.IsIndex.{in_order}
 use Rattle.definition_names.proofs.NameOrder.{order_trans, order_refl}
-use Rattle.ordering.proofs.Heap.{Heaping, heaping, heaps, heaped}
+use Rattle.ordering.proofs.Heap.{heaping, heaps, heaped}
 use Rattle.ordering.proofs.heapify.Goals as goal
 
 pub loop-k-init : goal.loop-k-init

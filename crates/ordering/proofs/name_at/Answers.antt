@@ -1,5 +1,4 @@
-use borrow.Author.Rules.{rules}
-use mathlib.Core.Path.{sym, ◌∙◌}
+use Rattle.std.proofs.Common.{sym, ◌∙◌}
 use Rattle.definition_names.specs.Names.{name_at}
 use Rattle.ordering.proofs.name_at.Goals as goal
 
@@ -9,8 +8,8 @@ returns-then-is_mark c = rw (sym c.is_mark.ensures ∙ c.if-is_mark.true)
 
 pub returns-then-is_mark-2 : goal.returns-then-is_mark-2
 unfolding name_at
-returns-then-is_mark-2 c = rw (sym c.is_mark.ensures ∙ c.if-is_mark.false, sym c.is_mark-2.ensures ∙ c.if-is_mark-2.true)
+returns-then-is_mark-2 c = rw (sym c.is_mark.ensures ∙ c.if-is_mark.false, sym c.is_mark-else-is_mark.ensures ∙ c.if-is_mark-2.true)
 
-pub returns : goal.returns
+pub returns-else-is_mark-2 : goal.returns-else-is_mark-2
 unfolding name_at
-returns c = rw (sym c.is_mark.ensures ∙ c.if-is_mark.false, sym c.is_mark-2.ensures ∙ c.if-is_mark-2.false)
+returns-else-is_mark-2 c = rw (sym c.is_mark.ensures ∙ c.if-is_mark.false, sym c.is_mark-else-is_mark.ensures ∙ c.if-is_mark-2.false)

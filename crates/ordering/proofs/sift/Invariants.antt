@@ -1,10 +1,7 @@
-use borrow.Author.Rules.{rules}
-use native.Mathlib.Omega.{arith}
-use mathlib.Core.Path.{sym, ◌∙◌}
 use Prim.Native.Nat.{◌-◌}
 use Rattle.definition_names.specs.IsIndex.{in_order}
-use Rattle.definition_names.proofs.NameOrder.{order_total, order_trans, order_refl}
-use Rattle.ordering.proofs.Heap.{Sinking, sinking, sinks, stop, leaf}
+use Rattle.definition_names.proofs.NameOrder.{order_trans, order_refl}
+use Rattle.ordering.proofs.Heap.{Sinking}
 use Rattle.ordering.proofs.sift.Given as goal
 
 abbrev pub invariant-loop-at : goal.invariant-loop-at

@@ -1,9 +1,6 @@
-use borrow.Author.Rules.{rules}
-use native.Mathlib.Omega.{arith}
-use mathlib.Core.Path.{◌∙◌}
 use Rattle.definition_names.specs.IsIndex.{in_order}
 use Rattle.definition_names.proofs.NameOrder.{order_trans, order_refl}
-use Rattle.ordering.proofs.Heap.{Sorting, sorting, sorts, sorted}
+use Rattle.ordering.proofs.Heap.{Sorting}
 use Rattle.ordering.proofs.sort.Given as goal
 
 abbrev pub invariant-loop-m : goal.invariant-loop-m

@@ -1,5 +1,3 @@
-use borrow.Author.Rules.{rules}
-use Prim.Native.Nat.{◌-◌}
 use native.Mathlib.Nat.{sub-zero}
 use mathlib.Core.Path.{◌≡◌, refl, sym, ◌∙◌, ap}
 use mathlib.Core.Bool.{Bool}
@@ -7,8 +5,8 @@ use native.Mathlib.Numerals.{add-one}
 use Rattle.definition.specs.Entry.{bad, all_good}
 use Rattle.definition.specs.Reading.{outcome_of}
 use Rattle.entry.specs.Answers.{described}
-use Rattle.entry.specs.Literals.{literal_at, literals}
-use Rattle.entry.proofs.Literals.{end_before, bad_from, bad_turn, bad_found, bad_none}
+use Rattle.entry.specs.Literals.{literal_at}
+use Rattle.entry.proofs.Literals.{end_before, bad_turn, bad_found, bad_none}
 use Rattle.entry.proofs.Passed.{why}
 use Rattle.refusals.proofs.all_good.Goals as goal
 use Rattle.refusals.proofs.all_good.Goals.{After-is_bad}

@@ -1,11 +1,9 @@
 use borrow.Author.Rules.{rules}
 use native.Mathlib.Omega.{arith}
-use Prim.Native.Nat.{◌+◌, ◌-◌, ◌*◌, ◌≤◌}
 use native.Mathlib.Nat.{sub-zero}
-use mathlib.Core.Path.{◌≡◌, ap}
+use mathlib.Core.Path.{ap}
 use Rattle.definition.specs.Entry.{total}
 use Rattle.entry.specs.Answers.{described}
-use Rattle.entry.specs.Literals.{literals}
 use Rattle.entry.proofs.Literals.{total_turn, none_left}
 use Rattle.refusals.proofs.total.Goals as goal
 
@@ -19,7 +17,7 @@ overflow_add-sum c = omega (arith, c.struct_known-1.given)
 
 pub loop-i-preserved : goal.loop-i-preserved
 unfolding total described
-loop-i-preserved c = let a = c.args in (omega arith, omega (arith, c.loop-i.invariant.1, total_turn a.numbers.now a.count c.loop-i.i c.loop-i-test.true, ap (λ l. l.size) c.literal_at-l.ensures))
+loop-i-preserved c = let a = c.args in (omega arith, omega (arith, c.loop-i.invariant.1, total_turn a.numbers.now a.count c.loop-i.i c.loop-i-test.true, ap (λ l. l.size) c.literal_at.ensures))
 
 pub returns : goal.returns
 unfolding total described

@@ -1,4 +1,3 @@
-use borrow.Author.Rules.{rules}
 use Rattle.revisions.specs.Walks.{items_at}
 use Rattle.revisions.proofs.Running.{in_both, compared_is}
 use Rattle.revisions.proofs.compare_items.Goals as goal

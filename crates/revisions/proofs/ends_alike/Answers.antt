@@ -1,26 +1,24 @@
 use borrow.Author.Rules.{rules}
 use native.Mathlib.Omega.{arith}
-use mathlib.Core.Path.{◌≡◌, refl, sym, ◌∙◌}
-use Prim.Native.Nat.{◌+◌, ◌-◌, ◌≤◌}
-use Rattle.definition_revisions.proofs.Laws.Forward.{last_run, forward}
-use Rattle.revisions.specs.Walks.{items_at}
+use mathlib.Core.Path.{refl, sym, ◌∙◌}
+use Rattle.definition_revisions.proofs.Laws.Forward.{forward}
 use Rattle.revisions.proofs.Running.{items_none, last_first, last_second, last_same, last_differs}
 use Rattle.revisions.proofs.ends_alike.Goals as goal
 
 pub loop-i-init : goal.loop-i-init
 loop-i-init c = (omega arith, search rules, search rules, refl)
 
-pub returns-then-count-i : goal.returns-then-count-i
-returns-then-count-i c = sym (forward _ _ c.requires.2 ∙ c.loop-i.invariant.3 ∙ last_first c.loop-i.items _ _ (items_none _ _ _ c.loop-i.i c.if-count-i.true))
+pub returns-after-loop-i : goal.returns-after-loop-i
+returns-after-loop-i c = sym (forward _ _ c.requires.2 ∙ c.loop-i.invariant.3 ∙ last_first c.loop-i.items _ _ (items_none _ _ _ c.loop-i.i c.loop-i-test.false))
 
-pub returns-then-total-j : goal.returns-then-total-j
-returns-then-total-j c = sym (forward _ _ c.requires.2 ∙ c.loop-i.invariant.3 ∙ last_second c.loop-i.items _ _ (items_none _ _ _ c.loop-i.j c.if-total-j.true))
+pub returns-else-j-total : goal.returns-else-j-total
+returns-else-j-total c = sym (forward _ _ c.requires.2 ∙ c.loop-i.invariant.3 ∙ last_second c.loop-i.items _ _ (items_none _ _ _ c.loop-i.j c.if-j-total.false))
 
 pub item_end-to-requires : goal.item_end-to-requires
-item_end-to-requires c = omega (arith, c.if-count-i.false)
+item_end-to-requires c = omega (arith, c.loop-i-test.true)
 
 pub item_end-end-requires : goal.item_end-end-requires
-item_end-end-requires c = omega (arith, c.if-total-j.false)
+item_end-end-requires c = omega (arith, c.if-j-total.true)
 
 pub same_items-requires : goal.same_items-requires
 same_items-requires c = let p = c.item_end-to.ensures in let q = c.item_end-end.ensures in (omega (arith, p.ahead), omega (arith, q.ahead))

@@ -1,10 +1,7 @@
-use borrow.Author.Rules.{rules}
-use native.Mathlib.Omega.{arith}
-use mathlib.Core.Path.{◌≡◌, refl, sym, ◌∙◌}
+use mathlib.Core.Path.{◌≡◌}
 use Prim.Native.Nat.{◌+◌, ◌-◌, ◌≤◌}
-use Rattle.definition_revisions.proofs.Laws.Forward.{last_run, forward}
+use Rattle.definition_revisions.proofs.Laws.Forward.{last_run}
 use Rattle.revisions.specs.Walks.{items_at}
-use Rattle.revisions.proofs.Running.{items_none, last_first, last_second, last_same, last_differs}
 use Rattle.revisions.proofs.ends_alike.Given as goal
 
 abbrev pub invariant-loop-i : goal.invariant-loop-i

@@ -1,12 +1,8 @@
-use borrow.Author.Rules.{rules}
-use native.Mathlib.Omega.{arith}
-use native.Mathlib.Nat.{zero-add}
-use mathlib.Core.Path.{◌≡◌, sym}
+use mathlib.Core.Path.{◌≡◌}
 use mathlib.Core.List.{List}
 use Prim.Native.Nat.{ℕ, ◌+◌, ◌-◌, ◌≤◌}
 use lib.ListN.{length}
 use Rattle.revisions.specs.Walks.{items_at}
-use Rattle.revisions.proofs.Running.{items_none, counted_more, counted_all}
 use Rattle.revisions.proofs.items_from.Given as goal
 
 abbrev pub invariant-loop-i : goal.invariant-loop-i

@@ -2,7 +2,7 @@ use borrow.Author.Rules.{rules}
 use native.Mathlib.Omega.{arith}
 use mathlib.Core.Path.{◌≡◌, ◌∙◌, ap}
 use mathlib.Core.List.{[], ◌∷◌}
-use Prim.Native.Nat.{◌+◌, ◌-◌, ◌≤◌}
+use Prim.Native.Nat.{◌+◌}
 use lib.ListN.{length}
 use Rattle.definition_revisions.specs.Revisions.{counting}
 use Rattle.buffers.specs.Over.{over}
@@ -16,7 +16,7 @@ loop-k-init c = (search rules, search rules, put_none _ _ _)
 pub loop-k-preserved : goal.loop-k-preserved
 loop-k-preserved c =
     let a = c.args in
-    let e = c.put_word.ensures ∙ ap (λ l. over l (a.at + c.loop-k.k) ((a.from + c.loop-k.k) ∷ [])) c.loop-k.invariant.2 ∙ put_next a.list.now a.at a.from c.loop-k.k in
+    let e = c.put.ensures ∙ ap (λ l. over l (a.at + c.loop-k.k) ((a.from + c.loop-k.k) ∷ [])) c.loop-k.invariant.2 ∙ put_next a.list.now a.at a.from c.loop-k.k in
     (omega (arith, c.loop-k-test.true), ap length e ∙ length_over _ _ _, e)
 
 pub returns : goal.returns

@@ -1,10 +1,8 @@
-use borrow.Author.Rules.{rules}
 use mathlib.Core.Path.{◌≡◌, sym, ◌∙◌}
-use Prim.Native.Nat.{◌+◌, ◌-◌}
+use Prim.Native.Nat.{◌+◌}
 use mathlib.Core.Bool.{Bool}
-use borrow.Author.Tests.{not-true, not-false}
-use Rattle.definition_revisions.specs.Revisions.{same_shape, same_item}
-use Rattle.revisions.specs.Walks.{shape_at, shapes_from}
+use Rattle.definition_revisions.specs.Revisions.{same_shape}
+use Rattle.revisions.specs.Walks.{shape_at}
 use Rattle.revisions.proofs.Walking.{items_longer, items_start, items_next, items_differ, items_end}
 use Rattle.revisions.proofs.same_items.Goals as goal
 use Rattle.revisions.proofs.same_items.Goals.{After-same_record}

@@ -1,7 +1,0 @@
-use borrow.Author.Rules.{rules}
-use mathlib.Core.Path.{sym}
-use lib.ListN.{get_or-eq_default}
-use Rattle.formed.proofs.number_at.Goals as goal
-
-pub returns-else-at-numbers : goal.returns-else-at-numbers
-returns-else-at-numbers c = sym (get_or-eq_default c.args.numbers.now 0 c.if-at-numbers.false)
