@@ -19,9 +19,8 @@ use Rattle.entry.specs.declared.Refusal as entry
 use Rattle.entry.specs.Answers.{refusal_of, check_numbers}
 use Rattle.entry.proofs.Checks.{refused}
 use Rattle.entry.proofs.Passed.{Passed}
+use Rattle.std.specs.Prelude.{Result, Err}
 use Rattle.bodies.specs.declared.Written.{Written}
-use Rattle.bodies.specs.declared.Reading.{Reading}
-use Rattle.bodies.specs.declared.Reading.TheVariants.{Refused}
 use Rattle.records.specs.declared.Whole.{Whole}
 use Rattle.records.specs.declared.Sink.{Sink}
 use Rattle.bodies.specs.Emit as e
@@ -83,9 +82,9 @@ refused_flat look script ns r e = go (sixes ns) refl
     go (some ls) q = rw (q, read_flat, refused _ r _ (rw (q, check_numbers) at e), read)
 
 -- A REFUSED LIST: all three buffers are zeros
-pub refused_all : (look : Naming) (within skip : ℕ) (script ns words text rows words₁ text₁ rows₁ words' text' rows' : List ℕ) (x : entry.Refusal) (r : Reading)
+pub refused_all : (look : Naming) (within skip : ℕ) (script ns words text rows words₁ text₁ rows₁ words' text' rows' : List ℕ) (x : entry.Refusal) (r : Result Written entry.Refusal)
     → read_flat look script ns ≡ refuses (refusal_of x) → length words₁ ≡ length words → length text₁ ≡ length text → length rows₁ ≡ length rows
-    → (r ≡ Refused x) × (words' ≡ zeros words₁) × (text' ≡ zeros text₁) × (rows' ≡ zeros rows₁)
+    → (r ≡ Err x) × (words' ≡ zeros words₁) × (text' ≡ zeros text₁) × (rows' ≡ zeros rows₁)
     → ReadingIs look within skip script ns words text rows words' text' rows' r
 refused_all look within skip script ns words text rows words₁ text₁ rows₁ words' text' rows' x r e lw lt lr h =
     rw h.0

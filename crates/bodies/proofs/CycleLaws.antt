@@ -20,7 +20,7 @@ use Rattle.records.specs.declared.Frame.{Frame}
 use Rattle.records.specs.declared.Sink.{Sink}
 use Rattle.records.specs.declared.Head.{Head}
 use Rattle.bodies.specs.declared.fstring.Read.TheVariants.{Done, Refused}
-use Rattle.edges.specs.declared.End.TheVariants as end
+use Rattle.std.specs.Prelude.{Ok, Err}
 use Rattle.records.specs.Written.{written, ended, spec_text, specified, documented_text}
 use Rattle.records.specs.Written as w
 use Rattle.records.specs.Rows.{windowed}
@@ -101,11 +101,11 @@ module _ (s : List ℕ) (depth from : ℕ) (fr : Frame) (k : Sink) (h : Head) (p
         answer : Gave (λ ps. spec (direct (suc depth) ps) ∷ ps) (spec_n look (enough s) fr.kind s depth h.at.at) fr depth words₁ text₂ words₂ text₃ a to.at b
         answer = gave _ fr depth words₁ text₂ words₂ text₃ a _ to b count q
 
-        pub end_refuses : (words' text' : List ℕ) (x : Refusal) → end.Refused x ≡ field_end s to.at h.blank → ReadIs (read look) fr depth words text words' text' k (Refused x)
+        pub end_refuses : (words' text' : List ℕ) (x : Refusal) → Err x ≡ field_end s to.at h.blank → ReadIs (read look) fr depth words text words' text' k (Refused x)
         end_refuses words' text' x e =
             to_refuse (λ l. l) fr depth words text words' text' k (read look) x (spec_unended look s depth from k.used fr text text₁ h opened answer.pieces to.at answer.reads x e)
 
-        module _ (close : Cursor) (e : end.At close ≡ field_end s to.at h.blank) where
+        module _ (close : Cursor) (e : Ok close ≡ field_end s to.at h.blank) where
           there : Placed fr h (h.used - k.used) from h.at.at close.at
           there =
               placed calls s from k.used fr k h text text₁ h.at.at close.at opened R (head_in calls s from k.used h text text₁ opened)

@@ -18,14 +18,12 @@ use Rattle.marks.specs.declared.Refusal.{Refusal}
 use Rattle.records.specs.declared.Frame.{Frame}
 use Rattle.records.specs.declared.Sink.{Sink}
 use Rattle.records.specs.declared.Head.{Head}
-use Rattle.bodies.specs.declared.fstring.Read.{Read}
 use Rattle.bodies.specs.declared.fstring.Read.TheVariants.{Done, Refused}
-use Rattle.edges.specs.declared.End.{End}
-use Rattle.edges.specs.declared.End.TheVariants as end
+use Rattle.std.specs.Prelude.{Result, Ok, Err}
 use Rattle.bodies.specs.Emit as E
 use Rattle.bodies.specs.Emit.{bit, emits, reserved, filled_in}
 use Rattle.bodies.specs.Sinks.{whole_of, out_of, is_held, load_of, Fits, Emits, spec_words}
-use Rattle.marks.specs.Marks.{converted, refusal, fault_of}
+use Rattle.marks.specs.Marks.{converted, fault_of}
 use Rattle.bodies.specs.Fstring.{Room, Written, ReadIs, SpecIs}
 use Rattle.edges.specs.Edges.{field_end}
 use Rattle.bodies.proofs.Emitted.{spec_last, emits_append, put_free}
@@ -172,9 +170,9 @@ module _ (s : List ℕ) (depth from : ℕ) (ex : List ℕ) (h : Head) where
     unfolding specified
     specified_on j e = rw e
 
-    abbrev Ends : ℕ → End → Type 0
-    Ends j (end.At q) = (specified s depth from j (formatted colon (head_state ex h)) ps ≡ got (with_spec q.at) q.at) × (q.at ≤ length s)
-    Ends j (end.Refused x) = specified s depth from j (formatted colon (head_state ex h)) ps ≡ refused (fault_of x)
+    abbrev Ends : ℕ → Result Cursor Refusal → Type 0
+    Ends j (Ok q) = (specified s depth from j (formatted colon (head_state ex h)) ps ≡ got (with_spec q.at) q.at) × (q.at ≤ length s)
+    Ends j (Err x) = specified s depth from j (formatted colon (head_state ex h)) ps ≡ refused (fault_of x)
 
     pub ended : (j : ℕ) → j ≤ length s → Ends j (field_end s j h.blank)
     ended j l = go (at_end s j) refl h.blank refl
@@ -225,17 +223,17 @@ module _ (look : Naming) (s : List ℕ) (depth from used : ℕ) (fr : Frame) (te
         let low : h.at.at ≤ length s = rw c.after (next_in s c.place (omega (arith, c.there))) in
         (subst (λ x. Reading weight 0 s h.at.at x) e (spec_reading look (enough s) fr.kind s depth h.at.at low (omega arith))).0.1
 
-    ends_at : (x : End) → x ≡ field_end s j h.blank → Ends s depth from c.expression h h.at.at ps j x
+    ends_at : (x : Result Cursor Refusal) → x ≡ field_end s j h.blank → Ends s depth from c.expression h h.at.at ps j x
     ends_at x q = rw q (ended s depth from c.expression h h.at.at ps j within)
 
     -- it is refused there, or ends
-    pub spec_unended : (x : Refusal) → end.Refused x ≡ field_end s j h.blank → reading ≡ refused (fault_of x)
-    spec_unended x q = to_end_lem ∙ ends_at (end.Refused x) q
+    pub spec_unended : (x : Refusal) → Err x ≡ field_end s j h.blank → reading ≡ refused (fault_of x)
+    spec_unended x q = to_end_lem ∙ ends_at (Err x) q
 
-    pub spec_ended : (q : Cursor) → end.At q ≡ field_end s j h.blank → (reading ≡ got (spec_pieces q.at) q.at) × (q.at ≤ length s)
-    spec_ended q p = let w = ends_at (end.At q) p in (to_end_lem ∙ w.0, w.1)
+    pub spec_ended : (q : Cursor) → Ok q ≡ field_end s j h.blank → (reading ≡ got (spec_pieces q.at) q.at) × (q.at ≤ length s)
+    spec_ended q p = let w = ends_at (Ok q) p in (to_end_lem ∙ w.0, w.1)
 
-    pub specified_field : (q : Cursor) → end.At q ≡ field_end s j h.blank → (words words₁ text₂ words' text' : List ℕ) (k a b : Sink) (n : ℕ)
+    pub specified_field : (q : Cursor) → Ok q ≡ field_end s j h.blank → (words words₁ text₂ words' text' : List ℕ) (k a b : Sink) (n : ℕ)
         → ((g : Signs) → Emits fr depth (before_spec depth c.expression h 1 from g) words text words₁ text₂ k a)
         → Emits fr depth (spec (direct (suc depth) ps) ∷ ps) words₁ text₂ words' text' a b
         → ReadIs reading fr depth words text words' text' k (Done q b n)

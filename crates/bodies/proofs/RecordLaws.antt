@@ -1,5 +1,4 @@
 -- What `records` writes, where no number wraps, is what emitting does. Assumes nothing.
-use Rattle.std.specs.Prelude.{if◌then◌else◌}
 use mathlib.Core.Path.{◌≡◌, refl, sym, ◌∙◌, ap, subst}
 use mathlib.Core.Bool.{Bool, true, false}
 use mathlib.Core.List.{List, [], ◌∷◌, ◌++◌}
@@ -9,8 +8,8 @@ use lib.Dec.{eqb, ltb}
 use lib.ListN.{length, drop, drop_of_length-le, replicate}
 use borrow.Author.Tests.{eqb-true, eqb-false, ne_eqb, ltb-true, ltb-false}
 use Rattle.definition.specs.Chars.{part}
-use Rattle.definition.specs.Body.{Signs, literal, field, filled, self_documenting, signs}
-use Rattle.definition.specs.Rows.{Row, row_numbers, sign_at, signs_at}
+use Rattle.definition.specs.Body.{Signs, literal, field, filled, self_documenting}
+use Rattle.definition.specs.Rows.{row_numbers, sign_at, signs_at}
 use Rattle.marks.specs.Marks.{converted}
 use Rattle.buffers.specs.Over.{over}
 use Rattle.buffers.proofs.Over.{over_nil, drop_over}

@@ -1,5 +1,4 @@
 -- Rows that are written field by field are those of the pieces. Assumes nothing.
-use Rattle.std.specs.Prelude.{if◌then◌else◌}
 use mathlib.Core.Path.{◌≡◌, refl, sym, ◌∙◌, ap}
 use mathlib.Core.Bool.{Bool, true, false, false≢true}
 use mathlib.Core.List.{List, [], ◌∷◌, ◌++◌, map, append_assoc, append-nil}
@@ -7,7 +6,6 @@ use Prim.Native.Nat.{ℕ, ◌+◌, ◌-◌, ◌*◌, ◌≤◌, ◌<◌}
 use native.Mathlib.Omega.{arith}
 use lib.ListN.{length, drop, length-append}
 use Rattle.definition.specs.Chars.{next}
-use Rattle.definition.specs.Numbers.{is_bytes}
 use Rattle.definition.specs.Escapes as d
 use Rattle.definition.specs.Escapes.{Naming, got}
 use Rattle.definition.specs.Body.{Signs, Piece, literal, field, spec, filled, Field, fresh, Move, calls, self_documenting, field_n, enough}

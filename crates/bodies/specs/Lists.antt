@@ -1,5 +1,5 @@
 -- A list of literals that is read: what is written of it, and what a call for all of it answers and leaves, by the definition's reading.
-use Rattle.std.specs.Prelude.{ℕ, ◌+◌, ◌*◌, ◌/◌, ◌≤◌, ◌<◌, ◌≡◌, false, List, length, take, drop, if◌then◌else◌}
+use Rattle.std.specs.Prelude.{ℕ, ◌+◌, ◌*◌, ◌/◌, ◌≤◌, ◌<◌, ◌≡◌, false, List, length, take, drop, Result, Ok, Err, if◌then◌else◌}
 use Rattle.std.proofs.Math.Option.{none, some}
 use Rattle.definition.specs.Numbers.{is_bytes, not_sixes}
 use Rattle.definition.specs.Chars.{well_formed}
@@ -15,10 +15,7 @@ use Rattle.entry.proofs.Passed.{Good, Passed}
 use Rattle.entry.specs.declared.Descriptor.{Descriptor}
 use Rattle.entry.specs.declared.Refusal as entry
 use Rattle.bodies.specs.declared.Written.{Written}
-use Rattle.bodies.specs.declared.Reading.{Reading}
-use Rattle.bodies.specs.declared.Reading.TheVariants as reading
 use Rattle.bodies.specs.declared.Listed.{Listed}
-use Rattle.bodies.specs.declared.Listed.TheVariants as listed
 use Rattle.records.specs.declared.Whole.{Whole}
 use Rattle.records.specs.declared.Window.{Window}
 use Rattle.records.specs.declared.Frame.{Frame}
@@ -86,9 +83,9 @@ pub record All (reading : lists.Outcome (List Item)) (w : e.Whole) (words text w
   pub reads : reading ≡ accepts items
   pub wrote : Wrote w items words text words' text' r
 
-abbrev pub ListIs : (look : Naming) → List ℕ → List Literal → e.Whole → List ℕ → List ℕ → List ℕ → List ℕ → Listed → Type 0
-ListIs look script ls w words text words' text' (listed.Done r n) = All (read_from look script 0 ls) w words text words' text' r
-ListIs look script ls w words text words' text' (listed.Refused x) = answered script ls (read_from look script 0 ls) ≡ refuses (refusal_of x)
+abbrev pub ListIs : (look : Naming) → List ℕ → List Literal → e.Whole → List ℕ → List ℕ → List ℕ → List ℕ → Result Listed entry.Refusal → Type 0
+ListIs look script ls w words text words' text' (Ok x) = All (read_from look script 0 ls) w words text words' text' x.sink
+ListIs look script ls w words text words' text' (Err x) = answered script ls (read_from look script 0 ls) ≡ refuses (refusal_of x)
 
 -- and their rows are written, and counted; each field has a record
 pub record Rowed (look : Naming) (v : Window) (script : List ℕ) (ls : List Literal) (rows rows' : List ℕ) (r : Sink) (n : ℕ) : Type 0 where
@@ -96,9 +93,9 @@ pub record Rowed (look : Naming) (v : Window) (script : List ℕ) (ls : List Lit
   pub counted : n ≡ length (all_rows look script ls)
   pub few : n ≤ r.count
 
-abbrev pub RowsAre : (look : Naming) → Window → List ℕ → List Literal → List ℕ → List ℕ → Listed → Type 0
-RowsAre look v script ls rows rows' (listed.Done r n) = Rowed look v script ls rows rows' r n
-RowsAre look v script ls rows rows' (listed.Refused x) = Unit {0}
+abbrev pub RowsAre : (look : Naming) → Window → List ℕ → List Literal → List ℕ → List ℕ → Result Listed entry.Refusal → Type 0
+RowsAre look v script ls rows rows' (Ok x) = Rowed look v script ls rows rows' x.sink x.fields
+RowsAre look v script ls rows rows' (Err x) = Unit {0}
 
 -- what is told of a list whose held text is closed
 pub record ClosedAs (w : Whole) (k : Sink) (fields chars : ℕ) (words words' : List ℕ) (r : Written) : Type 0 where
@@ -140,6 +137,6 @@ pub record RefusedIs (look : Naming) (script ns words text rows words' text' row
   pub rows_are : rows' ≡ zeros rows
 
 -- WHAT A CALL FOR ALL OF A LIST ANSWERS AND LEAVES
-abbrev pub ReadingIs : (look : Naming) (within skip : ℕ) (script ns words text rows words' text' rows' : List ℕ) → Reading → Type 0
-ReadingIs look within skip script ns words text rows words' text' rows' (reading.Done w) = DoneIs look within skip script ns words text rows words' text' rows' w
-ReadingIs look within skip script ns words text rows words' text' rows' (reading.Refused x) = RefusedIs look script ns words text rows words' text' rows' x
+abbrev pub ReadingIs : (look : Naming) (within skip : ℕ) (script ns words text rows words' text' rows' : List ℕ) → Result Written entry.Refusal → Type 0
+ReadingIs look within skip script ns words text rows words' text' rows' (Ok w) = DoneIs look within skip script ns words text rows words' text' rows' w
+ReadingIs look within skip script ns words text rows words' text' rows' (Err x) = RefusedIs look script ns words text rows words' text' rows' x

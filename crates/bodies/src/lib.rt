@@ -3,18 +3,17 @@
 
 mod fstring;
 
-ghost use Rattle.std.specs.Prelude.{◌≡◌, [], ◌<◌, ◌≤◌, length};
+ghost use Rattle.std.specs.Prelude.{◌≡◌, [], ◌<◌, ◌≤◌, length, Err};
 ghost use Rattle.std.proofs.Math.Option.{none};
 ghost use Rattle.definition.specs.Escapes.{held_names};
 ghost use Rattle.definition.specs.Entry.{body, not_mixed};
 ghost use Rattle.definition.specs.Body.{read_body};
 ghost use Rattle.definition.specs.Reading.{all_chars, zeros};
-ghost use Rattle.escapes.specs.Answers.{names_by};
+ghost use Rattle.escapes.specs.Answers.{naming};
 ghost use Rattle.entry.specs.Answers.{described, six, refusal_of};
 ghost use Rattle.entry.specs.Literals.{literals};
 ghost use Rattle.entry.proofs.Passed.{Passed};
 ghost use Rattle.marks.specs.Marks.{fault_of};
-ghost use Rattle.bodies.specs.declared.Reading.TheVariants.{Refused};
 ghost use Rattle.bodies.specs.Sinks.{whole_of, Fits};
 ghost use Rattle.bodies.specs.Fstring.{Room as BodyRoom, ReadIs, SignedIs};
 ghost use Rattle.bodies.specs.Lists.{whole_for, no_rows, Room, Stands, First, refused_at, frame_of, ListIs, RowsAre, ClosedAs, ReadingIs};
@@ -23,12 +22,13 @@ ghost use Rattle.edges.specs.Edges.{Opens};
 ghost use Rattle.wholes.specs.Wholes.{nothing};
 
 use edges::opens_field;
-use entry::{Checked, Class, Descriptor};
+use entry::{Class, Descriptor};
 use fstring::{Read, parse_fstring};
 use marks::Refusal;
+use names::{HELD, Names};
 use records::again::frame_again;
 use records::{Frame, Sink, Whole, Window, close_held, literal};
-use texts::{Text, parse_alone, parse_string};
+use texts::{NoEnd, Text, parse_alone, parse_string};
 use utf8::Cursor;
 use wholes::{refused_in, text_alone, whole_between};
 
@@ -45,27 +45,21 @@ pub struct Written {
     pub chars: u32,
 }
 
+// A list that was read and written, with the count of its fields.
 #[derive(Clone, Copy)]
-pub enum Reading {
-    Done(Written),
-    Refused(entry::Refusal),
+pub(crate) struct Listed {
+    sink: Sink,
+    fields: usize,
 }
 
-// Where a field ends, after its `}`; it is refused; none opens there; or the body is over the size limit.
-#[derive(Clone, Copy)]
-pub enum FieldEnd {
-    At(usize),
-    Refused,
-    Nowhere,
-    TooLong,
-}
-
-// A list that was read and written, with the count of its fields; or the first refusal.
-#[derive(Clone, Copy)]
-pub(crate) enum Listed {
-    Done(Sink, usize),
-    Refused(entry::Refusal),
-}
+// The counters before anything is written.
+const NOTHING: Sink = Sink {
+    count: 0,
+    used: 0,
+    held: 0,
+    from: 0,
+    parts: 0,
+};
 
 const LARGEST_BODY: usize = 1048576;
 
@@ -78,12 +72,11 @@ fn read_body(
     rows: &mut [u32],
     k: Sink,
     fields: usize,
-    file: &[u8],
-    index: &[u32],
+    names: &Names,
 ) -> Read
     requires body_room { BodyRoom s.now 0 fr k }
     requires fields_le_count { fields ≤ k.count }
-    ensures { ReadIs (read_body (names_by file.now index.now) fr.kind s.now) fr 0 words.old text.old words.new text.new k result × SignedIs result (read_body (names_by file.now index.now) fr.kind s.now) fr rows.old rows.new fields }
+    ensures { ReadIs (read_body (naming names.now) fr.kind s.now) fr 0 words.old text.old words.new text.new k result × SignedIs result (read_body (naming names.now) fr.kind s.now) fr rows.old rows.new fields }
 {
     if entry::is_of(Class::FStrings, fr.kind) {
         return parse_fstring(
@@ -96,12 +89,11 @@ fn read_body(
             rows,
             k,
             fields,
-            file,
-            index,
+            names,
             false,
         );
     }
-    match parse_string(s, fr.kind, text, k.used, file, index) {
+    match parse_string(s, fr.kind, text, k.used, names) {
         Text::Refused(r) => Read::Refused(r),
         Text::Done(used) => {
             Read::Done(
@@ -124,12 +116,11 @@ fn read_literal(
     k: Sink,
     fields: usize,
     window: Window,
-    file: &[u8],
-    index: &[u32],
+    names: &Names,
 ) -> Read
     requires room { Room script.now l k }
     requires fields_le_count { fields ≤ k.count }
-    ensures { ReadIs (read_body (names_by file.now index.now) l.kind (body script.now (described l))) (frame_of l whole window) 0 words.old text.old words.new text.new k result × SignedIs result (read_body (names_by file.now index.now) l.kind (body script.now (described l))) (frame_of l whole window) rows.old rows.new fields }
+    ensures { ReadIs (read_body (naming names.now) l.kind (body script.now (described l))) (frame_of l whole window) 0 words.old text.old words.new text.new k result × SignedIs result (read_body (naming names.now) l.kind (body script.now (described l))) (frame_of l whole window) rows.old rows.new fields }
 {
     let from = l.offset as usize;
     let to = from + l.size as usize;
@@ -142,17 +133,7 @@ fn read_literal(
         whole,
         window,
     };
-    read_body(
-        &script[from..to],
-        fr,
-        words,
-        text,
-        rows,
-        k,
-        fields,
-        file,
-        index,
-    )
+    read_body(&script[from..to], fr, words, text, rows, k, fields, names)
 }
 
 // How many characters the first literals have, which passed the checks.
@@ -161,13 +142,11 @@ fn chars_before(script: &[u8], numbers: &[u32], count: u32) -> u32
     ensures { result ≡ all_chars script.now (literals numbers.now 0 count) }
 {
     let mut chars: u32 = 0;
-    let mut i: u32 = 0;
-    while i < count {
+    for i in 0..count {
         let l = entry::literal_at(numbers, i);
         let from = l.offset as usize;
         let to = from + l.size as usize;
         chars += counts::heads(&script[from..to]) as u32;
-        i += 1;
     }
     chars
 }
@@ -193,37 +172,28 @@ fn read_list(
     text: &mut [u8],
     rows: &mut [u32],
     window: Window,
-    file: &[u8],
-    index: &[u32],
-) -> Listed
+    names: &Names,
+) -> Result<Listed, entry::Refusal>
     requires { Passed script.now numbers.now count }
-    ensures { ListIs (names_by file.now index.now) script.now (literals numbers.now 0 count) (whole_of whole) words.old text.old words.new text.new result × RowsAre (names_by file.now index.now) window script.now (literals numbers.now 0 count) rows.old rows.new result }
+    ensures { ListIs (naming names.now) script.now (literals numbers.now 0 count) (whole_of whole) words.old text.old words.new text.new result × RowsAre (naming names.now) window script.now (literals numbers.now 0 count) rows.old rows.new result }
 {
-    let mut sink = Sink {
-        count: 0,
-        used: 0,
-        held: 0,
-        from: 0,
-        parts: 0,
-    };
+    let mut sink = NOTHING;
     let mut fields = 0;
-    let mut i: u32 = 0;
-    while i < count {
+    for i in 0..count {
         let l = entry::literal_at(numbers, i);
         match read_literal(
-            script, l, whole, words, text, rows, sink, fields, window, file, index,
+            script, l, whole, words, text, rows, sink, fields, window, names,
         ) {
             Read::Refused(x) => {
-                return Listed::Refused(refusal_in(script, numbers, i, l, x));
+                return Err(refusal_in(script, numbers, i, l, x));
             }
             Read::Done(_, next, n) => {
                 sink = next;
                 fields = n;
             }
         }
-        i += 1;
     }
-    Listed::Done(sink, fields)
+    Ok(Listed { sink, fields })
 }
 
 // What every top-level record of the literals carries.
@@ -237,13 +207,18 @@ fn whole_of(numbers: &[u32], count: u32) -> Whole
 }
 
 // A refusal: all three buffers are filled with zeros.
-fn refuse(words: &mut [u32], text: &mut [u8], rows: &mut [u32], r: entry::Refusal) -> Reading
-    ensures { (result ≡ Refused r) × (words.new ≡ zeros words.old) × (text.new ≡ zeros text.old) × (rows.new ≡ zeros rows.old) }
+fn refuse(
+    words: &mut [u32],
+    text: &mut [u8],
+    rows: &mut [u32],
+    r: entry::Refusal,
+) -> Result<Written, entry::Refusal>
+    ensures { (result ≡ Err r) × (words.new ≡ zeros words.old) × (text.new ≡ zeros text.old) × (rows.new ≡ zeros rows.old) }
 {
-    buffers::fill_words(words, 0);
+    buffers::fill(words, 0);
     buffers::fill(text, 0);
-    buffers::fill_words(rows, 0);
-    Reading::Refused(r)
+    buffers::fill(rows, 0);
+    Err(r)
 }
 
 // What was written of a list, once its held text is closed.
@@ -274,45 +249,34 @@ pub fn read_all(
     words: &mut [u32],
     text: &mut [u8],
     rows: &mut [u32],
-    file: &[u8],
-    index: &[u32],
-) -> Reading
-    ensures { ReadingIs (names_by file.now index.now) within skip script.now numbers.now words.old text.old rows.old words.new text.new rows.new result }
+    names: &Names,
+) -> Result<Written, entry::Refusal>
+    ensures { ReadingIs (naming names.now) within skip script.now numbers.now words.old text.old rows.old words.new text.new rows.new result }
 {
     match checks::check(script, numbers) {
-        Checked::Refused(r) => refuse(words, text, rows, r),
-        Checked::Passed(chars) => {
+        Err(r) => refuse(words, text, rows, r),
+        Ok(chars) => {
             let count = (numbers.len() / 6) as u32;
             let whole = whole_of(numbers, count);
             let window = Window { within, skip };
             match read_list(
-                script, numbers, count, whole, words, text, rows, window, file, index,
+                script, numbers, count, whole, words, text, rows, window, names,
             ) {
-                Listed::Refused(r) => refuse(words, text, rows, r),
-                Listed::Done(sink, fields) => {
-                    Reading::Done(written_of(words, whole, sink, fields, chars))
-                }
+                Err(r) => refuse(words, text, rows, r),
+                Ok(done) => Ok(written_of(words, whole, done.sink, done.fields, chars)),
             }
         }
     }
 }
 
 // A body that is read alone: into buffers that hold nothing yet, with the held names and no rows.
+// Apart from `read_body`, which was slower for it, as `parse_alone` is.
 fn body_alone(s: &[u8], fr: Frame, words: &mut [u32], text: &mut [u8]) -> Read
     requires { BodyRoom s.now 0 fr nothing }
     ensures { ReadIs (read_body held_names fr.kind s.now) fr 0 words.old text.old words.new text.new nothing result × SignedIs result (read_body held_names fr.kind s.now) fr [] [] 0 }
 {
     if entry::is_of(Class::FStrings, fr.kind) {
-        let file = [0u8; 0];
-        let index = [0u32; 0];
         let mut rows = [0u32; 0];
-        let k = Sink {
-            count: 0,
-            used: 0,
-            held: 0,
-            from: 0,
-            parts: 0,
-        };
         return parse_fstring(
             s,
             Cursor { at: 0 },
@@ -321,10 +285,9 @@ fn body_alone(s: &[u8], fr: Frame, words: &mut [u32], text: &mut [u8]) -> Read
             words,
             text,
             &mut rows,
-            k,
+            NOTHING,
             0,
-            &file,
-            &index,
+            &HELD,
             false,
         );
     }
@@ -335,6 +298,7 @@ fn body_alone(s: &[u8], fr: Frame, words: &mut [u32], text: &mut [u8]) -> Read
 }
 
 // A literal that is read alone.
+// Apart from `read_literal`, which was slower for it, as `parse_alone` is.
 fn literal_alone(
     script: &[u8],
     l: Descriptor,
@@ -361,29 +325,33 @@ fn literal_alone(
 }
 
 // Reads one literal with the held names, as a list of its own: its records and its text are written as far as there is room.
-pub fn read_one(script: &[u8], l: Descriptor, words: &mut [u32], text: &mut [u8]) -> Reading
+// Apart from `read_all`, which was slower for it, as `parse_alone` is.
+pub fn read_one(
+    script: &[u8],
+    l: Descriptor,
+    words: &mut [u32],
+    text: &mut [u8],
+) -> Result<Written, entry::Refusal>
     ensures { ReadingIs held_names 0 0 script.now (six l) words.old text.old [] words.new text.new [] result }
 {
     let none = [0u32; 0];
     let mut rows = [0u32; 0];
     match checks::check_one(script, l) {
-        Checked::Refused(r) => refuse(words, text, &mut rows, r),
-        Checked::Passed(chars) => {
+        Err(r) => refuse(words, text, &mut rows, r),
+        Ok(chars) => {
             let whole = whole_between(l, l);
             match literal_alone(script, l, whole, words, text) {
                 Read::Refused(x) => {
                     refuse(words, text, &mut rows, refusal_in(script, &none, 0, l, x))
                 }
-                Read::Done(_, sink, fields) => {
-                    Reading::Done(written_of(words, whole, sink, fields, chars))
-                }
+                Read::Done(_, sink, fields) => { Ok(written_of(words, whole, sink, fields, chars)) }
             }
         }
     }
 }
 
 // Where a field ends that opens at a place.
-fn read_field(s: &[u8], at: Cursor) -> FieldEnd
+fn read_field(s: &[u8], at: Cursor) -> Result<usize, NoEnd>
     requires { (length s.now ≤ 1048576) × (at.at < length s.now) × Opens s.now at.at }
     ensures { EndIs s.now at.at result }
 {
@@ -402,36 +370,27 @@ fn read_field(s: &[u8], at: Cursor) -> FieldEnd
         window,
         whole,
     };
-    let k = Sink {
-        count: 0,
-        used: 0,
-        held: 0,
-        from: 0,
-        parts: 0,
-    };
     let mut words = [0u32; 0];
     let mut text = [0u8; 0];
     let mut rows = [0u32; 0];
-    let file = [0u8; 0];
-    let index = [0u32; 0];
     match parse_fstring(
-        s, at, 0, fr, &mut words, &mut text, &mut rows, k, 0, &file, &index, true,
+        s, at, 0, fr, &mut words, &mut text, &mut rows, NOTHING, 0, &HELD, true,
     ) {
-        Read::Refused(_) => FieldEnd::Refused,
-        Read::Done(after, _, _) => FieldEnd::At(after.at),
+        Read::Refused(_) => Err(NoEnd::Refused),
+        Read::Done(after, _, _) => Ok(after.at),
     }
 }
 
 // Where the field ends that a `{` at a place opens, at depth 0 of a body of kind 1, with the held names. Nothing of it is kept.
-pub fn field_end(s: &[u8], at: usize) -> FieldEnd
+pub fn field_end(s: &[u8], at: usize) -> Result<usize, NoEnd>
     ensures { EndIs s.now at result }
 {
     if LARGEST_BODY < s.len() {
-        return FieldEnd::TooLong;
+        return Err(NoEnd::TooLong);
     }
     let from = Cursor { at };
     if opens_field(s, from) {
         return read_field(s, from);
     }
-    FieldEnd::Nowhere
+    Err(NoEnd::Nowhere)
 }

@@ -1,9 +1,11 @@
 -- Where a field opens, by the character at a place and the one after it. Assumes nothing.
 use mathlib.Core.Path.{◌≡◌, refl, sym, ◌∙◌}
+use mathlib.Core.Bool.{not}
 use mathlib.Core.List.{List, []}
-use Prim.Native.Nat.{ℕ, ◌≤◌}
+use Prim.Native.Nat.{ℕ, ◌≤◌, ◌<◌}
 use native.Mathlib.Omega.{arith}
-use borrow.Author.Tests.{le-leb, lt-leb, ne_eqb}
+use borrow.Author.Tests.{le-leb, lt-leb, eqb-true, eq-eqb, ne_eqb}
+use lib.Dec.{eqb}
 use lib.ListN.{length}
 use Rattle.definition.specs.Chars.{no_code, code, next}
 use Rattle.definition.specs.Escapes.{got, refused}
@@ -12,6 +14,8 @@ use Rattle.definition.specs.Body.{Move, calls, with_escape, TextCase, deep, open
 use Rattle.definition_laws.proofs.Moves.Cases.{text_told}
 use Rattle.utf8.specs.declared.Cursor.{Cursor}
 use Rattle.utf8.proofs.Steps.{Stepped}
+use Rattle.definition.proofs.Moves.CharLaws.{cases, no}
+use Rattle.texts.specs.Text.{Whether}
 use Rattle.edges.specs.Edges.{Opens}
 
 code_end : (s : List ℕ) (i : ℕ) → length s ≤ i → code s i ≡ no_code
@@ -61,3 +65,6 @@ module _ (s : List ℕ) (i : ℕ) where
       pub brace_opens : (c ≡ 0x7B → ⊥) → Opens s i
       unfolding text_move text_case
       brace_opens e = rw (lt-leb _ _ t.there, t.code_is, t.next_is, u.code_is, ne_eqb _ _ e, lt-leb _ _ u.there, text_move, text_case) refl
+
+      pub brace_told : Whether (not (eqb c 0x7B)) ((i < length s) × Opens s i) (Opens s i → ⊥)
+      brace_told = cases (eqb c 0x7B) (λ e. rw e (doubled_brace (eqb-true c 0x7B e))) (λ e. rw e (t.there, brace_opens (λ z. no (sym e ∙ eq-eqb c 0x7B z))))

@@ -2,63 +2,39 @@
 #![tactic(auto)]
 
 ghost use Rattle.std.specs.Prelude.{◌≡◌, ◌<◌, length};
-ghost use Rattle.definition.specs.Escapes.{fault};
-ghost use Rattle.marks.specs.Marks.{refusal};
 ghost use Rattle.texts.specs.Text.{Whether};
 ghost use Rattle.edges.specs.Edges.{Opens, field_end};
 
-use heads::EMPTY_EXPRESSION;
-use marks::{Refusal, Unclosed, unclosed_brace};
+use marks::{Refusal, Unclosed, refused_at, unclosed_brace};
+use numbering::Number;
 use utf8::{Cursor, Step};
 
-// Where a field ends, after its `}`; or why it is refused there.
-#[derive(Clone, Copy)]
-pub enum End {
-    At(Cursor),
-    Refused(Refusal),
-}
-
 // Whether a field opens at a place of a body, at depth 0: a `{` that is neither doubled nor the last character.
+// Two guards, since each takes a character that the next one needs.
 pub fn opens_field(s: &[u8], at: Cursor) -> bool
     ensures { Whether result ((at.at < length s.now) × Opens s.now at.at) (Opens s.now at.at → ⊥) }
 {
     let Step::Char(c, after) = at.next_char(s) else {
         return false;
     };
-    if c != 0x7B {
+    if c != '{' as u32 {
         return false;
     }
     let Step::Char(d, _) = after.next_char(s) else {
         return false;
     };
-    if d == 0x7B {
-        return false;
-    }
-    true
+    d != '{' as u32
 }
 
-// A field whose spec has ended at a cursor, at its `}` or at the body's end.
-pub fn end_field(s: &[u8], at: Cursor, blank: bool) -> End
+// Where a field ends, after its `}`, whose spec has ended at a cursor, at its `}` or at the body's end; or why it is refused there.
+pub fn end_field(s: &[u8], at: Cursor, blank: bool) -> Result<Cursor, Refusal>
     ensures { result ≡ field_end s.now at.at blank }
 {
     let Step::Char(_, after) = at.next_char(s) else {
-        return End::Refused(unclosed_brace(Unclosed::InField, at.at));
+        return Err(unclosed_brace(Unclosed::InField, at.at));
     };
     if blank {
-        return End::Refused(refuse(EMPTY_EXPRESSION, after.at));
+        return Err(refused_at(Number::EmptyExpression as u32, after.at));
     }
-    End::At(after)
-}
-
-// A refusal with no details, after so many bytes.
-fn refuse(number: u32, taken: usize) -> Refusal
-    ensures { result ≡ refusal (fault number taken) }
-{
-    Refusal {
-        number,
-        opened: 0,
-        taken,
-        a: 0,
-        b: 0,
-    }
+    Ok(after)
 }

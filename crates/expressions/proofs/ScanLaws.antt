@@ -14,6 +14,7 @@ use Rattle.definition.specs.Chars.{◌is◌, byte}
 use Rattle.definition.specs.Matched.{Seen, clear, pairs, closed, see, settled}
 use Rattle.definition_written.specs.ReadsBack.{is_open, few_open, clean}
 use Rattle.expressions.proofs.CleanLaws.{clean_over, clean_pair, clean_byte}
+use Rattle.std.specs.Prelude.{Some, None}
 use Rattle.expressions.specs.Scans.{opens, state_of, Keeps}
 
 length_opens : (stack : List ℕ) (d : ℕ) → length (opens stack d) ≡ d
@@ -36,55 +37,55 @@ opens_less stack zero h = absurd (omega arith)
 opens_less stack (suc d) h = let e : suc d - 1 ≡ d = omega arith in rw e refl
 
 -- what is clean so far, and what is not
-clean_so : {x : Seen} {stack : List ℕ} {q d : ℕ} → length stack ≡ 64 → d ≤ 64 → x ≡ state_of stack q d → Keeps x stack q d
-clean_so l h e = record { on = λ k. e; off = λ k. absurd (omega arith); full = l }
+clean_so : {x : Seen} {stack : List ℕ} {q d : ℕ} → length stack ≡ 64 → d ≤ 64 → x ≡ state_of stack q d → Keeps x stack (Some (record { quote = q; depth = d }))
+clean_so l h e = record { is = (h, e); full = l }
 
-not_clean : {x : Seen} {stack : List ℕ} {q : ℕ} → length stack ≡ 64 → few_open x ≡ false → Keeps x stack q 65
-not_clean l e = record { on = λ k. absurd (omega arith); off = λ k. e; full = l }
+not_clean : {x : Seen} {stack : List ℕ} → length stack ≡ 64 → few_open x ≡ false → Keeps x stack None
+not_clean l e = record { is = e; full = l }
 
 quote_some : (b : ℕ) → (b is "\"'") ≡ true → eqb b 0 ≡ false
 quote_some b t =
     either (eqb b 34) (eqb b 39) t (λ e. ne_eqb b 0 (λ (z : b ≡ 0). let k = eqb-true b 34 e in omega arith)) (λ e. ne_eqb b 0 (λ (z : b ≡ 0). let k = eqb-true b 39 e in omega arith))
 
 module _ (stack : List ℕ) (l : length stack ≡ 64) (d : ℕ) (h : d ≤ 64) (b : ℕ) where
-  pub sees_quote : (b is "\"'") ≡ true → Keeps (see (clear (opens stack d)) b) stack b d
+  pub sees_quote : (b is "\"'") ≡ true → Keeps (see (clear (opens stack d)) b) stack (Some (record { quote = b; depth = d }))
   unfolding see state_of
   sees_quote t = clean_so l h (rw (t, quote_some b t) refl)
 
-  pub sees_full : (b is "\"'") ≡ false → (b is "([{") ≡ true → 64 ≤ d → Keeps (see (clear (opens stack d)) b) stack 0 65
+  pub sees_full : (b is "\"'") ≡ false → (b is "([{") ≡ true → 64 ≤ d → Keeps (see (clear (opens stack d)) b) stack None
   unfolding see few_open
   sees_full t u k = not_clean l (rw (t, u) (lt-leb (suc (length (opens stack d))) 64 (omega (arith, length_opens stack d))))
 
-  pub sees_opener : (b is "\"'") ≡ false → (b is "([{") ≡ true → d < 64 → Keeps (see (clear (opens stack d)) b) (set stack d b) 0 (d + 1)
+  pub sees_opener : (b is "\"'") ≡ false → (b is "([{") ≡ true → d < 64 → Keeps (see (clear (opens stack d)) b) (set stack d b) (Some (record { quote = 0; depth = d + 1 }))
   unfolding see state_of
   sees_opener t u k = clean_so (length-set stack d b ∙ l) (omega arith) (rw (t, u) (ap clear (sym (opens_more stack d b (omega arith)))))
 
-  pub sees_stray : (b is "\"'") ≡ false → (b is "([{") ≡ false → (b is ")]}") ≡ true → d ≡ 0 → Keeps (see (clear (opens stack d)) b) stack 0 65
+  pub sees_stray : (b is "\"'") ≡ false → (b is "([{") ≡ false → (b is ")]}") ≡ true → d ≡ 0 → Keeps (see (clear (opens stack d)) b) stack None
   unfolding see closed opens few_open
   sees_stray t u v e = not_clean l (rw (t, u, v, e) refl)
 
-  pub sees_closer : (b is "\"'") ≡ false → (b is "([{") ≡ false → (b is ")]}") ≡ true → 0 < d → pairs (get_or stack (d - 1) 0) b ≡ true → Keeps (see (clear (opens stack d)) b) stack 0 (d - 1)
+  pub sees_closer : (b is "\"'") ≡ false → (b is "([{") ≡ false → (b is ")]}") ≡ true → 0 < d → pairs (get_or stack (d - 1) 0) b ≡ true → Keeps (see (clear (opens stack d)) b) stack (Some (record { quote = 0; depth = d - 1 }))
   unfolding see closed state_of
   sees_closer t u v k e = clean_so l (omega arith) (rw (t, u, v, opens_less stack d k) (rw (e, closed) refl))
 
-  pub sees_other : (b is "\"'") ≡ false → (b is "([{") ≡ false → (b is ")]}") ≡ true → 0 < d → pairs (get_or stack (d - 1) 0) b ≡ false → Keeps (see (clear (opens stack d)) b) stack 0 65
+  pub sees_other : (b is "\"'") ≡ false → (b is "([{") ≡ false → (b is ")]}") ≡ true → 0 < d → pairs (get_or stack (d - 1) 0) b ≡ false → Keeps (see (clear (opens stack d)) b) stack None
   unfolding see closed few_open
   sees_other t u v k e = not_clean l (rw (t, u, v, opens_less stack d k) (rw (e, closed) refl))
 
-  pub sees_backslash : (b is "\"'") ≡ false → (b is "([{") ≡ false → (b is ")]}") ≡ false → b ≡ 92 → Keeps (see (clear (opens stack d)) b) stack 0 65
+  pub sees_backslash : (b is "\"'") ≡ false → (b is "([{") ≡ false → (b is ")]}") ≡ false → b ≡ 92 → Keeps (see (clear (opens stack d)) b) stack None
   unfolding see few_open
   sees_backslash t u v e = not_clean l (rw (t, u, v, eq-eqb b 92 e) refl)
 
-  pub sees_plain : (b is "\"'") ≡ false → (b is "([{") ≡ false → (b is ")]}") ≡ false → (b ≡ 92 → ⊥) → Keeps (see (clear (opens stack d)) b) stack 0 d
+  pub sees_plain : (b is "\"'") ≡ false → (b is "([{") ≡ false → (b is ")]}") ≡ false → (b ≡ 92 → ⊥) → Keeps (see (clear (opens stack d)) b) stack (Some (record { quote = 0; depth = d }))
   unfolding see state_of
   sees_plain t u v e = clean_so l h (rw (t, u, v, ne_eqb b 92 e) refl)
 
   -- in a run, and at its end
-  pub sees_end : (q : ℕ) → (q ≡ 0 → ⊥) → b ≡ q → Keeps (see (state_of stack q d) b) stack 0 d
+  pub sees_end : (q : ℕ) → (q ≡ 0 → ⊥) → b ≡ q → Keeps (see (state_of stack q d) b) stack (Some (record { quote = 0; depth = d }))
   unfolding see state_of
   sees_end q z e = clean_so l h (rw (ne_eqb q 0 z) (rw (eq-eqb b q e) refl))
 
-  pub sees_run : (q : ℕ) → (q ≡ 0 → ⊥) → (b ≡ q → ⊥) → Keeps (see (state_of stack q d) b) stack q d
+  pub sees_run : (q : ℕ) → (q ≡ 0 → ⊥) → (b ≡ q → ⊥) → Keeps (see (state_of stack q d) b) stack (Some (record { quote = q; depth = d }))
   unfolding see state_of
   sees_run q z e = clean_so l h (rw (ne_eqb q 0 z) (rw (ne_eqb b q e) refl))
 

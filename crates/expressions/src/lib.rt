@@ -3,14 +3,15 @@
 
 ghost use Rattle.std.specs.Prelude.{◌≡◌, ◌&&◌, true, false, [], ◌≤◌, ◌<◌, ◌+◌, eqb, length};
 ghost use Rattle.definition.specs.Chars.{◌is◌, byte};
-ghost use Rattle.definition.specs.Matched.{clear, see, pairs, blank, braceless};
+ghost use Rattle.definition.specs.Matched.{clear, see, blank, braceless};
 ghost use Rattle.definition_written.specs.ReadsBack.{clean};
 ghost use Rattle.expressions.specs.Scans.{opens, state_of, Keeps};
 
-use marks::{brace_from, is_blank};
+use marks::{brace_from, is_blank, matches};
 use utf8::{Cursor, Step};
 
-// The quote of the run that a scan is in, 0 outside of runs, and how many brackets are open; over 64 for an expression that is not clean.
+// The quote of the run that a scan is in, 0 outside of runs, and how many brackets are open, at most 64.
+// The quote is no Option, which would be no plainer: it is only compared, with 0 or with a byte.
 #[derive(Clone, Copy)]
 struct Scan {
     quote: u8,
@@ -21,123 +22,79 @@ struct Scan {
 fn is_quote(b: u8) -> bool
     ensures { result ≡ b is "\"'" }
 {
-    match b {
-        b'"' => true,
-        b'\'' => true,
-        _ => false,
-    }
+    matches!(b, b'"' | b'\'')
 }
 
 // Whether a byte opens a bracket.
 fn is_opener(b: u8) -> bool
     ensures { result ≡ b is "([{" }
 {
-    match b {
-        b'(' => true,
-        b'[' => true,
-        b'{' => true,
-        _ => false,
-    }
+    matches!(b, b'(' | b'[' | b'{')
 }
 
 // Whether a byte closes a bracket.
 fn is_closer(b: u8) -> bool
     ensures { result ≡ b is ")]}" }
 {
-    match b {
-        b')' => true,
-        b']' => true,
-        b'}' => true,
-        _ => false,
-    }
+    matches!(b, b')' | b']' | b'}')
 }
 
 // Whether a byte may be the first of a pair.
 fn is_first(b: u8) -> bool
     ensures { result ≡ b is "!=><" }
 {
-    match b {
-        b'!' => true,
-        b'=' => true,
-        b'>' => true,
-        b'<' => true,
-        _ => false,
-    }
+    matches!(b, b'!' | b'=' | b'>' | b'<')
 }
 
 // Whether a byte may not stand outside of brackets and runs, but in a pair.
 fn is_sign(b: u8) -> bool
     ensures { result ≡ b is "!=:" }
 {
-    match b {
-        b'!' => true,
-        b'=' => true,
-        b':' => true,
-        _ => false,
-    }
+    matches!(b, b'!' | b'=' | b':')
 }
 
-// Whether a closing bracket is of an open one's kind.
-fn matches(opener: u8, closer: u8) -> bool
-    ensures { result ≡ pairs opener closer }
-{
-    match opener {
-        b'(' => closer == b')',
-        b'[' => closer == b']',
-        b'{' => closer == b'}',
-        _ => false,
-    }
-}
-
-// An opening bracket outside of runs.
-fn open_bracket(b: u8, depth: usize, stack: &mut [u8; 64]) -> Scan
+// An opening bracket outside of runs; nothing for an expression that is not clean.
+// 64 places with a count: asked for, and nothing is allocated.
+fn open_bracket(b: u8, depth: usize, stack: &mut [u8; 64]) -> Option<Scan>
     requires { (depth ≤ 64) × (length stack.old ≡ 64) × ((b is "\"'") ≡ false) × ((b is "([{") ≡ true) }
-    ensures { Keeps (see (clear (opens stack.old depth)) b) stack.new result.quote result.depth }
+    ensures { Keeps (see (clear (opens stack.old depth)) b) stack.new result }
 {
     if 64 <= depth {
-        return Scan {
-            quote: 0,
-            depth: 65,
-        };
+        return None;
     }
     stack[depth] = b;
-    Scan {
+    Some(Scan {
         quote: 0,
         depth: depth + 1,
-    }
+    })
 }
 
-// A closing bracket outside of runs.
-fn close_bracket(b: u8, depth: usize, stack: &[u8; 64]) -> Scan
+// A closing bracket outside of runs; nothing for an expression that is not clean.
+fn close_bracket(b: u8, depth: usize, stack: &[u8; 64]) -> Option<Scan>
     requires { (depth ≤ 64) × (length stack.now ≡ 64) × ((b is "\"'") ≡ false) × ((b is "([{") ≡ false) × ((b is ")]}") ≡ true) }
-    ensures { Keeps (see (clear (opens stack.now depth)) b) stack.now result.quote result.depth }
+    ensures { Keeps (see (clear (opens stack.now depth)) b) stack.now result }
 {
     if depth == 0 {
-        return Scan {
-            quote: 0,
-            depth: 65,
-        };
+        return None;
     }
     let less = depth - 1;
-    if matches(stack[less], b) {
-        return Scan {
+    if matches(u32::from(stack[less]), u32::from(b)) {
+        Some(Scan {
             quote: 0,
             depth: less,
-        };
-    }
-    Scan {
-        quote: 0,
-        depth: 65,
+        })
+    } else {
+        None
     }
 }
 
-// One more byte outside of runs.
-fn see_clear(b: u8, depth: usize, stack: &mut [u8; 64]) -> Scan
+// One more byte outside of runs; nothing for an expression that is not clean.
+fn see_clear(b: u8, depth: usize, stack: &mut [u8; 64]) -> Option<Scan>
     requires { (depth ≤ 64) × (length stack.old ≡ 64) }
-    ensures { Keeps (see (clear (opens stack.old depth)) b) stack.new result.quote result.depth }
+    ensures { Keeps (see (clear (opens stack.old depth)) b) stack.new result }
 {
     if is_quote(b) {
-        return Scan { quote: b, depth };
+        return Some(Scan { quote: b, depth });
     }
     if is_opener(b) {
         return open_bracket(b, depth, stack);
@@ -146,36 +103,30 @@ fn see_clear(b: u8, depth: usize, stack: &mut [u8; 64]) -> Scan
         return close_bracket(b, depth, stack);
     }
     if b == b'\\' {
-        return Scan {
-            quote: 0,
-            depth: 65,
-        };
+        return None;
     }
-    Scan { quote: 0, depth }
+    Some(Scan { quote: 0, depth })
 }
 
-// One more byte that is of no pair.
-fn see_byte(b: u8, quote: u8, depth: usize, stack: &mut [u8; 64]) -> Scan
+// One more byte that is of no pair; nothing for an expression that is not clean.
+fn see_byte(b: u8, quote: u8, depth: usize, stack: &mut [u8; 64]) -> Option<Scan>
     requires { (depth ≤ 64) × (length stack.old ≡ 64) }
-    ensures { Keeps (see (state_of stack.old quote depth) b) stack.new result.quote result.depth }
+    ensures { Keeps (see (state_of stack.old quote depth) b) stack.new result }
 {
     if quote == 0 {
         return see_clear(b, depth, stack);
     }
     if b == quote {
-        return Scan { quote: 0, depth };
+        return Some(Scan { quote: 0, depth });
     }
-    Scan { quote, depth }
+    Some(Scan { quote, depth })
 }
 
 // Whether `=` stands at an index.
 fn is_equals(s: &[u8], i: usize) -> bool
     ensures { result ≡ byte s.now i is "=" }
 {
-    if s.len() <= i {
-        return false;
-    }
-    s[i] == b'='
+    i < s.len() && s[i] == b'='
 }
 
 // Whether a byte outside of runs is the first of a pair.
@@ -183,36 +134,21 @@ fn is_pair(s: &[u8], i: usize, quote: u8) -> bool
     requires { i < length s.now }
     ensures { result ≡ (eqb quote 0 && byte s.now i is "!=><" && byte s.now (i + 1) is "=") }
 {
-    if quote != 0 {
-        return false;
-    }
-    if is_first(s[i]) {
-        return is_equals(s, i + 1);
-    }
-    false
+    quote == 0 && is_first(s[i]) && is_equals(s, i + 1)
 }
 
 // Whether a byte that is of no pair ends the expression.
 fn is_ending(b: u8, quote: u8, depth: usize) -> bool
     ensures { result ≡ (eqb quote 0 && eqb depth 0 && b is "!=:") }
 {
-    if quote != 0 {
-        return false;
-    }
-    if depth != 0 {
-        return false;
-    }
-    is_sign(b)
+    is_settled(quote, depth) && is_sign(b)
 }
 
 // Whether nothing is open.
 fn is_settled(quote: u8, depth: usize) -> bool
     ensures { result ≡ (eqb quote 0 && eqb depth 0) }
 {
-    if quote != 0 {
-        return false;
-    }
-    depth == 0
+    quote == 0 && depth == 0
 }
 
 // Whether an expression is clean.
@@ -223,6 +159,7 @@ pub fn is_clean(s: &[u8]) -> bool
     let mut quote = 0;
     let mut depth = 0;
     let mut i = 0;
+    // A step is a byte or a pair, so no `for` counts them.
     while i < s.len() {
         if is_pair(s, i, quote) {
             i = i + 1 + 1;
@@ -232,10 +169,9 @@ pub fn is_clean(s: &[u8]) -> bool
         if is_ending(b, quote, depth) {
             return false;
         }
-        let next = see_byte(b, quote, depth, &mut stack);
-        if 64 < next.depth {
+        let Some(next) = see_byte(b, quote, depth, &mut stack) else {
             return false;
-        }
+        };
         quote = next.quote;
         depth = next.depth;
         i += 1;
@@ -248,15 +184,15 @@ pub fn is_blank_text(s: &[u8]) -> bool
     ensures { result ≡ blank s.now }
 {
     let mut at = 0;
+    // A step is a character.
     while at < s.len() {
         let Step::Char(c, after) = (Cursor { at }).next_char(s) else {
             return true;
         };
-        if is_blank(c) {
-            at = after.at;
-        } else {
+        if !is_blank(c) {
             return false;
         }
+        at = after.at;
     }
     true
 }

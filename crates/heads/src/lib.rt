@@ -12,29 +12,17 @@ ghost use Rattle.heads.specs.FieldTurns.{Passed, pending, kept_to, skipped_to, f
 use brackets::{innermost, packed};
 use buffers::add_run;
 use marks::{
-    Class, Refusal, Unclosed, class_of, ends_head, is_conversion, matches, passing_end, run_end,
-    still_blank, unclosed_brace,
+    Class, Refusal, Unclosed, class_of, ends_head, is_conversion, matches, passing_end, refused_at,
+    run_end, still_blank, unclosed_brace,
 };
+use numbering::Number;
 use records::Head;
 use utf8::{Cursor, Step};
 
 const LARGEST_BODY: usize = 1048576;
 
-const BODIES_TOO_LONG: u32 = 5;
-
-const INVALID_CONVERSION_FLAG: u32 = 21;
-
-pub const EMPTY_EXPRESSION: u32 = 22;
-
-pub const MISMATCHED_DELIMITER: u32 = 23;
-
-const UNMATCHED: u32 = 26;
-
-const UNTERMINATED_STRING: u32 = 27;
-
-const TOO_MANY_BRACKETS: u32 = 28;
-
 // A head that was read, with the number of its field's parts, 0 if a `}` ends it and 1 if a `:` does; or a refusal.
+// An answer of our own, as docs/DECISIONS.md, "Forms", has it.
 #[derive(Clone, Copy)]
 pub enum Opened {
     Ended(Head, u32),
@@ -42,6 +30,7 @@ pub enum Opened {
 }
 
 // A head so far, with the number of open brackets; of the expression, what stands from `run` on is not written yet.
+// A sign that is not there is 0, as in `records::Head`.
 #[derive(Clone, Copy)]
 struct State {
     at: usize,
@@ -56,6 +45,7 @@ struct State {
 }
 
 // What a character does: the head goes on, a `:` or a `}` ends it, or it is refused.
+// An answer of our own, as docs/DECISIONS.md, "Forms", has it.
 #[derive(Clone, Copy)]
 enum Turn {
     On(State),
@@ -64,39 +54,15 @@ enum Turn {
     Refused(Refusal),
 }
 
-// A refusal without details.
-fn refused_at(number: u32, taken: usize) -> Refusal
-    ensures { result ≡ refusal (fault number taken) }
-{
-    Refusal {
-        number,
-        opened: 0,
-        taken,
-        a: 0,
-        b: 0,
-    }
-}
-
-fn refuse(number: u32, taken: usize) -> Turn
-    ensures { result ≡ Turn.Refused (refusal (fault number taken)) }
-{
-    Turn::Refused(refused_at(number, taken))
-}
-
 // The state at another place, with the bytes up to there in the expression.
 fn kept(f: State, to: usize, depth: usize, blank: bool) -> State
     ensures { result ≡ kept_to f to depth blank }
 {
     State {
         at: to,
-        run: f.run,
-        used: f.used,
         depth,
-        spaces: f.spaces,
-        equals: f.equals,
-        bang: f.bang,
-        conversion: f.conversion,
         blank,
+        ..f
     }
 }
 
@@ -113,12 +79,7 @@ fn skip(s: &[u8], f: State, to: usize, text: &mut [u8]) -> State
         at: to,
         run: to,
         used: used + (at - run),
-        depth: f.depth,
-        spaces: f.spaces,
-        equals: f.equals,
-        bang: f.bang,
-        conversion: f.conversion,
-        blank: f.blank,
+        ..f
     }
 }
 
@@ -152,7 +113,7 @@ fn open_bracket(f: State, c: u32, after: Cursor, places: &mut [u32; 64]) -> Turn
     let depth = f.depth;
     let to = after.at;
     if 64 <= depth {
-        return refuse(TOO_MANY_BRACKETS, to);
+        return Turn::Refused(refused_at(Number::TooManyBrackets as u32, to));
     }
     places[depth] = packed(c, to);
     Turn::On(kept(f, to, depth + 1, false))
@@ -167,11 +128,8 @@ fn close_bracket(f: State, c: u32, after: Cursor, places: &[u32; 64]) -> Turn
     let to = after.at;
     if depth == 0 {
         return Turn::Refused(Refusal {
-            number: UNMATCHED,
-            opened: 0,
-            taken: to,
             a: c,
-            b: 0,
+            ..refused_at(Number::Unmatched as u32, to)
         });
     }
     let opener = innermost(places, depth);
@@ -179,7 +137,7 @@ fn close_bracket(f: State, c: u32, after: Cursor, places: &[u32; 64]) -> Turn
         return Turn::On(kept(f, to, depth - 1, false));
     }
     Turn::Refused(Refusal {
-        number: MISMATCHED_DELIMITER,
+        number: Number::MismatchedDelimiter as u32,
         opened: opener.taken,
         taken: to,
         a: opener.bracket,
@@ -195,7 +153,7 @@ fn quoted(s: &[u8], f: State, c: u32, after: Cursor) -> Turn
     let n = s.len();
     let close = run_end(s, after.at, c);
     if n <= close {
-        return refuse(UNTERMINATED_STRING, n);
+        return Turn::Refused(refused_at(Number::UnterminatedString as u32, n));
     }
     Turn::On(kept(f, close + 1, f.depth, false))
 }
@@ -207,7 +165,7 @@ fn convert(s: &[u8], f: State, flag: Cursor, text: &mut [u8]) -> Turn
 {
     let at = flag.at;
     if f.blank {
-        return refuse(EMPTY_EXPRESSION, at);
+        return Turn::Refused(refused_at(Number::EmptyExpression as u32, at));
     }
     let Step::Char(conversion, after) = flag.next_char(s) else {
         return Turn::Refused(unclosed_brace(Unclosed::AfterBang, at));
@@ -222,7 +180,7 @@ fn convert(s: &[u8], f: State, flag: Cursor, text: &mut [u8]) -> Turn
         }
         return Turn::Refused(unclosed_brace(Unclosed::AfterConversion, to));
     }
-    refuse(INVALID_CONVERSION_FLAG, to)
+    Turn::Refused(refused_at(Number::InvalidConversionFlag as u32, to))
 }
 
 // The character at the state's place.
@@ -255,7 +213,7 @@ fn read_turn(s: &[u8], f: State, text: &mut [u8], places: &mut [u32; 64]) -> Tur
             g.spaces += 1;
             Turn::On(g)
         }
-        Class::Backslash => refuse(UNTERMINATED_STRING, to),
+        Class::Backslash => Turn::Refused(refused_at(Number::UnterminatedString as u32, to)),
         Class::Stray => Turn::Refused(unclosed_brace(Unclosed::AfterEquals, to)),
         Class::Plain => Turn::On(kept(f, to, f.depth, still_blank(f.blank, c))),
     }
@@ -281,12 +239,13 @@ fn closed(h: Head) -> Opened
 {
     if h.blank {
         let at = h.at;
-        return Opened::Refused(refused_at(EMPTY_EXPRESSION, at.at));
+        return Opened::Refused(refused_at(Number::EmptyExpression as u32, at.at));
     }
     Opened::Ended(h, 0)
 }
 
 // The head from a cursor on, up to its end or the first refusal.
+// 64 places with a count: asked for, and nothing is allocated.
 fn head_from(s: &[u8], from: Cursor, text: &mut [u8], used: usize) -> Opened
     requires { (length s.now ≤ 1048576) × (used ≤ 2 ^ 32) }
     ensures { OpenedBy s.now from.at used result text.old text.new }
@@ -303,6 +262,7 @@ fn head_from(s: &[u8], from: Cursor, text: &mut [u8], used: usize) -> Opened
         conversion: 0,
         blank: true,
     };
+    // A step is a run of bytes without a rule, and what stands behind it.
     loop {
         let here = pass(s, f);
         match read_turn(s, here, text, &mut places) {
@@ -319,7 +279,7 @@ pub fn read_head(s: &[u8], from: Cursor, text: &mut [u8], used: u32) -> Opened
     ensures { OpenedIs s.now from.at used result text.old text.new }
 {
     if LARGEST_BODY < s.len() {
-        return Opened::Refused(refused_at(BODIES_TOO_LONG, 0));
+        return Opened::Refused(refused_at(Number::BodiesTooLong as u32, 0));
     }
     head_from(s, from, text, used as usize)
 }

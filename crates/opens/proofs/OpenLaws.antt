@@ -2,16 +2,16 @@
 use mathlib.Core.Path.{◌≡◌, refl, sym, ◌∙◌, ap}
 use mathlib.Core.Bool.{Bool, true, false, ◌&&◌, not}
 use mathlib.Core.List.{List, [], ◌∷◌}
-use Prim.Native.Nat.{ℕ, zero, suc, ◌+◌, ◌-◌, ◌≤◌, ◌<◌}
+use Prim.Native.Nat.{ℕ, zero, suc, ◌+◌, ◌-◌, ◌≤◌}
 use native.Mathlib.Omega.{arith}
 use lib.Dec.{ltb, eqb}
-use lib.ListN.{length, get_or, get_or-eq_default}
-use borrow.Author.Tests.{ne_eqb, lt-ltb, le-ltb}
+use lib.ListN.{length}
+use borrow.Author.Tests.{ne_eqb}
 use Rattle.definition.specs.Chars.{◌is◌, byte}
 use Rattle.definition.specs.Matched.{clear, braceless, blank}
 use Rattle.definition_written.specs.Written.{early, late, past_field}
 use Rattle.definition_written.specs.ReadsBack.{clean, text_reads, begins_well, field_reads}
-use Rattle.definition.proofs.Moves.CharLaws.{cases, byte_is}
+use Rattle.definition.proofs.Moves.CharLaws.{cases}
 use Rattle.definition_written.specs.Passes.{opened, standing, drained, took_text, took_field}
 use Rattle.opens.specs.Opens.{place, where_of, list_of}
 
@@ -91,12 +91,6 @@ pub reads_early : (d : ℕ) (b : Bool) (t : List ℕ) (r : Bool) → (d ≡ 0 �
 unfolding text_reads
 reads_early d b t r e f g = rw (ne_eqb d 0 e, f) g
 
-pub no_brace : (s : List ℕ) → length s ≡ 0 → false ≡ byte s 0 is "{"
-no_brace s h = let z : length s ≤ 0 = omega arith in rw (get_or-eq_default s 256 z) refl
-
-pub brace_first : (s : List ℕ) → (length s ≡ 0 → ⊥) → eqb (get_or s 0 0) 123 ≡ byte s 0 is "{"
-brace_first s h = ap (λ b. eqb b 123) (byte_is s 0 (omega (arith, h)))
-
 -- A FIELD
 module _ (d : ℕ) (b : Bool) (e : List ℕ) where
   begins : begins_well (where_of d b) e ≡ not (eqb d 0 && byte e 0 is "{")
@@ -107,22 +101,28 @@ module _ (d : ℕ) (b : Bool) (e : List ℕ) where
   unfolding field_reads
   field_reads_lem = ap (λ z. ltb d 2 && z && clean false (clear []) e && not (blank e)) begins
 
-pub field_deep : (d : ℕ) (b : Bool) (e : List ℕ) → 2 ≤ d → false ≡ field_reads d (where_of d b) e
-field_deep d b e h = sym (field_reads_lem d b e ∙ rw (le-ltb d 2 h) refl)
+-- the tests taken one after the other: the first two, then three of them
+module _ (d : ℕ) (b : Bool) (e : List ℕ) (v w : Bool) (first : v ≡ (ltb d 2 && not (eqb d 0 && byte e 0 is "{"))) (second : w ≡ (v && clean false (clear []) e)) where
+  pub field_on : (r : Bool) → w ≡ true → r ≡ not (blank e) → r ≡ field_reads d (where_of d b) e
+  field_on r h f =
+      f
+      ∙ go (ltb d 2) (not (eqb d 0 && byte e 0 is "{")) (clean false (clear []) e) (not (blank e)) (sym h ∙ second ∙ ap (λ x. x && clean false (clear []) e) first)
+      ∙ sym (field_reads_lem d b e)
+    where
+      go : (p q r s : Bool) → true ≡ ((p && q) && r) → s ≡ (p && q && r && s)
+      go true true true s k = refl
+      go true true false s k = cc
+      go true false r s k = cc
+      go false q r s k = cc
 
-pub field_begins : (d : ℕ) (b : Bool) (e : List ℕ) → (eqb d 0 && byte e 0 is "{") ≡ true → false ≡ field_reads d (where_of d b) e
-field_begins d b e h = sym (field_reads_lem d b e ∙ rw h (go (ltb d 2) (clean false (clear []) e) (blank e)))
-  where
-    go : (x y z : Bool) → (x && false && y && not z) ≡ false
-    go true y z = refl
-    go false y z = refl
-
-pub field_unclean : (d : ℕ) (b : Bool) (e : List ℕ) → clean false (clear []) e ≡ false → false ≡ field_reads d (where_of d b) e
-field_unclean d b e h = sym (field_reads_lem d b e ∙ rw h (go (ltb d 2 && not (eqb d 0 && byte e 0 is "{")) (blank e)))
-  where
-    go : (x z : Bool) → (x && false && not z) ≡ false
-    go true z = refl
-    go false z = refl
-
-pub field_full : (d : ℕ) (b : Bool) (e : List ℕ) (r : Bool) → d < 2 → (eqb d 0 && byte e 0 is "{") ≡ false → clean false (clear []) e ≡ true → r ≡ not (blank e) → r ≡ field_reads d (where_of d b) e
-field_full d b e r h k c f = f ∙ sym (field_reads_lem d b e ∙ rw (lt-ltb d 2 h, k, c) refl)
+  pub field_off : w ≡ false → w ≡ field_reads d (where_of d b) e
+  field_off h =
+      h
+      ∙ go (ltb d 2) (not (eqb d 0 && byte e 0 is "{")) (clean false (clear []) e) (not (blank e)) (sym h ∙ second ∙ ap (λ x. x && clean false (clear []) e) first)
+      ∙ sym (field_reads_lem d b e)
+    where
+      go : (p q r s : Bool) → false ≡ ((p && q) && r) → false ≡ (p && q && r && s)
+      go true true true s k = cc
+      go true true false s k = refl
+      go true false r s k = refl
+      go false q r s k = refl

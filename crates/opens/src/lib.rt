@@ -9,8 +9,7 @@ ghost use Rattle.opens.specs.Opens.{where_of, os_of};
 
 use expressions::{is_blank_text, is_braceless, is_clean};
 
-// The specs that are open, at most two: the parts of the inner one that are to come, whether a field came in it, and the same of the outer one. A
-// depth of 3 says that the body reads back otherwise.
+// The specs that are open, at most two: the parts of the inner one that are to come, whether a field came in it, and the same of the outer one.
 #[derive(Clone, Copy)]
 pub struct Opens {
     pub depth: usize,
@@ -20,7 +19,11 @@ pub struct Opens {
     pub behind: bool,
 }
 
+// A field stands at a depth below this.
+const DEEPEST: usize = 2;
+
 // At the top.
+// A value, which no test compares with.
 pub const NONE_OPEN: Opens = Opens {
     depth: 0,
     left: 0,
@@ -33,35 +36,18 @@ pub const NONE_OPEN: Opens = Opens {
 pub fn drain(o: Opens) -> Opens
     ensures { (os_of result ≡ drained (os_of o)) × (result.depth ≤ o.depth) }
 {
-    if o.depth == 0 {
+    if o.depth == 0 || o.left != 0 {
         return o;
     }
-    if o.left != 0 {
-        return o;
-    }
-    if o.depth == 1 {
-        return NONE_OPEN;
-    }
-    if o.outer == 0 {
+    if o.depth == 1 || o.outer == 0 {
         return NONE_OPEN;
     }
     Opens {
         depth: 1,
         left: o.outer,
         late: o.behind,
-        outer: 0,
-        behind: false,
+        ..NONE_OPEN
     }
-}
-
-// One less; 0 stays.
-fn less(n: u32) -> u32
-    ensures { result ≡ n - 1 }
-{
-    if n == 0 {
-        return 0;
-    }
-    n - 1
 }
 
 // One part fewer, after a text.
@@ -69,11 +55,8 @@ pub fn took_text(o: Opens) -> Opens
     ensures { (os_of result ≡ took_text (os_of o)) × (result.depth ≡ o.depth) × (result.late ≡ o.late) }
 {
     Opens {
-        depth: o.depth,
-        left: less(o.left),
-        late: o.late,
-        outer: o.outer,
-        behind: o.behind,
+        left: o.left.saturating_sub(1),
+        ..o
     }
 }
 
@@ -82,11 +65,9 @@ pub fn took_field(o: Opens) -> Opens
     ensures { (os_of result ≡ took_field (os_of o)) × (result.depth ≡ o.depth) }
 {
     Opens {
-        depth: o.depth,
-        left: less(o.left),
+        left: o.left.saturating_sub(1),
         late: true,
-        outer: o.outer,
-        behind: o.behind,
+        ..o
     }
 }
 
@@ -94,59 +75,33 @@ pub fn took_field(o: Opens) -> Opens
 pub fn text_reads(text: &[u8], depth: usize, late: bool) -> bool
     ensures { result ≡ text_reads (where_of depth late) text.now }
 {
-    if depth == 0 {
-        return true;
-    }
-    if late {
-        return true;
-    }
-    is_braceless(text)
+    depth == 0 || late || is_braceless(text)
 }
 
 // Whether a brace stands first.
 fn begins_brace(text: &[u8]) -> bool
     ensures { result ≡ byte text.now 0 is "{" }
 {
-    if text.len() == 0 {
-        return false;
-    }
-    text[0] == b'{'
+    matches!(text, [b'{', ..])
 }
 
 // Whether a field's expression may not begin as it does: at the top, with a brace.
 fn begins_badly(text: &[u8], depth: usize) -> bool
     ensures { result ≡ (eqb depth 0 && byte text.now 0 is "{") }
 {
-    if depth == 0 {
-        return begins_brace(text);
-    }
-    false
+    depth == 0 && begins_brace(text)
 }
 
 // Whether a field reads back in a text so deep.
 pub fn field_reads(text: &[u8], depth: usize) -> bool
     ensures { result ≡ field_reads depth (where_of depth false) text.now }
 {
-    if 2 <= depth {
-        return false;
-    }
-    if begins_badly(text, depth) {
-        return false;
-    }
-    if is_clean(text) {
-        return !is_blank_text(text);
-    }
-    false
+    depth < DEEPEST && !begins_badly(text, depth) && is_clean(text) && !is_blank_text(text)
 }
 
 // Whether a byte is doubled at the top.
 pub fn is_doubled(b: u8) -> bool
     ensures { result ≡ b is "{}\\" }
 {
-    match b {
-        b'{' => true,
-        b'}' => true,
-        b'\\' => true,
-        _ => false,
-    }
+    matches!(b, b'{' | b'}' | b'\\')
 }

@@ -1,5 +1,5 @@
 -- Numbers that fit are kept as they are. Assumes nothing.
-use Rattle.std.proofs.Common.{◌≡◌, ℕ, ◌+◌, ◌-◌, ◌%◌, ◌^◌, ◌<◌, ◌≤◌, arith}
+use Rattle.std.proofs.Common.{◌≡◌, ℕ, ◌+◌, ◌-◌, ◌%◌, ◌<◌, ◌≤◌, arith}
 use Rattle.records.specs.Counts.{word, plus, minus}
 
 pub word_small : (n : ℕ) → n < 4294967296 → word n ≡ n
@@ -13,11 +13,6 @@ plus_small a b h = omega arith
 pub minus_small : (a b : ℕ) → b ≤ a → a < 18446744073709551616 → minus a b ≡ a - b
 unfolding minus
 minus_small a b h l = omega arith
-
--- the number that b added to wraps back to a
-pub is_minus : (r a b : ℕ) → r < 18446744073709551616 → b < 18446744073709551616 → (r + b) % 2 ^ 64 ≡ a → r ≡ minus a b
-unfolding minus
-is_minus r a b h l e = omega arith
 
 -- a place behind another
 pub is_place : (base taken : ℕ) → word (base + taken % 4294967296) ≡ word (base + taken)

@@ -12,7 +12,6 @@ use again::{frame_again, sink_again};
 use buffers::{add_again, add_spaces, put};
 use marks::conversion_of;
 use record_words::{Record, put_record};
-use std::num::{wrapping_add_usize, wrapping_sub_usize};
 use utf8::Cursor;
 
 // What every top-level record of a call carries: its kind, the call's first start and last end, and its u mark.
@@ -43,6 +42,7 @@ pub struct Frame {
 }
 
 // What is written so far: records, text bytes, 1 if a top-level text is held open and from where, and the parts at this depth.
+// `held` and `from` are no Option: a smaller flag was tried, and slower (docs/DECISIONS.md).
 #[derive(Clone, Copy)]
 pub struct Sink {
     pub count: usize,
@@ -54,6 +54,7 @@ pub struct Sink {
 
 // A field's head as read: the cursor after its `}` or `:`, the text's used length, the spaces after a self-documenting `=`, the bytes taken
 // just after the first such `=` and after the `!`, 0 where there is none, and the conversion.
+// Where there is none, a sign is 0 and no Option, as in the rows that are lent (docs/PROMISES.md, `put_row`).
 #[derive(Clone, Copy)]
 pub struct Head {
     pub at: Cursor,
@@ -84,13 +85,13 @@ pub(crate) fn place_in(base: u32, taken: usize) -> u32
 fn plus(a: usize, b: usize) -> usize
     ensures { result ≡ plus_of a b }
 {
-    wrapping_add_usize(a, b)
+    a.wrapping_add(b)
 }
 
 fn minus(a: usize, b: usize) -> usize
     ensures { result ≡ minus_of a b }
 {
-    wrapping_sub_usize(a, b)
+    a.wrapping_sub(b)
 }
 
 // The held text becomes a record.
@@ -111,10 +112,9 @@ pub fn close_held(words: &mut [u32], w: Whole, k: Sink) -> Sink
         put_record(words, k.count, record);
         return Sink {
             count: plus(k.count, 1),
-            used: k.used,
             held: 0,
             from: 0,
-            parts: k.parts,
+            ..k
         };
     }
     k
@@ -147,9 +147,8 @@ fn put_inner(
     Sink {
         count: plus(a.count, 1),
         used: to,
-        held: a.held,
-        from: a.from,
         parts: plus(a.parts, 1),
+        ..a
     }
 }
 
@@ -157,10 +156,7 @@ fn put_inner(
 fn held_from(k: Sink) -> usize
     ensures { result ≡ (if nat_eq k.held 1 then k.from else k.used) }
 {
-    if k.held == 1 {
-        return k.from;
-    }
-    k.used
+    if k.held == 1 { k.from } else { k.used }
 }
 
 // The text from the used length up to `to` is held: a literal at depth 0.
@@ -168,11 +164,11 @@ fn hold(k: Sink, to: usize) -> Sink
     ensures { result ≡ held to k }
 {
     Sink {
-        count: k.count,
         used: to,
         held: 1,
         from: held_from(k),
         parts: plus(k.parts, 1),
+        ..k
     }
 }
 
@@ -233,10 +229,8 @@ pub fn reserve(k: Sink) -> Sink
 {
     Sink {
         count: plus(k.count, 1),
-        used: k.used,
-        held: k.held,
-        from: k.from,
         parts: 0,
+        ..k
     }
 }
 
@@ -256,11 +250,8 @@ pub fn fill_spec(words: &mut [u32], fr: Frame, before: Sink, k: Sink) -> Sink
     };
     put_record(words, before.count, record);
     Sink {
-        count: k.count,
-        used: k.used,
-        held: k.held,
-        from: k.from,
         parts: before.parts,
+        ..k
     }
 }
 

@@ -14,25 +14,21 @@ fn reason_of(equals: u32, bang: u32, colon: u32) -> u32
     ensures { (close : ℕ) → result ≡ reason_of (signs equals bang colon close) }
 {
     if bang != 0 {
-        return 1;
+        1
+    } else if equals == 0 {
+        2
+    } else if colon == 0 {
+        3
+    } else {
+        4
     }
-    if equals == 0 {
-        return 2;
-    }
-    if colon == 0 {
-        return 3;
-    }
-    4
 }
 
 // A sign's place in the script, where the body begins at `base`; 0 stays 0.
 fn sign_at(base: u32, taken: usize) -> u32
     ensures { result ≡ word_of (sign_at base taken) }
 {
-    if taken == 0 {
-        return 0;
-    }
-    place_in(base, taken)
+    if taken == 0 { 0 } else { place_in(base, taken) }
 }
 
 // Writes the row of a field that began at `at`, with an expression of so many bytes, at its place; if that is not lent, nothing is worked out.
@@ -49,7 +45,7 @@ pub fn put_signs(
 )
     ensures { rows.new ≡ windowed fr.window fields (row_numbers fr.window.within (row_of fr h size parts at colon close)) rows.old }
 {
-    if rows.len() == 0 {
+    if rows.is_empty() {
         return;
     }
     let skip = fr.window.skip as usize;

@@ -1,6 +1,6 @@
 -- The escapes of a letter and of digits: by the bytes of a body. Assumes nothing.
 use mathlib.Core.Path.{◌≡◌, refl, sym, ◌∙◌, ap}
-use mathlib.Core.Bool.{Bool, true, false, ◌&&◌, not}
+use mathlib.Core.Bool.{true, ◌&&◌, not}
 use mathlib.Core.List.{List}
 use Prim.Native.Nat.{ℕ, ◌+◌, ◌-◌, ◌*◌, ◌≤◌, ◌<◌}
 use native.Mathlib.Omega.{arith}
@@ -12,11 +12,12 @@ use Rattle.definition.specs.Chars.{◌is◌, ◌to◌, inside, byte, code}
 use Rattle.definition.specs.Escapes.{Naming, got, stands, simple, hex, octal_digit, octal_from, hex_digit, hex_from, escape, meant}
 use Rattle.definition.specs.Body.{with_escape, string_case, string_move}
 use Rattle.definition.proofs.Moves.CharLaws.{cases, no, inside_true, inside_yes, inside_not, next_ascii, code_ascii, code_wide}
-use Rattle.utf8.specs.declared.Cursor.{Cursor}
 use Rattle.utf8.proofs.Steps.{Stepped}
 use Rattle.escapes.proofs.Digits.{hex_more, octal_end, octal_more}
 use Rattle.escapes.proofs.Letters.{octal_escape}
-use Rattle.texts.specs.Codes.{Asks, HexIs, CodedIs}
+use Rattle.std.specs.Prelude.{Option, Some, None, IfSome}
+use Rattle.texts.specs.declared.Coded.{Coded}
+use Rattle.texts.specs.Codes.{Asks, HexIs, OctalIs, CodedIs}
 
 -- an ASCII byte is a character
 stepped : (s : List ℕ) (i : ℕ) → i < length s → byte s i < 0x80 → Stepped s i (byte s i) (record { at = i + 1 })
@@ -85,3 +86,8 @@ module _ (kind : ℕ) (s : List ℕ) (i : ℕ) (h : i + 1 < length s) (t : (byte
   pub coded_hex : (n c : ℕ) → Asks kind (byte s (i + 1)) (hex n) → HexIs n s (i + 1 + 1) c → CodedIs kind s i c (i + 1 + 1 + n)
   unfolding escape
   coded_hex n c a x = coded_by c (i + 1 + 1 + n) (λ look. rw (a s (i + 1) h (code_ascii s (i + 1) b), next_ascii s (i + 1) b, escape) (x (i + 1 + 1)))
+
+  -- digits, if any stand there
+  pub coded_octal : (x : Option Coded) → IfSome x (λ y. OctalIs s i y.code y.to) → IfSome x (λ y. CodedIs kind s i y.code y.to)
+  coded_octal None e = tt
+  coded_octal (Some y) e = coded_by y.code y.to (λ look. e look kind)

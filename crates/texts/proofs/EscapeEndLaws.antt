@@ -1,8 +1,8 @@
 -- What the text of an escape tells of its end. Assumes nothing.
-use mathlib.Core.Path.{◌≡◌, refl, sym, ◌∙◌, ap}
+use mathlib.Core.Path.{◌≡◌, refl, sym, ◌∙◌}
 use mathlib.Core.List.{List, []}
+use mathlib.Core.Logic.{◌⊎◌, inl, inr}
 use Prim.Native.Nat.{ℕ}
-use native.Mathlib.Omega.{arith}
 use Rattle.definition.specs.Escapes.{Fault, Read, got, refused, Meaning}
 use Rattle.definition.specs.Body.{with_escape}
 use Rattle.utf8.specs.declared.Cursor.{Cursor}
@@ -22,3 +22,9 @@ module _ (s : List ℕ) (i used : ℕ) (text text' : List ℕ) where
   unfolding with_escape
   escape_tells (got m j) r q e D = rw (sym e ∙ D.0) (m, refl)
   escape_tells (refused x) r q e D = rw (sym e ∙ D.0) (x, refl)
+
+  pub refused_tells : (e : Read Meaning) (r : Piece) → ((k : Cursor) × (r ≡ Field k)) ⊎ ((r ≡ Over) ⊎ ((x : Refusal) × (r ≡ Refused x))) → Does (with_escape 1 s i [] e) s i used text text' r
+      → (y : Fault) × (e ≡ refused y)
+  refused_tells e r (inl (k, q)) D = absurd (escape_tells e r (Field k) q D)
+  refused_tells e r (inr (inl q)) D = absurd (escape_tells e r Over q D)
+  refused_tells e r (inr (inr (x, q))) D = escape_tells e r (Refused x) q D

@@ -2,10 +2,10 @@
 use mathlib.Core.Path.{◌≡◌, refl, sym, ◌∙◌, ap}
 use mathlib.Core.Bool.{Bool, true, false}
 use mathlib.Core.List.{List, [], ◌++◌}
-use mathlib.Core.Logic.{◌⊎◌, ⊎_elim}
+use mathlib.Core.Logic.{◌⊎◌, inl, inr}
 use Prim.Native.Nat.{ℕ, ◌+◌, ◌*◌, ◌≤◌, ◌<◌}
 use native.Mathlib.Omega.{arith}
-use borrow.Author.Tests.{le-ltb, le-leb, leb-true, leb-false}
+use borrow.Author.Tests.{lt-ltb, le-ltb, le-leb, leb-true, leb-false}
 use lib.Dec.{leb}
 use lib.ListN.{length, length-append}
 use Rattle.definition.specs.Numbers.{expression_nested_too_deeply}
@@ -20,8 +20,6 @@ use Rattle.buffers.specs.Over.{over}
 use Rattle.buffers.proofs.Over.{over_nil, length_over, over_append}
 use Rattle.utf8.specs.declared.Cursor.{Cursor}
 use Rattle.marks.specs.declared.Refusal.{Refusal}
-use denote.Enum.Declared.{tag_of}
-use Rattle.texts.specs.contracts.Piece.{the_type}
 use Rattle.texts.specs.declared.Piece.{Piece}
 use Rattle.texts.specs.declared.Piece.TheVariants.{On, Field, Over, Refused}
 use Rattle.texts.specs.declared.Text.TheVariants.{Done, Refused as Not}
@@ -218,16 +216,11 @@ module _ (look : Naming) (kind : ℕ) (s : List ℕ) (used : ℕ) (text₀ text 
       (refl, record { place = i; end = end; stops = stopped (string_move look kind s) 0 used text₀ text i end u text' (stops (fault_of x)) e w.1 })
 
   -- neither is the end, since no field opens in a string
-  pub string_over : (tag_of the_type r ≡ 1) ⊎ (tag_of the_type r ≡ 2) → StringBy look kind s (string_n look (enough s) kind s 0 []) used text₀ text' (Done end)
-  string_over h = go r refl h
-    where
-      go : (q : Piece) → r ≡ q → (tag_of the_type q ≡ 1) ⊎ (tag_of the_type q ≡ 2) → StringBy look kind s (string_n look (enough s) kind s 0 []) used text₀ text' (Done end)
-      go (On k e) q h = ⊎_elim (λ z. absurd (omega arith)) (λ z. absurd (omega arith)) h
-      go (Field k) q h = absurd (rw (string_told (Field k) q).0 at (string_ahead look kind s i []))
-      go Over q h =
-          let w = string_told Over q in
-          rw (string_same look kind s i u.content u.leads ∙ string_end look kind s i u.content (string_is ends w.0)) (rw u.ended, w.1 ∙ u.wrote)
-      go (Refused x) q h = ⊎_elim (λ z. absurd (omega arith)) (λ z. absurd (omega arith)) h
+  pub string_over : ((k : Cursor) × (r ≡ Field k)) ⊎ (r ≡ Over) → StringBy look kind s (string_n look (enough s) kind s 0 []) used text₀ text' (Done end)
+  string_over (inl (k, q)) = absurd (rw (string_told (Field k) q).0 at (string_ahead look kind s i []))
+  string_over (inr q) =
+      let w = string_told Over q in
+      rw (string_same look kind s i u.content u.leads ∙ string_end look kind s i u.content (string_is ends w.0)) (rw u.ended, w.1 ∙ u.wrote)
 
 module _ (look : Naming) (kind : ℕ) (s : List ℕ) (used : ℕ) (text₀ text : List ℕ) (i end : ℕ) (u : Upto (string_move look kind s) 0 used text₀ text i end) where
   -- over an escape that stands for a code
@@ -285,3 +278,8 @@ text_deep look kind s depth from used text h =
       end = used;
       stops = record { upto = start (text_move look kind s depth) from used text; move = rw (le-leb 2 depth h, text_move, text_case) };
     }
+
+-- a body or a used length with which no text is read, by either test
+pub too_large_is : (s : List ℕ) (used : ℕ) → (1048576 < length s) ⊎ ((length s ≤ 1048576) × (4294967296 < used)) → too_large s used ≡ true
+too_large_is s used (inl h) = rw (lt-ltb 1048576 (length s) h) refl
+too_large_is s used (inr (h, k)) = rw (le-ltb 1048576 (length s) h, lt-ltb 4294967296 used k) refl

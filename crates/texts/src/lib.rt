@@ -1,12 +1,12 @@
 // The text of a body: strings, bytes, and what stands between an f-string's fields.
 #![tactic(auto)]
 
-ghost use Rattle.std.specs.Prelude.{◌≡◌, ◌&&◌, not, [], ℕ, ◌+◌, ◌≤◌, ◌<◌, ◌^◌, length};
+ghost use Rattle.std.specs.Prelude.{◌≡◌, ◌&&◌, not, [], ℕ, ◌+◌, ◌≤◌, ◌<◌, ◌^◌, length, IfSome, MatchOption};
 ghost use Rattle.definition.specs.Numbers.{is_raw};
 ghost use Rattle.definition.specs.Chars.{◌is◌, part, code};
 ghost use Rattle.definition.specs.Escapes.{Naming, held_names, fault, got, stands, octal_digit, simple, hex, scalar, encode, escape};
 ghost use Rattle.definition.specs.Body.{goes, with_escape, string_move, string_n, text_move, enough};
-ghost use Rattle.escapes.specs.Answers.{names_by};
+ghost use Rattle.escapes.specs.Answers.{naming};
 ghost use Rattle.marks.specs.Marks.{refusal};
 ghost use Rattle.buffers.specs.Over.{over};
 ghost use Rattle.texts.specs.Codes.{Asks, HexIs, OctalIs, CodedIs};
@@ -14,7 +14,9 @@ ghost use Rattle.texts.specs.EscapeEnds.{EscapeIs};
 ghost use Rattle.texts.specs.Text.{Room, Taken, PlainIs, Does, StringBy, Begun, FromIs, StringIs, RunBy, RunIs};
 
 use escapes::{Escaped, is_any_bytes};
-use marks::{Refusal, Unclosed, is_escape, is_foreign, unclosed_brace, wide};
+use marks::{Refusal, Unclosed, is_escape, is_foreign, refused_at, unclosed_brace};
+use names::{HELD, Names};
+use numbering::Number;
 use plain::{is_plain_at, plain_end};
 use utf8::{Cursor, Step};
 
@@ -22,18 +24,12 @@ const LARGEST_BODY: usize = 1048576;
 
 const LARGEST_TEXT: usize = 4294967296;
 
-const BODIES_TOO_LONG: u32 = 5;
+const LEFT_BRACE: u32 = '{' as u32;
 
-const NON_ASCII_IN_BYTES: u32 = 12;
-
-const EXPRESSION_NESTED_TOO_DEEPLY: u32 = 24;
-
-const SINGLE_RBRACE: u32 = 25;
-
-// What stands where there is no code.
-const NO_CODE: u32 = 0x110000;
+const RIGHT_BRACE: u32 = '}' as u32;
 
 // A string's or bytes' used length, or why it is refused.
+// An answer of our own, as docs/DECISIONS.md, "Forms", has it.
 #[derive(Clone, Copy)]
 pub enum Text {
     Done(usize),
@@ -41,6 +37,7 @@ pub enum Text {
 }
 
 // What stops a run of text, with the used length: a field, with the cursor after its `{`; the text's end, with the cursor there. Or why it is refused.
+// An answer of our own, as docs/DECISIONS.md, "Forms", has it.
 #[derive(Clone, Copy)]
 pub enum Run {
     Field(Cursor, usize),
@@ -48,16 +45,16 @@ pub enum Run {
     Refused(Refusal),
 }
 
-// Where an escape ends; it is refused; no character stands before it; or the body is over the size limit.
-#[derive(Clone, Copy)]
-pub enum EscapeEnd {
-    At(usize),
+// Why no end is told: what begins there is refused; nothing begins there; or the body is over the size limit.
+#[derive(Clone, Copy, PartialEq, Eq)]
+pub enum NoEnd {
     Refused,
     Nowhere,
     TooLong,
 }
 
 // What a character does: it goes into the text, with the cursor after it and the used length; it opens a field, with the cursor after it; it ends the text. Or it is refused.
+// An answer of our own, as docs/DECISIONS.md, "Forms", has it.
 #[derive(Clone, Copy)]
 enum Piece {
     On(Cursor, usize),
@@ -78,25 +75,6 @@ struct Coded {
 struct Reached {
     cursor: Cursor,
     used: usize,
-}
-
-// A refusal without details.
-fn refused_at(number: u32, taken: usize) -> Refusal
-    ensures { result ≡ refusal (fault number taken) }
-{
-    Refusal {
-        number,
-        opened: 0,
-        taken,
-        a: 0,
-        b: 0,
-    }
-}
-
-fn refuse(number: u32, taken: usize) -> Piece
-    ensures { result ≡ Piece.Refused (refusal (fault number taken)) }
-{
-    Piece::Refused(refused_at(number, taken))
 }
 
 // Writes the bytes of a body from `from` up to `to` at the used length, and gives the new one.
@@ -138,13 +116,12 @@ fn escape_text(
     kind: u32,
     text: &mut [u8],
     used: usize,
-    file: &[u8],
-    index: &[u32],
+    names: &Names,
 ) -> Piece
     requires { Taken s.now from.at after.at × Room s.now used }
-    ensures { Does (with_escape kind s.now from.at [] (escape (names_by file.now index.now) kind s.now after.at)) s.now from.at used text.old text.new result }
+    ensures { Does (with_escape kind s.now from.at [] (escape (naming names.now) kind s.now after.at)) s.now from.at used text.old text.new result }
 {
-    let escaped = escapes::parse_escaped_char(s, after, kind, file, index);
+    let escaped = escapes::parse_escaped_char(s, after, kind, names);
     match escaped {
         Escaped::Code(code, to) => {
             let length = add_code(text, used, code, kind);
@@ -152,7 +129,7 @@ fn escape_text(
         }
         Escaped::Kept(to) => take(s, from, to, to, text, used),
         Escaped::Gone(to) => Piece::On(to, used),
-        Escaped::Refused(r) => refuse(r.number, r.at),
+        Escaped::Refused(r) => Piece::Refused(refused_at(r.number, r.at)),
     }
 }
 
@@ -163,20 +140,19 @@ fn string_piece(
     kind: u32,
     text: &mut [u8],
     used: usize,
-    file: &[u8],
-    index: &[u32],
+    names: &Names,
 ) -> Piece
     requires { Room s.now used }
-    ensures { Does (string_move (names_by file.now index.now) kind s.now from.at []) s.now from.at used text.old text.new result }
+    ensures { Does (string_move (naming names.now) kind s.now from.at []) s.now from.at used text.old text.new result }
 {
     let Step::Char(c, after) = from.next_char(s) else {
         return Piece::Over;
     };
     if is_escape(c, kind) {
-        return escape_text(s, from, after, kind, text, used, file, index);
+        return escape_text(s, from, after, kind, text, used, names);
     }
     if is_foreign(c, kind) {
-        return refuse(NON_ASCII_IN_BYTES, after.at);
+        return Piece::Refused(refused_at(Number::NonAsciiInBytes as u32, after.at));
     }
     take(s, from, after, after, text, used)
 }
@@ -199,7 +175,7 @@ fn left_brace(
     let Step::Char(c, past) = after.next_char(s) else {
         return Piece::Refused(unclosed_brace(Unclosed::LastBrace, after.at));
     };
-    if c != 0x7B {
+    if c != LEFT_BRACE {
         return Piece::Field(after);
     }
     take(s, from, after, past, text, used)
@@ -221,10 +197,10 @@ fn right_brace(
         return Piece::Over;
     }
     let Step::Char(c, past) = after.next_char(s) else {
-        return refuse(SINGLE_RBRACE, after.at);
+        return Piece::Refused(refused_at(Number::SingleRbrace as u32, after.at));
     };
-    if c != 0x7D {
-        return refuse(SINGLE_RBRACE, after.at);
+    if c != RIGHT_BRACE {
+        return Piece::Refused(refused_at(Number::SingleRbrace as u32, after.at));
     }
     take(s, from, after, past, text, used)
 }
@@ -233,15 +209,7 @@ fn right_brace(
 fn begins_escape(s: &[u8], c: u32, after: Cursor, kind: u32) -> bool
     ensures { result ≡ (c is "\\" && not (is_raw kind) && not (code s.now after.at is "{}")) }
 {
-    if is_escape(c, kind) {
-        match after.peek(s) {
-            0x7B => false,
-            0x7D => false,
-            _ => true,
-        }
-    } else {
-        false
-    }
+    is_escape(c, kind) && !matches!(after.peek(s), LEFT_BRACE | RIGHT_BRACE)
 }
 
 // The character of f-string text at a cursor.
@@ -252,23 +220,22 @@ fn text_piece(
     kind: u32,
     text: &mut [u8],
     used: usize,
-    file: &[u8],
-    index: &[u32],
+    names: &Names,
 ) -> Piece
     requires { (nested < 2) × Room s.now used }
-    ensures { Does (text_move (names_by file.now index.now) kind s.now nested from.at []) s.now from.at used text.old text.new result }
+    ensures { Does (text_move (naming names.now) kind s.now nested from.at []) s.now from.at used text.old text.new result }
 {
     let Step::Char(c, after) = from.next_char(s) else {
         return Piece::Over;
     };
-    if c == 0x7B {
+    if c == LEFT_BRACE {
         return left_brace(s, from, after, nested, text, used);
     }
-    if c == 0x7D {
+    if c == RIGHT_BRACE {
         return right_brace(s, from, after, nested, text, used);
     }
     if begins_escape(s, c, after, kind) {
-        return escape_text(s, from, after, kind, text, used, file, index);
+        return escape_text(s, from, after, kind, text, used, names);
     }
     take(s, from, after, after, text, used)
 }
@@ -286,160 +253,134 @@ fn plain_text(s: &[u8], from: Cursor, kind: u32, text: &mut [u8], used: usize) -
     }
 }
 
-// The code of a letter's escape; 0 if it has none.
-fn letter_code(b: u8) -> u32
-    ensures { (result ≡ 0 → ⊥) → (kind : ℕ) → Asks kind b (simple result) }
+// The code of a letter's escape, if it has one.
+fn letter_code(b: u8) -> Option<u32>
+    ensures { IfSome result (λ code. (kind : ℕ) → Asks kind b (simple code)) }
 {
     match b {
-        92 => 92,
-        39 => 39,
-        34 => 34,
-        97 => 7,
-        98 => 8,
-        102 => 12,
-        110 => 10,
-        114 => 13,
-        116 => 9,
-        118 => 11,
-        _ => 0,
+        b'\\' => Some('\\' as u32),
+        b'\'' => Some('\'' as u32),
+        b'"' => Some('"' as u32),
+        b'a' => Some(7),
+        b'b' => Some(8),
+        b'f' => Some(12),
+        b'n' => Some('\n' as u32),
+        b'r' => Some('\r' as u32),
+        b't' => Some('\t' as u32),
+        b'v' => Some(11),
+        _ => None,
     }
 }
 
-// How many hex digits follow the letter of an escape, `x` or `u`; 0 after another.
-fn digits_of(b: u8, kind: u32) -> usize
-    ensures { (result ≤ 4) × ((result ≡ 0 → ⊥) → Asks kind b (hex result)) }
+// How many hex digits follow the letter of an escape, `x` or `u`.
+fn digits_of(b: u8, kind: u32) -> Option<usize>
+    ensures { IfSome result (λ n. (n ≤ 4) × Asks kind b (hex n)) }
 {
-    if b == 0x78 {
-        return 2;
+    match b {
+        b'x' => Some(2),
+        b'u' if !is_any_bytes(kind) => Some(4),
+        _ => None,
     }
-    if b != 0x75 {
-        return 0;
-    }
-    if is_any_bytes(kind) {
-        return 0;
-    }
-    4
 }
 
 // The code that at most four hex digits give: a surrogate is U+FFFD.
+#[tactic(auto, unfolding(definition::specs::Escapes::scalar))]
 fn scalar_of(v: u32) -> u32
     requires { v < 65536 }
     ensures { (i letter : ℕ) → scalar v i letter ≡ got (stands result) i }
 {
-    if v < 0xD800 {
-        return v;
+    match v {
+        0xD800..=0xDFFF => 0xFFFD,
+        _ => v,
     }
-    if v < 0xE000 {
-        return 0xFFFD;
-    }
-    v
 }
 
-// The code of so many hex digits from an index on; no code if they do not stand there.
-fn hex_code(s: &[u8], from: usize, digits: usize) -> u32
+// The code of so many hex digits from an index on, if they stand there.
+fn hex_code(s: &[u8], from: usize, digits: usize) -> Option<u32>
     requires { (from ≤ length s.now) × (digits ≤ 4) }
-    ensures { result < 0x110000 → HexIs digits s.now from result }
+    ensures { IfSome result (λ code. HexIs digits s.now from code) }
 {
     if s.len() - from < digits {
-        return NO_CODE;
+        return None;
     }
     let to = from + digits;
     let mut p: u32 = 0;
-    let mut i = from;
-    while i < to {
-        let d = names::hex_digit(wide(s[i]));
-        if 16 <= d {
-            return NO_CODE;
-        }
+    for i in from..to {
+        let d = names::hex_digit(u32::from(s[i]))?;
         p = p * 16 + d;
-        i += 1;
     }
-    scalar_of(p)
+    Some(scalar_of(p))
 }
 
-// The value of the octal digit at an index; 8 if there is none.
-fn octal_at(s: &[u8], at: usize) -> u32
-    ensures { result ≡ octal_digit (code s.now at) }
+// The value of the octal digit at an index, if there is one.
+fn octal_at(s: &[u8], at: usize) -> Option<u32>
+    ensures { MatchOption result (octal_digit (code s.now at) ≡ 8) (λ d. (d ≡ octal_digit (code s.now at)) × (d < 8)) }
 {
     if s.len() <= at {
-        return 8;
+        return None;
     }
-    let b = wide(s[at]);
-    if b < 48 {
-        return 8;
+    let b = s[at];
+    if b < b'0' || b'7' < b {
+        return None;
     }
-    if 55 < b {
-        return 8;
-    }
-    b - 48
+    Some(u32::from(b - b'0'))
 }
 
-// The escape of one to three octal digits after the backslash at an index; it ends at the index itself if there is none.
-fn octal_code(s: &[u8], at: usize) -> Coded
+// The escape of one to three octal digits after the backslash at an index, if there is one.
+fn octal_code(s: &[u8], at: usize) -> Option<Coded>
     requires { (at ≤ length s.now) × (length s.now ≤ 1048576) }
-    ensures { at < result.to → OctalIs s.now at result.code result.to }
+    ensures { IfSome result (λ x. OctalIs s.now at x.code x.to) }
 {
     let first = at + 1;
-    let a = octal_at(s, first);
-    if 8 <= a {
-        return Coded { code: 0, to: at };
-    }
+    let a = octal_at(s, first)?;
     let second = first + 1;
-    let b = octal_at(s, second);
-    if 8 <= b {
-        return Coded {
+    let Some(b) = octal_at(s, second) else {
+        return Some(Coded {
             code: a,
             to: second,
-        };
-    }
+        });
+    };
     let third = second + 1;
-    let c = octal_at(s, third);
-    if 8 <= c {
-        return Coded {
+    let Some(c) = octal_at(s, third) else {
+        return Some(Coded {
             code: a * 8 + b,
             to: third,
-        };
-    }
-    Coded {
+        });
+    };
+    Some(Coded {
         code: (a * 8 + b) * 8 + c,
         to: third + 1,
-    }
+    })
 }
 
-// The escape of a letter or of digits at an index of a string; it ends at the index itself if there is none.
-fn coded_at(s: &[u8], at: usize, kind: u32) -> Coded
+// The escape of a letter or of digits at an index of a string, if there is one.
+fn coded_at(s: &[u8], at: usize, kind: u32) -> Option<Coded>
     requires { (at ≤ length s.now) × (length s.now ≤ 1048576) }
-    ensures { at < result.to → CodedIs kind s.now at result.code result.to }
+    ensures { IfSome result (λ x. CodedIs kind s.now at x.code x.to) }
 {
-    let none = Coded { code: 0, to: at };
     let past = at + 1;
     if s.len() <= past {
-        return none;
+        return None;
     }
-    if !is_escape(wide(s[at]), kind) {
-        return none;
+    if !is_escape(u32::from(s[at]), kind) {
+        return None;
     }
     let b = s[past];
     if 0x80 <= b {
-        return none;
+        return None;
     }
     let to = past + 1;
-    let code = letter_code(b);
-    if code != 0 {
-        return Coded { code, to };
+    if let Some(code) = letter_code(b) {
+        return Some(Coded { code, to });
     }
-    let digits = digits_of(b, kind);
-    if digits == 0 {
+    let Some(digits) = digits_of(b, kind) else {
         return octal_code(s, at);
-    }
-    let value = hex_code(s, to, digits);
-    if NO_CODE <= value {
-        return none;
-    }
-    Coded {
-        code: value,
+    };
+    let code = hex_code(s, to, digits)?;
+    Some(Coded {
+        code,
         to: to + digits,
-    }
+    })
 }
 
 // The text of a string or bytes from a cursor on, which was begun, at the used length.
@@ -449,14 +390,14 @@ fn string_from(
     kind: u32,
     text: &mut [u8],
     used: usize,
-    file: &[u8],
-    index: &[u32],
+    names: &Names,
 ) -> Text
-    requires { (length s.now ≤ 1048576) × Begun (names_by file.now index.now) kind s.now text.old from.at used }
-    ensures { FromIs (names_by file.now index.now) kind s.now from.at used text.old text.new result }
+    requires { (length s.now ≤ 1048576) × Begun (naming names.now) kind s.now text.old from.at used }
+    ensures { FromIs (naming names.now) kind s.now from.at used text.old text.new result }
 {
     let mut cursor = from;
     let mut end = used;
+    // A step is a run of plain bytes, an escape or a character.
     loop {
         if is_plain_at(s, cursor.at, kind) {
             let run = plain_text(s, cursor, kind, text, end);
@@ -464,77 +405,58 @@ fn string_from(
             end = run.used;
             continue;
         }
-        let escaped = coded_at(s, cursor.at, kind);
-        if cursor.at < escaped.to {
+        if let Some(escaped) = coded_at(s, cursor.at, kind) {
             end = add_code(text, end, escaped.code, kind);
             cursor = Cursor { at: escaped.to };
             continue;
         }
-        let piece = string_piece(s, cursor, kind, text, end, file, index);
+        let piece = string_piece(s, cursor, kind, text, end, names);
         match piece {
             Piece::On(after, length) => {
                 cursor = after;
                 end = length;
             }
             Piece::Refused(r) => return Text::Refused(r),
-            _ => return Text::Done(end),
+            Piece::Field(_) | Piece::Over => return Text::Done(end),
         }
     }
 }
 
 // The text of a string or bytes, at the used length: its plain bytes first.
-fn string_text(
-    s: &[u8],
-    kind: u32,
-    text: &mut [u8],
-    used: usize,
-    file: &[u8],
-    index: &[u32],
-) -> Text
+fn string_text(s: &[u8], kind: u32, text: &mut [u8], used: usize, names: &Names) -> Text
     requires { (length s.now ≤ 1048576) × (used ≤ 2 ^ 32) }
-    ensures { StringBy (names_by file.now index.now) kind s.now (string_n (names_by file.now index.now) (enough s.now) kind s.now 0 []) used text.old text.new result }
+    ensures { StringBy (naming names.now) kind s.now (string_n (naming names.now) (enough s.now) kind s.now 0 []) used text.old text.new result }
 {
     let first = plain_text(s, Cursor { at: 0 }, kind, text, used);
     if s.len() <= first.cursor.at {
         return Text::Done(first.used);
     }
-    string_from(s, first.cursor, kind, text, first.used, file, index)
+    string_from(s, first.cursor, kind, text, first.used, names)
 }
 
 // A string's or bytes' body: its text, at the used length. A body of more than 2^20 bytes, or a used length of more than 2^32, is refused before.
-pub fn parse_string(
-    s: &[u8],
-    kind: u32,
-    text: &mut [u8],
-    used: usize,
-    file: &[u8],
-    index: &[u32],
-) -> Text
-    ensures { StringIs (names_by file.now index.now) kind s.now used text.old text.new result }
+pub fn parse_string(s: &[u8], kind: u32, text: &mut [u8], used: usize, names: &Names) -> Text
+    ensures { StringIs (naming names.now) kind s.now used text.old text.new result }
 {
-    if LARGEST_BODY < s.len() {
-        return Text::Refused(refused_at(BODIES_TOO_LONG, 0));
+    if LARGEST_BODY < s.len() || LARGEST_TEXT < used {
+        return Text::Refused(refused_at(Number::BodiesTooLong as u32, 0));
     }
-    if LARGEST_TEXT < used {
-        return Text::Refused(refused_at(BODIES_TOO_LONG, 0));
-    }
-    string_text(s, kind, text, used, file, index)
+    string_text(s, kind, text, used, names)
 }
 
 // A string's or bytes' body that is read alone: its text, from the buffer's front on, with the held names. A body of more than 2^20 bytes is refused before.
+// Apart from `parse_string`, which was slower for it (docs/DECISIONS.md).
 pub fn parse_alone(s: &[u8], kind: u32, text: &mut [u8]) -> Text
     ensures { StringIs held_names kind s.now 0 text.old text.new result }
 {
     if LARGEST_BODY < s.len() {
-        return Text::Refused(refused_at(BODIES_TOO_LONG, 0));
+        return Text::Refused(refused_at(Number::BodiesTooLong as u32, 0));
     }
     let first = plain_text(s, Cursor { at: 0 }, kind, text, 0);
     if s.len() <= first.cursor.at {
         return Text::Done(first.used);
     }
-    let file = [0u8; 0];
-    let index = [0u32; 0];
-    string_from(s, first.cursor, kind, text, first.used, &file, &index)
+    string_from(s, first.cursor, kind, text, first.used, &HELD)
 }
 
 // F-string text from a cursor on, up to what stops it.
@@ -545,14 +467,14 @@ fn fstring_text(
     kind: u32,
     text: &mut [u8],
     used: usize,
-    file: &[u8],
-    index: &[u32],
+    names: &Names,
 ) -> Run
     requires { (nested < 2) × (length s.now ≤ 1048576) × (used ≤ 2 ^ 32) }
-    ensures { RunBy (names_by file.now index.now) kind s.now nested at.at used text.old text.new result }
+    ensures { RunBy (naming names.now) kind s.now nested at.at used text.old text.new result }
 {
     let mut cursor = at;
     let mut end = used;
+    // A step is a run of plain bytes, an escape or a character.
     loop {
         if is_plain_at(s, cursor.at, kind) {
             let run = plain_text(s, cursor, kind, text, end);
@@ -560,7 +482,7 @@ fn fstring_text(
             end = run.used;
             continue;
         }
-        let piece = text_piece(s, cursor, nested, kind, text, end, file, index);
+        let piece = text_piece(s, cursor, nested, kind, text, end, names);
         match piece {
             Piece::On(after, length) => {
                 cursor = after;
@@ -581,41 +503,33 @@ pub fn text_run(
     kind: u32,
     text: &mut [u8],
     used: usize,
-    file: &[u8],
-    index: &[u32],
+    names: &Names,
 ) -> Run
-    ensures { RunIs (names_by file.now index.now) kind s.now nested at.at used text.old text.new result }
+    ensures { RunIs (naming names.now) kind s.now nested at.at used text.old text.new result }
 {
-    if LARGEST_BODY < s.len() {
-        return Run::Refused(refused_at(BODIES_TOO_LONG, 0));
-    }
-    if LARGEST_TEXT < used {
-        return Run::Refused(refused_at(BODIES_TOO_LONG, 0));
+    if LARGEST_BODY < s.len() || LARGEST_TEXT < used {
+        return Run::Refused(refused_at(Number::BodiesTooLong as u32, 0));
     }
     if 2 <= nested {
-        return Run::Refused(refused_at(EXPRESSION_NESTED_TOO_DEEPLY, at.at));
+        return Run::Refused(refused_at(Number::ExpressionNestedTooDeeply as u32, at.at));
     }
-    fstring_text(s, at, nested, kind, text, used, file, index)
+    fstring_text(s, at, nested, kind, text, used, names)
 }
 
 // Where the escape ends whose backslash stands at an index of a body of kind 1, with the held names. Nothing of it is kept.
-pub fn escape_end(s: &[u8], at: usize) -> EscapeEnd
+pub fn escape_end(s: &[u8], at: usize) -> Result<usize, NoEnd>
     ensures { EscapeIs s.now at result }
 {
     if LARGEST_BODY < s.len() {
-        return EscapeEnd::TooLong;
+        return Err(NoEnd::TooLong);
     }
     let from = Cursor { at };
     let Step::Char(_, after) = from.next_char(s) else {
-        return EscapeEnd::Nowhere;
+        return Err(NoEnd::Nowhere);
     };
     let mut text = [0u8; 0];
-    let file = [0u8; 0];
-    let index = [0u32; 0];
-    match escape_text(s, from, after, 1, &mut text, 0, &file, &index) {
-        Piece::On(to, _) => EscapeEnd::At(to.at),
-        Piece::Field(_) => EscapeEnd::Refused,
-        Piece::Over => EscapeEnd::Refused,
-        Piece::Refused(_) => EscapeEnd::Refused,
+    match escape_text(s, from, after, 1, &mut text, 0, &HELD) {
+        Piece::On(to, _) => Ok(to.at),
+        Piece::Field(_) | Piece::Over | Piece::Refused(_) => Err(NoEnd::Refused),
     }
 }

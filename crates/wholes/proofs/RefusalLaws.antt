@@ -2,7 +2,7 @@
 use Rattle.std.proofs.Common.{◌≡◌, ℕ, ◌+◌, ◌<◌, refl, arith}
 use Rattle.definition.specs.Counts.{Count}
 use Rattle.definition.specs.Escapes.{Fault}
-use Rattle.definition.specs.Entry.{Literal, place_of, Refusal}
+use Rattle.definition.specs.Entry.{Literal, place_of}
 use Rattle.definition.specs.Reading.{opened_at}
 use Rattle.records.proofs.Counting.{word_small, plus_small}
 use Rattle.wholes.specs.Wholes.{refused_in}

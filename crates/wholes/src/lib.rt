@@ -14,29 +14,27 @@ ghost use Rattle.wholes.specs.Wholes.{nothing, whole_between, refused_in};
 
 use counts::Count;
 use entry::{Class, Descriptor};
-use heads::MISMATCHED_DELIMITER;
 use marks::Refusal;
+use numbering::Number;
 use records::{Sink, Whole, word};
-use std::num::wrapping_add_usize;
 
-// The kind of a top-level record, by the first literal's: 4 in bytes, else 1.
+// The kind of a top-level record, by the first literal's: 4 in bytes, else 1, as the lent records have it (`put_record`).
 fn kind_of(kind: u32) -> u32
     ensures { result ≡ (if is_bytes kind then 4 else 1) }
 {
     if entry::is_of(Class::Bytes, kind) {
-        return 4;
+        4
+    } else {
+        1
     }
-    1
 }
 
 // The u mark of a first kind.
+// A number, as the records of the C interface have it.
 fn u_mark(kind: u32) -> u32
     ensures { result ≡ (if is_unicode kind then 1 else 0) }
 {
-    if kind == 6 {
-        return 1;
-    }
-    0
+    if kind == 6 { 1 } else { 0 }
 }
 
 // What every top-level record carries of literals from a first to a last one.
@@ -71,14 +69,15 @@ fn place_in(l: Descriptor, taken: u32) -> u32
     (entry::place(l, taken) % 4294967296) as u32
 }
 
-// The place just after the bracket that a body's refusal names, as a word; 0 if it names none.
+// The place just after the bracket that a body's refusal names, as a word; 0 if it names none, as the C interface has it.
 fn opened_at(l: Descriptor, x: Refusal) -> u32
     ensures { result ≡ word_of (opened_at (described l) (fault_of x)) }
 {
-    if x.number == MISMATCHED_DELIMITER {
-        return place_in(l, x.opened);
+    if x.number == Number::MismatchedDelimiter as u32 {
+        place_in(l, x.opened)
+    } else {
+        0
     }
-    0
 }
 
 // The refusal of a body, number i of a list: its place, line and column, the place of its bracket, and the characters before, of which so many stand in other literals. Each number is a word.
@@ -94,6 +93,6 @@ pub fn refused_in(l: Descriptor, i: u32, x: Refusal, k: Count, before: u32) -> e
         opened: opened_at(l, x),
         line: word(k.line),
         column: word(k.column),
-        chars: word(wrapping_add_usize(before as usize, k.chars)),
+        chars: word((before as usize).wrapping_add(k.chars)),
     }
 }

@@ -20,7 +20,7 @@ use Rattle.definition_written_laws.proofs.Passes.WrittenLaw.{writable_parts, end
 use Rattle.buffers.proofs.Over.{over_front}
 use Rattle.formed.specs.Good.{records_at}
 use Rattle.formed.proofs.Goods.{formed_lies}
-use Rattle.answers.specs.declared.Writing.TheVariants.{Wrote, Stopped}
+use Rattle.std.specs.Prelude.{Ok, Err, Option, Some, None}
 use Rattle.written.specs.Going.{Rules, Spells}
 use Rattle.written.specs.Answers.{WrittenIs}
 
@@ -60,11 +60,11 @@ module _ (ns words text body : List ℕ) where
   unfolding writable
   is_writable h e = rw (h, eq-eqb (word ns 1) 1 e) refl
 
-  stopped : (n k : ℕ) → written held_names (lent ns words text) (length body) ≡ stops n k → (body' : List ℕ) → body' ≡ zeros body → WrittenIs (written_into held_names (lent ns words text) body) body' (Stopped (record { number = n; needed = k }))
+  stopped : (n k : ℕ) → written held_names (lent ns words text) (length body) ≡ stops n k → (body' : List ℕ) → body' ≡ zeros body → WrittenIs (written_into held_names (lent ns words text) body) body' (Err (record { number = n; needed = k }))
   unfolding written_into body_after written_numbers
   stopped n k e body' b = record { answer = rw e refl; body = b ∙ rw e refl }
 
-  pub at_unwritable : W ≡ false → (body' : List ℕ) → body' ≡ zeros body → WrittenIs (written_into held_names (lent ns words text) body) body' (Stopped (record { number = 54; needed = 0 }))
+  pub at_unwritable : W ≡ false → (body' : List ℕ) → body' ≡ zeros body → WrittenIs (written_into held_names (lent ns words text) body) body' (Err (record { number = 54; needed = 0 }))
   unfolding written
   at_unwritable h body' b = stopped not_writable 0 (rw (h, written) refl) body' b
 
@@ -87,10 +87,10 @@ module _ (ns words text body : List ℕ) where
     pub rules_read : (m n : ℕ) → m ≡ word ns 6 → n ≡ word ns 5 → Rules (length (take m text)) false 0 0 (records_at words n 0 0)
     rules_read m n e f = rw (e, f) rules
 
-    pub spells_read : (m n : ℕ) → m ≡ word ns 6 → n ≡ word ns 5 → {body₁ : List ℕ} {k : ℕ} → Spells (take m text) (records_at words n 0 0) body body₁ k → Spells own all body body₁ k
+    pub spells_read : (m n : ℕ) → m ≡ word ns 6 → n ≡ word ns 5 → {body₁ : List ℕ} {k : Option ℕ} → Spells (take m text) (records_at words n 0 0) body body₁ k → Spells own all body body₁ k
     spells_read m n e f S = rw (← e, ← f) S
 
-    module _ (body₁ : List ℕ) (n : ℕ) (S : Spells own all body body₁ n) where
+    module _ (body₁ : List ℕ) where
       abbrev s : List ℕ
       s = passed own [] all
 
@@ -101,25 +101,25 @@ module _ (ns words text body : List ℕ) where
           written_by_pass held_names (lent ns words text) (length body)
           ∙ rw (h, by_pass) (ap₂ (λ t rs. ended (length body) (found t [] rs && leb (length (passed t [] rs)) 1048576) (passed t [] rs)) same_text same_records_lem)
 
-      cleared : (body' : List ℕ) → body' ≡ zeros body₁ → body' ≡ zeros body
-      cleared body' b = b ∙ ap (λ k. replicate k 0) S.kept
+      cleared : length body₁ ≡ length body → (body' : List ℕ) → body' ≡ zeros body₁ → body' ≡ zeros body
+      cleared k body' b = b ∙ ap (λ k. replicate k 0) k
 
-      pub at_otherwise : 1048576 < n → (body' : List ℕ) → body' ≡ zeros body₁ → WrittenIs (written_into held_names (lent ns words text) body) body' (Stopped (record { number = 55; needed = 0 }))
-      at_otherwise k body' b = stopped not_read_back 0 (by_pass_lem ∙ rw (S.off k) refl) body' (cleared body' b)
+      pub at_otherwise : Spells own all body body₁ None → (body' : List ℕ) → body' ≡ zeros body₁ → WrittenIs (written_into held_names (lent ns words text) body) body' (Err (record { number = 55; needed = 0 }))
+      at_otherwise S body' b = stopped not_read_back 0 (by_pass_lem ∙ rw S.is refl) body' (cleared S.kept body' b)
 
-      module _ (k : n ≤ 1048576) where
+      module _ (n : ℕ) (S : Spells own all body body₁ (Some n)) where
         size : length s ≡ n
-        size = let u = (S.on k).1.up in omega arith
+        size = let u = S.is.2.up in omega arith
 
         reads : (found own [] all && leb (length s) 1048576) ≡ true
-        reads = rw ((S.on k).0, le-leb (length s) 1048576 (let z = size in omega arith)) refl
+        reads = rw (S.is.1, le-leb (length s) 1048576 (let z = size in let y = S.is.0 in omega arith)) refl
 
-        pub at_short : length body₁ < n → (body' : List ℕ) → body' ≡ zeros body₁ → WrittenIs (written_into held_names (lent ns words text) body) body' (Stopped (record { number = 56; needed = n }))
+        pub at_short : length body₁ < n → (body' : List ℕ) → body' ≡ zeros body₁ → WrittenIs (written_into held_names (lent ns words text) body) body' (Err (record { number = 56; needed = n }))
         at_short l body' b =
-            stopped too_little_body_room n (by_pass_lem ∙ rw reads (rw (lt-leb (length s) (length body) (let z = size in let y = S.kept in omega arith), ended) (ap (stops too_little_body_room) size))) body' (cleared body' b)
+            stopped too_little_body_room n (by_pass_lem ∙ rw reads (rw (lt-leb (length s) (length body) (let z = size in let y = S.kept in omega arith), ended) (ap (stops too_little_body_room) size))) body' (cleared S.kept body' b)
 
-        pub at_wrote : n ≤ length body₁ → WrittenIs (written_into held_names (lent ns words text) body) body₁ (Wrote n)
+        pub at_wrote : n ≤ length body₁ → WrittenIs (written_into held_names (lent ns words text) body) body₁ (Ok n)
         unfolding written_into body_after written_numbers
         at_wrote l =
             let e : written held_names (lent ns words text) (length body) ≡ writes s = by_pass_lem ∙ rw reads (rw (le-leb (length s) (length body) (let z = size in let y = S.kept in omega arith), ended) refl) in
-            record { answer = rw (e, size) refl; body = (S.on k).1.wrote ∙ over_front body s (let z = size in let y = S.kept in omega arith) ∙ rw e refl }
+            record { answer = rw (e, size) refl; body = S.is.2.wrote ∙ over_front body s (let z = size in let y = S.kept in omega arith) ∙ rw e refl }

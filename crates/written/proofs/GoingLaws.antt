@@ -2,7 +2,7 @@
 use mathlib.Core.Path.{◌≡◌, refl, sym, ◌∙◌, ap}
 use mathlib.Core.Bool.{Bool, true, false, ◌&&◌, ◌||◌, not, beq}
 use mathlib.Core.List.{List, [], ◌∷◌, ◌++◌, append_assoc}
-use Prim.Native.Nat.{ℕ, zero, suc, ◌+◌, ◌-◌, ◌^◌, ◌≤◌, ◌<◌}
+use Prim.Native.Nat.{ℕ, zero, suc, ◌+◌, ◌^◌, ◌≤◌, ◌<◌}
 use native.Mathlib.Omega.{arith}
 use lib.Dec.{leb, eqb}
 use lib.ListN.{length, replicate, length-append}
@@ -21,7 +21,8 @@ use Rattle.formed.specs.Good.{records_at}
 use Rattle.formed.proofs.Goods.{rec, records_turn, records_none}
 use Rattle.opens.specs.declared.Opens.{Opens}
 use Rattle.opens.specs.Opens.{list_of, os_of}
-use Rattle.written.specs.Turns.{piece_of, Holds, Turns}
+use Rattle.std.specs.Prelude.{Some, None}
+use Rattle.written.specs.Turns.{piece_of, Holds, Turns, TurnsTo}
 use Rattle.written.specs.Puts.{Puts}
 use Rattle.written.specs.Going.{Rules, Spells}
 use Rattle.written.proofs.PutLaws.{puts_none, puts_then, puts_same}
@@ -123,14 +124,15 @@ module _ (text words : List ℕ) (count : ℕ) (body : List ℕ) where
     spelling_kept = ap length S.put.wrote ∙ length_over body 0 S.done
 
     -- all was written
-    pub spelling_ends : count ≤ i → (body'' : List ℕ) (n : ℕ) → Puts body' used (replicate o.depth 125) body'' n → Spells text all body body'' n
+    pub spelling_ends : count ≤ i → (body'' : List ℕ) (n : ℕ) → Puts body' used (replicate o.depth 125) body'' n → (n ≤ 1048576 → Spells text all body body'' (Some n)) × (1048576 < n → Spells text all body body'' None)
     unfolding passed found shut list_of
     spelling_ends h body'' n p =
         let z = records_none words count i S.owed h in
         let f : found text [] all ≡ true = S.same ∙ ap (found text (os_of o)) z in
         let w : S.done ++ replicate o.depth 125 ≡ passed text [] all = ap (λ t. S.done ++ t) (shut-run o.left o.late o.outer o.behind o.depth S.most) ∙ ap (λ rs. S.done ++ passed text (os_of o) rs) (sym z) ∙ S.rest in
         let q = puts_same w (puts_then S.put p) in
-        record { on = λ l. (f, q); off = λ l. rw (f, lt-leb (length (passed text [] all)) 1048576 (let u = q.up in omega arith)) refl; kept = ap length q.wrote ∙ length_over body 0 (passed text [] all) }
+        let k = ap length q.wrote ∙ length_over body 0 (passed text [] all) in
+        (λ l. record { is = (l, f, q); kept = k }, λ l. record { is = rw (f, lt-leb (length (passed text [] all)) 1048576 (let u = q.up in omega arith)) refl; kept = k })
       where
         shut-run : (l : ℕ) (b : Bool) (m : ℕ) (c : Bool) (d : ℕ) → d ≤ 2 → replicate d 125 ≡ shut (list_of d l b m c)
         shut-run l b m c zero h = refl
@@ -178,14 +180,14 @@ module _ (text words : List ℕ) (count : ℕ) (body : List ℕ) where
         S.short,
       )
 
-      module _ (p : Opens) (T : Turns text o r p) where
-        -- it reads back otherwise
-        pub spelling_off : 2 < p.depth → (n : ℕ) → 1048576 < n → Spells text all body body' n
-        spelling_off d n k =
-            let f : found text [] all ≡ false = S.same ∙ ap (found text (os_of o)) turn ∙ T.off d later in
-            record { on = λ z. absurd (omega arith); off = λ z. rw f refl; kept = spelling_kept }
+      -- it reads back otherwise
+      pub spelling_off : TurnsTo text o r None → Spells text all body body' None
+      spelling_off T =
+          let f : found text [] all ≡ false = S.same ∙ ap (found text (os_of o)) turn ∙ T later in
+          record { is = rw f refl; kept = spelling_kept }
 
-        module _ (d : p.depth ≤ 2) (body'' : List ℕ) (n : ℕ) (q : Puts body' used (piece_of text r o.depth p.depth p.late) body'' n) where
+      module _ (p : Opens) (T : Turns text o r p) where
+        module _ (body'' : List ℕ) (n : ℕ) (q : Puts body' used (piece_of text r o.depth p.depth p.late) body'' n) where
           abbrev piece : List ℕ
           piece = piece_of text r o.depth p.depth p.late
 
@@ -193,14 +195,14 @@ module _ (text words : List ℕ) (count : ℕ) (body : List ℕ) where
           wrote = puts_then S.put q
 
           on : (S.done ++ piece) ++ passed text (os_of p) later ≡ passed text [] all
-          on = append_assoc S.done piece (passed text (os_of p) later) ∙ ap (λ t. S.done ++ t) (sym (T.wrote d later) ∙ ap (passed text (os_of o)) (sym turn)) ∙ S.rest
+          on = append_assoc S.done piece (passed text (os_of p) later) ∙ ap (λ t. S.done ++ t) (sym (T.wrote later) ∙ ap (passed text (os_of o)) (sym turn)) ∙ S.rest
 
           -- it is too long
-          pub spelling_long : 1048576 < n → Spells text all body body'' n
+          pub spelling_long : 1048576 < n → Spells text all body body'' None
           spelling_long k =
               let u = wrote.up in
               let z = lt-leb (length (passed text [] all)) 1048576 (omega (arith, ap length on, length-append (S.done ++ piece) (passed text (os_of p) later))) in
-              record { on = λ z. absurd (omega arith); off = λ y. rw z (none (found text [] all)); kept = ap length wrote.wrote ∙ length_over body 0 (S.done ++ piece) }
+              record { is = rw z (none (found text [] all)); kept = ap length wrote.wrote ∙ length_over body 0 (S.done ++ piece) }
             where
               none : (x : Bool) → (x && false) ≡ false
               none true = refl
@@ -214,9 +216,9 @@ module _ (text words : List ℕ) (count : ℕ) (body : List ℕ) where
                 owed = owing S.owed r.parts;
                 at = S.at + r.size;
                 rules = rules_rest (length text) S.due S.owed S.at r later first;
-                few = λ z. T.due d (eqb-true r.kind 2 (and_both (eqb r.kind 2) (eqb r.parts 1) z).0);
-                most = d;
-                same = S.same ∙ ap (found text (os_of o)) turn ∙ T.on d later;
+                few = λ z. T.due (eqb-true r.kind 2 (and_both (eqb r.kind 2) (eqb r.parts 1) z).0);
+                most = T.deep;
+                same = S.same ∙ ap (found text (os_of o)) turn ∙ T.on later;
                 done = S.done ++ piece;
                 put = wrote;
                 rest = on;

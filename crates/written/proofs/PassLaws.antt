@@ -16,7 +16,8 @@ use Rattle.definition_written.specs.Passes.{opened, standing, drained, took_text
 use Rattle.opens.specs.declared.Opens.{Opens}
 use Rattle.opens.specs.Opens.{where_of, os_of}
 use Rattle.opens.proofs.OpenLaws.{standing_of, length_of, field_reads_lem}
-use Rattle.written.specs.Turns.{piece_of, Turns}
+use Rattle.std.specs.Prelude.{None}
+use Rattle.written.specs.Turns.{piece_of, Turns, TurnsTo}
 
 -- ONE RECORD
 module _ (text : List ℕ) (o : Opens) (r : Record) where
@@ -25,7 +26,7 @@ module _ (text : List ℕ) (o : Opens) (r : Record) where
 
   pub turn_spec : (p : Opens) → r.kind ≡ 3 → os_of p ≡ opened r.parts early ∷ os_of o → p.depth ≤ 2 → Wrote p → Turns text o r p
   unfolding found
-  turn_spec p k e h wr = record { wrote = λ z. wr; on = λ z rs. rw (eq-eqb r.kind 3 k, found) (ap (λ os. found text os rs) (sym e)); off = λ z. absurd (omega arith); due = λ z f. absurd (omega arith) }
+  turn_spec p k e h wr = record { deep = omega arith; wrote = wr; on = λ rs. rw (eq-eqb r.kind 3 k, found) (ap (λ os. found text os rs) (sym e)); due = λ f. absurd (omega arith) }
 
   module _ (n : r.kind ≡ 3 → ⊥) (d : Opens) (dr : os_of d ≡ drained (os_of o)) where
     text_found : r.kind ≡ 1 → (rs : List Record)
@@ -37,10 +38,10 @@ module _ (text : List ℕ) (o : Opens) (r : Record) where
         ∙ ap (λ z. text_reads z (part text r.offset (r.offset + r.size)) && found text (took_text (os_of d)) rs) (standing_of d.left d.late d.outer d.behind d.depth))
 
     pub turn_text : (p : Opens) → r.kind ≡ 1 → text_reads (where_of d.depth d.late) (part text r.offset (r.offset + r.size)) ≡ true → os_of p ≡ took_text (os_of d) → p.depth ≤ 2 → Wrote p → Turns text o r p
-    turn_text p k t e h wr = record { wrote = λ z. wr; on = λ z rs. text_found k rs ∙ rw t (ap (λ os. found text os rs) (sym e)); off = λ z. absurd (omega arith); due = λ z f. absurd (omega arith) }
+    turn_text p k t e h wr = record { deep = omega arith; wrote = wr; on = λ rs. text_found k rs ∙ rw t (ap (λ os. found text os rs) (sym e)); due = λ f. absurd (omega arith) }
 
-    pub turn_brace : (p : Opens) → r.kind ≡ 1 → text_reads (where_of d.depth d.late) (part text r.offset (r.offset + r.size)) ≡ false → p.depth ≡ 3 → Turns text o r p
-    turn_brace p k t h = record { wrote = λ z. absurd (omega arith); on = λ z. absurd (omega arith); off = λ z rs. text_found k rs ∙ rw t refl; due = λ z f. absurd (omega arith) }
+    pub turn_brace : r.kind ≡ 1 → text_reads (where_of d.depth d.late) (part text r.offset (r.offset + r.size)) ≡ false → TurnsTo text o r None
+    turn_brace k t rs = text_found k rs ∙ rw t refl
 
     module _ (few : d.depth ≤ 2) (k : r.kind ≡ 1 → ⊥) where
       field_found : (rs : List Record)
@@ -57,7 +58,7 @@ module _ (text : List ℕ) (o : Opens) (r : Record) where
       shallow t = cases (ltb d.depth 2) (λ z. ltb-true d.depth 2 z) (λ z. no (sym (rw z refl) ∙ sym (field_reads_lem d.depth false (part text r.offset (r.offset + r.size))) ∙ t))
 
       pub turn_field : (p : Opens) → field_reads d.depth (where_of d.depth false) (part text r.offset (r.offset + r.size)) ≡ true → os_of p ≡ took_field (os_of d) → p.depth ≡ d.depth → Wrote p → Turns text o r p
-      turn_field p t e h wr = let q = shallow t in record { wrote = λ z. wr; on = λ z rs. field_found rs ∙ rw t (ap (λ os. found text os rs) (sym e)); off = λ z. absurd (omega arith); due = λ z f. omega arith }
+      turn_field p t e h wr = let q = shallow t in record { deep = omega arith; wrote = wr; on = λ rs. field_found rs ∙ rw t (ap (λ os. found text os rs) (sym e)); due = λ f. omega arith }
 
-      pub turn_other : (p : Opens) → field_reads d.depth (where_of d.depth false) (part text r.offset (r.offset + r.size)) ≡ false → p.depth ≡ 3 → Turns text o r p
-      turn_other p t h = record { wrote = λ z. absurd (omega arith); on = λ z. absurd (omega arith); off = λ z rs. field_found rs ∙ rw t refl; due = λ z f. absurd (omega arith) }
+      pub turn_other : field_reads d.depth (where_of d.depth false) (part text r.offset (r.offset + r.size)) ≡ false → TurnsTo text o r None
+      turn_other t rs = field_found rs ∙ rw t refl

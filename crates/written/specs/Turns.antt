@@ -1,5 +1,5 @@
 -- What one record does to the open specs, and what is written at it.
-use Rattle.std.specs.Prelude.{ℕ, ◌+◌, ◌-◌, ◌≤◌, ◌<◌, ◌≡◌, Bool, false, List, [], ◌∷◌, ◌++◌, eqb, replicate, if◌then◌else◌}
+use Rattle.std.specs.Prelude.{ℕ, ◌+◌, ◌-◌, ◌≤◌, ◌≡◌, Bool, false, List, [], ◌∷◌, ◌++◌, eqb, replicate, Option, Some, None, if◌then◌else◌}
 use Rattle.definition.specs.Chars.{part}
 use Rattle.definition.specs.Records.{Record}
 use Rattle.definition_written.specs.Written.{spelled_text, spelled_conversion}
@@ -24,9 +24,14 @@ piece_of text r before after b =
     replicate (before - after) 125
     ++ (if eqb r.kind 1 then spelled_text (where_of after b) own else 123 ∷ (own ++ (spelled_conversion r.mode ++ (if eqb r.parts 0 then 125 else 58) ∷ [])))
 
--- what a record does to the open specs: on with others, or over 2 for what does not read back
+-- what a record does to the open specs: on with others
 pub record Turns (text : List ℕ) (o : Opens) (r : Record) (p : Opens) : Type 0 where
-  pub on : p.depth ≤ 2 → (rs : List Record) → found text (os_of o) (r ∷ rs) ≡ found text (os_of p) rs
-  pub off : 2 < p.depth → (rs : List Record) → found text (os_of o) (r ∷ rs) ≡ false
-  pub due : p.depth ≤ 2 → r.kind ≡ 2 → p.depth ≤ 1
-  pub wrote : p.depth ≤ 2 → (rs : List Record) → passed text (os_of o) (r ∷ rs) ≡ piece_of text r o.depth p.depth p.late ++ passed text (os_of p) rs
+  pub deep : p.depth ≤ 2
+  pub on : (rs : List Record) → found text (os_of o) (r ∷ rs) ≡ found text (os_of p) rs
+  pub due : r.kind ≡ 2 → p.depth ≤ 1
+  pub wrote : (rs : List Record) → passed text (os_of o) (r ∷ rs) ≡ piece_of text r o.depth p.depth p.late ++ passed text (os_of p) rs
+
+-- or none, for what does not read back
+abbrev pub TurnsTo : (text : List ℕ) → Opens → Record → Option Opens → Type 0
+TurnsTo text o r (Some p) = Turns text o r p
+TurnsTo text o r None = (rs : List Record) → found text (os_of o) (r ∷ rs) ≡ false

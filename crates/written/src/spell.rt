@@ -42,9 +42,10 @@ fn put_top(body: &mut [u8], used: usize, b: u8) -> usize
     ensures { Puts body.old used (spelled_byte top b) body.new result }
 {
     if is_doubled(b) {
-        return put_two(body, used, b);
+        put_two(body, used, b)
+    } else {
+        put_one(body, used, b)
     }
-    put_one(body, used, b)
 }
 
 // A byte of a text late in a spec.
@@ -52,16 +53,12 @@ fn put_late(body: &mut [u8], used: usize, b: u8) -> usize
     requires { used ≤ 2 ^ 40 }
     ensures { Puts body.old used (spelled_byte late b) body.new result }
 {
-    if b == b'\\' {
-        return put_two(body, used, b);
+    match b {
+        b'\\' => put_two(body, used, b),
+        b'{' => put_hex(body, used, b'b'),
+        b'}' => put_hex(body, used, b'd'),
+        _ => put_one(body, used, b),
     }
-    if b == b'{' {
-        return put_hex(body, used, b'b');
-    }
-    if b == b'}' {
-        return put_hex(body, used, b'd');
-    }
-    put_one(body, used, b)
 }
 
 // A byte of a text where it stands.
@@ -70,12 +67,12 @@ fn put_byte(body: &mut [u8], used: usize, b: u8, depth: usize, late: bool) -> us
     ensures { Puts body.old used (spelled_byte (where_of depth late) b) body.new result }
 {
     if depth == 0 {
-        return put_top(body, used, b);
+        put_top(body, used, b)
+    } else if late {
+        put_late(body, used, b)
+    } else {
+        put_one(body, used, b)
     }
-    if late {
-        return put_late(body, used, b);
-    }
-    put_one(body, used, b)
 }
 
 // A text where it stands.
@@ -84,11 +81,8 @@ pub(crate) fn put_text(body: &mut [u8], used: usize, text: &[u8], depth: usize, 
     ensures { Puts body.old used (spelled_text (where_of depth late) text.now) body.new result }
 {
     let mut u = used;
-    let mut i = 0;
-    while i < text.len() {
-        let b = text[i];
-        u = put_byte(body, u, b, depth, late);
-        i += 1;
+    for b in text {
+        u = put_byte(body, u, *b, depth, late);
     }
     u
 }
@@ -119,23 +113,19 @@ pub(crate) fn put_closers(body: &mut [u8], used: usize, count: usize) -> usize
     requires { (used ≤ 2 ^ 40) × (count ≤ 2) }
     ensures { Puts body.old used (replicate count 125) body.new result }
 {
-    if count == 0 {
-        return used;
+    match count {
+        0 => used,
+        1 => put_one(body, used, b'}'),
+        _ => put_two(body, used, b'}'),
     }
-    if count == 1 {
-        return put_one(body, used, b'}');
-    }
-    put_two(body, used, b'}')
 }
 
 // What ends a field's head: `:` before a spec, else `}`.
+// A match of its own: what it gives is not what others of its shape do.
 fn end_of(parts: u32) -> u8
     ensures { result ≡ (if eqb parts 0 then 125 else 58) }
 {
-    if parts == 0 {
-        return b'}';
-    }
-    b':'
+    if parts == 0 { b'}' } else { b':' }
 }
 
 // A field up to its spec, or whole if it has none.

@@ -4,20 +4,12 @@ ghost use Rattle.definition.specs.Records.{Record};
 ghost use Rattle.definition_written.specs.Written.{early};
 ghost use Rattle.definition_written.specs.Passes.{opened};
 ghost use Rattle.opens.specs.Opens.{os_of};
-ghost use Rattle.written.specs.Turns.{piece_of, Holds, Turns};
+ghost use Rattle.written.specs.Turns.{piece_of, Holds, TurnsTo};
 ghost use Rattle.written.specs.Puts.{Puts};
 
 use crate::spell::{put_closers, put_field, put_text};
 use formed::Head;
 use opens::{Opens, drain, field_reads, text_reads, took_field, took_text};
-
-const NOT_BACK: Opens = Opens {
-    depth: 3,
-    left: 0,
-    late: false,
-    outer: 0,
-    behind: false,
-};
 
 // One spec more.
 fn push(o: Opens, parts: u32) -> Opens
@@ -33,37 +25,27 @@ fn push(o: Opens, parts: u32) -> Opens
     }
 }
 
-// What a record does to the open specs.
-pub(crate) fn turn(text: &[u8], h: Head, o: Opens) -> Opens
+// What a record does to the open specs; nothing for what does not read back.
+pub(crate) fn turn(text: &[u8], h: Head, o: Opens) -> Option<Opens>
     requires { (o.depth ≤ 2) × (h.kind ≡ 3 → o.depth ≤ 1) × (h.offset + h.size ≤ length text.now) }
-    ensures { (r : Record) → Holds r h → Turns text.now o r result }
+    ensures { (r : Record) → Holds r h → TurnsTo text.now o r result }
 {
     if h.kind == 3 {
-        return push(o, h.parts);
+        return Some(push(o, h.parts));
     }
     let d = drain(o);
     let from = h.offset as usize;
     let to = from + h.size as usize;
     if h.kind == 1 {
         if text_reads(&text[from..to], d.depth, d.late) {
-            return took_text(d);
+            return Some(took_text(d));
         }
-        return NOT_BACK;
+        return None;
     }
     if field_reads(&text[from..to], d.depth) {
-        return took_field(d);
+        return Some(took_field(d));
     }
-    NOT_BACK
-}
-
-// How many specs are over.
-fn gap(before: usize, after: usize) -> usize
-    ensures { result ≡ before - after }
-{
-    if after <= before {
-        return before - after;
-    }
-    0
+    None
 }
 
 // Writes what is written at a record, by how deep it stands before and after.
@@ -82,7 +64,7 @@ pub(crate) fn put_record(
     if h.kind == 3 {
         return used;
     }
-    let closed = gap(before, after);
+    let closed = before.saturating_sub(after);
     let from = h.offset as usize;
     let to = from + h.size as usize;
     let next = put_closers(body, used, closed);

@@ -1,12 +1,10 @@
-use borrow.Author.Rules.{rules}
 use native.Mathlib.Omega.{arith}
 use native.Mathlib.Nat.{sub-zero}
-use Prim.Native.Nat.{◌+◌, ◌-◌, ◌≤◌}
+use Prim.Native.Nat.{◌+◌, ◌≤◌}
 use mathlib.Core.Path.{◌≡◌, sym, ◌∙◌}
 use lib.ListN.{length}
 use Rattle.definition.specs.Counts.{counted}
 use Rattle.definition.specs.Entry.{body}
-use Rattle.definition.specs.Reading.{all_chars}
 use Rattle.prefixes.proofs.FirstBytes.{whole_chars}
 use Rattle.entry.specs.Answers.{described}
 use Rattle.entry.specs.Literals.{literal_at, literals}

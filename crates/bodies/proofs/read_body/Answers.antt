@@ -1,4 +1,3 @@
-use borrow.Author.Rules.{rules}
 use native.Mathlib.Omega.{arith}
 use mathlib.Core.Path.{refl, sym, ◌∙◌}
 use Rattle.bodies.proofs.ListLaws.{fstring_body, content_of, not_read, string_refuses, string_body}

@@ -1,13 +1,9 @@
 use borrow.Author.Rules.{rules}
 use native.Mathlib.Omega.{arith}
-use mathlib.Core.Path.{◌≡◌, refl, ◌∙◌}
-use Prim.Native.Nat.{◌-◌}
-use lib.ListN.{length}
-use Rattle.escapes.specs.Answers.{names_by}
-use Rattle.bodies.specs.Sinks.{whole_of}
-use Rattle.bodies.proofs.ListLaws.{Listing, before_all, after_all, room, first, stands, refuses_all, next_literal, G}
+use mathlib.Core.Path.{refl, ◌∙◌}
+use Rattle.bodies.proofs.ListLaws.{before_all, after_all, room, first, stands, refuses_all, next_literal, G}
 use Rattle.bodies.proofs.RowLaws.{read_signed, few_on}
-use Rattle.bodies.proofs.RowCalls.{Rowing, none_rowed, all_rowed, next_rowed}
+use Rattle.bodies.proofs.RowCalls.{none_rowed, all_rowed, next_rowed}
 use Rattle.bodies.proofs.read_list.Goals as goal
 
 pub loop-i-init : goal.loop-i-init
@@ -30,12 +26,6 @@ shape_of-rows-in-Refused c = let i0 = c.loop-i.invariant.0 in let i1 = c.loop-i.
 
 pub returns-in-Refused : goal.returns-in-Refused
 returns-in-Refused c = let Q = rw c.in-Refused.is at c.read_literal.ensures in rw c.refusal_in.ensures (refuses_all _ _ _ _ _ _ _ c.requires _ _ _ _ c.loop-i.invariant.3 c.loop-i-test.true c.literal_at-l.result c.literal_at-l.ensures (omega (arith, c.literal_at-l.type_inv)) _ _ _ c.in-Refused.x Q.0, tt)
-
-pub overflow_add-i : goal.overflow_add-i
-overflow_add-i c = let t = c.loop-i-test.true in search rules
-
-pub loop-i-smaller : goal.loop-i-smaller
-loop-i-smaller c = let t = c.loop-i-test.true in search rules
 
 pub loop-i-preserved : goal.loop-i-preserved
 loop-i-preserved c = let Q = rw c.in-Done.is at c.read_literal.ensures in let g = G _ _ _ _ _ _ _ c.requires _ _ _ _ c.loop-i.invariant.3 c.loop-i-test.true c.literal_at-l.result c.literal_at-l.ensures (omega (arith, c.literal_at-l.type_inv)) _ _ _ c.in-Done.field-0 c.in-Done.next c.in-Done.n Q.0 in let S = read_signed _ _ _ _ _ _ _ _ g.reads Q.1 in (c.read_literal.auto.words ∙ c.loop-i.invariant.0, c.read_literal.auto.text ∙ c.loop-i.invariant.1, c.read_literal.auto.rows ∙ c.loop-i.invariant.2, next_literal _ _ _ _ _ _ _ c.requires _ _ _ _ c.loop-i.invariant.3 c.loop-i-test.true c.literal_at-l.result c.literal_at-l.ensures (omega (arith, c.literal_at-l.type_inv)) _ _ _ c.in-Done.field-0 c.in-Done.next c.in-Done.n Q.0, next_rowed _ _ _ _ _ _ _ _ _ _ c.loop-i.invariant.4 c.loop-i-test.true c.literal_at-l.result c.literal_at-l.ensures _ _ _ g.reads _ _ _ S (few_on _ _ _ _ _ _ _ _ _ _ _ _ _ g.emits S c.loop-i.invariant.4.few))

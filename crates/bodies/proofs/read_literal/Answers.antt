@@ -1,4 +1,3 @@
-use borrow.Author.Rules.{rules}
 use Rattle.definition.specs.Entry.{body}
 use Rattle.entry.specs.Answers.{described}
 use Rattle.bodies.proofs.read_literal.Goals as goal

@@ -1,4 +1,3 @@
-use borrow.Author.Rules.{rules}
 use mathlib.Core.Path.{◌∙◌}
 use Rattle.definition.specs.Entry.{body}
 use Rattle.entry.specs.Answers.{described}

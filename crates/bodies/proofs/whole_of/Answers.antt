@@ -1,4 +1,3 @@
-use borrow.Author.Rules.{rules}
 use Rattle.bodies.proofs.TopLaws.{whole_made}
 use Rattle.bodies.proofs.whole_of.Goals as goal
 

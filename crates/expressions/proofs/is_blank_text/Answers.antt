@@ -15,10 +15,10 @@ pub loop-at-smaller : goal.loop-at-smaller
 loop-at-smaller c = let S = step_char _ _ _ _ (sym c.next_char.ensures ∙ c.in-Char.is) in omega (arith, S.next_is, next_past c.args.s.now c.loop-at.at S.there, S.there)
 
 pub loop-at-preserved : goal.loop-at-preserved
-loop-at-preserved c = let S = step_char _ _ _ _ (sym c.next_char.ensures ∙ c.in-Char.is) in c.loop-at.invariant ∙ blank_on _ _ _ _ S.there S.code_is S.next_is (sym c.is_blank.ensures ∙ c.if-is_blank.true)
+loop-at-preserved c = let S = step_char _ _ _ _ (sym c.next_char.ensures ∙ c.in-Char.is) in c.loop-at.invariant ∙ blank_on _ _ _ _ S.there S.code_is S.next_is (sym c.is_blank.ensures ∙ c.if-not-is_blank.false)
 
-pub returns-else-is_blank : goal.returns-else-is_blank
-returns-else-is_blank c = let S = step_char _ _ _ _ (sym c.next_char.ensures ∙ c.in-Char.is) in blank_not _ _ _ S.there S.code_is (sym c.is_blank.ensures ∙ c.if-is_blank.false) ∙ sym c.loop-at.invariant
+pub returns-then-not-is_blank : goal.returns-then-not-is_blank
+returns-then-not-is_blank c = let S = step_char _ _ _ _ (sym c.next_char.ensures ∙ c.in-Char.is) in blank_not _ _ _ S.there S.code_is (sym c.is_blank.ensures ∙ c.if-not-is_blank.true) ∙ sym c.loop-at.invariant
 
 pub returns : goal.returns
 returns c = sym (c.loop-at.invariant ∙ blank_over c.args.s.now c.loop-at.at (omega (arith, c.loop-at-test.false)))

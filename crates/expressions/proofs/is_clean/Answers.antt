@@ -18,17 +18,17 @@ loop-i-preserved-then-is_pair c = let v = c.loop-i.invariant in (v.0 ∙ scan_pa
 pub returns-then-is_ending : goal.returns-then-is_ending
 returns-then-is_ending c = let v = c.loop-i.invariant in scan_sign c.args.s.now c.loop-i.stack c.loop-i.quote c.loop-i.depth c.loop-i.i c.loop-i-test.true (sym c.is_pair.ensures ∙ c.if-is_pair.false) (sym c.is_ending.ensures ∙ c.if-is_ending.true) ∙ sym v.0
 
-pub see_byte-next-requires : goal.see_byte-next-requires
-see_byte-next-requires c = (c.loop-i.invariant.1, c.loop-i.invariant.2)
+pub see_byte-requires : goal.see_byte-requires
+see_byte-requires c = (c.loop-i.invariant.1, c.loop-i.invariant.2)
 
-pub returns-then-next-gt64 : goal.returns-then-next-gt64
-returns-then-next-gt64 c = let v = c.loop-i.invariant in scan_off c.args.s.now c.loop-i.stack c.loop-i.quote c.loop-i.depth c.loop-i.i c.loop-i-test.true (sym c.is_pair.ensures ∙ c.if-is_pair.false) (sym c.is_ending.ensures ∙ c.if-is_ending.false) (c.see_byte-next.ensures.off c.if-next-gt64.true) ∙ sym v.0
+pub returns-in_default : goal.returns-in_default
+returns-in_default c = let v = c.loop-i.invariant in scan_off c.args.s.now c.loop-i.stack c.loop-i.quote c.loop-i.depth c.loop-i.i c.loop-i-test.true (sym c.is_pair.ensures ∙ c.if-is_pair.false) (sym c.is_ending.ensures ∙ c.if-is_ending.false) c.in_default.ensures.is ∙ sym v.0
 
 pub loop-i-smaller : goal.loop-i-smaller
 loop-i-smaller c = omega (arith, c.loop-i-test.true)
 
 pub loop-i-preserved : goal.loop-i-preserved
-loop-i-preserved c = let v = c.loop-i.invariant in let k = c.see_byte-next.ensures in (v.0 ∙ scan_on c.args.s.now c.loop-i.stack c.loop-i.quote c.loop-i.depth c.loop-i.i c.loop-i-test.true (sym c.is_pair.ensures ∙ c.if-is_pair.false) (sym c.is_ending.ensures ∙ c.if-is_ending.false) _ _ _ (omega (arith, c.if-next-gt64.false)) (k.on (omega (arith, c.if-next-gt64.false))), omega (arith, c.if-next-gt64.false), k.full)
+loop-i-preserved c = let v = c.loop-i.invariant in let k = c.in-Some.ensures in (v.0 ∙ scan_on c.args.s.now c.loop-i.stack c.loop-i.quote c.loop-i.depth c.loop-i.i c.loop-i-test.true (sym c.is_pair.ensures ∙ c.if-is_pair.false) (sym c.is_ending.ensures ∙ c.if-is_ending.false) _ _ _ k.is.0 k.is.1, k.is.0, k.full)
 
 pub returns : goal.returns
 returns c = c.is_settled.ensures ∙ scan_over c.args.s.now c.loop-i.stack c.loop-i.quote c.loop-i.depth c.loop-i.i (omega (arith, c.loop-i-test.false)) ∙ sym c.loop-i.invariant.0

@@ -18,7 +18,7 @@ bracket : (c : After-innermost-opener) → c.innermost-opener.result.bracket ≡
 bracket c = ap (λ (b : Bracket). b.bracket) (met c)
 
 pub returns-then-depth-eq0 : goal.returns-then-depth-eq0
-returns-then-depth-eq0 c = λ s text p. (refl, λ e. close_none p _ e c.if-depth-eq0.true)
+returns-then-depth-eq0 c = λ s text p. rw c.refused_at.ensures (refl, λ e. close_none p _ e c.if-depth-eq0.true)
 
 pub returns-then-matches : goal.returns-then-matches
 returns-then-matches c =

@@ -13,7 +13,7 @@ ends_head_is : {r t : Bool} {c c' : ℕ} → r ≡ (c is "}:") → c ≡ c' → 
 ends_head_is a b e = rw (← b) (sym a ∙ e)
 
 pub returns-then-f : goal.returns-then-f
-returns-then-f c = λ places. rw c.refuse.ensures (refl, λ e. convert_blank c.requires places e c.if-f.true)
+returns-then-f c = λ places. rw c.refused_at.ensures (refl, λ e. convert_blank c.requires places e c.if-f.true)
 
 pub returns-in_default : goal.returns-in_default
 returns-in_default c =
@@ -43,4 +43,4 @@ pub returns : goal.returns
 returns c =
     let p = c.requires in
     let there = step_char _ _ _ _ (sym c.next_char.ensures ∙ c.in-Char.is) in
-    λ places. rw c.refuse-2.ensures (refl, λ e. convert_other p places e c.if-f.false there (sym c.is_conversion.ensures ∙ c.if-is_conversion.false))
+    λ places. rw c.refused_at-2.ensures (refl, λ e. convert_other p places e c.if-f.false there (sym c.is_conversion.ensures ∙ c.if-is_conversion.false))

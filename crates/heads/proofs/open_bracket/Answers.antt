@@ -15,7 +15,7 @@ whole x c taken q h k =
     q ∙ (λ i. record { bracket = e i; taken = f i })
 
 pub returns-then-depth-ge64 : goal.returns-then-depth-ge64
-returns-then-depth-ge64 c = λ s text p. rw c.refuse.ensures (refl, λ e. open_full p _ e c.if-depth-ge64.true)
+returns-then-depth-ge64 c = λ s text p. rw c.refused_at.ensures (refl, λ e. open_full p _ e c.if-depth-ge64.true)
 
 pub returns : goal.returns
 returns c =

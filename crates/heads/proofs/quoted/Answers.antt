@@ -6,7 +6,7 @@ use Rattle.heads.proofs.FieldLaws.{ahead, keeps, quote_open, quote_goes}
 use Rattle.heads.proofs.quoted.Goals as goal
 
 pub returns-then-n-close : goal.returns-then-n-close
-returns-then-n-close c = λ places text. rw c.refuse.ensures (refl, λ e. quote_open c.requires places e _ c.run_end-close.ensures c.if-n-close.true)
+returns-then-n-close c = λ places text. rw c.refused_at.ensures (refl, λ e. quote_open c.requires places e _ c.run_end-close.ensures c.if-n-close.true)
 
 pub returns : goal.returns
 returns c =

@@ -90,7 +90,7 @@ pub returns-in-Space : goal.returns-in-Space
 returns-in-Space c = let p = fits (goal.at.returns-in-Space c).After-class_of-class in let t = rw c.in-Space.is at (told (goal.at.returns-in-Space c).After-class_of-class) in skips p.room (after (goal.at.returns-in-Space c).After-class_of-class).at (c.args.f.spaces + 1) c.args.f.conversion c.args.f.equals c.args.f.bang (omega (arith, p.room.equals_in, (ahead p.here).0), omega (arith, p.room.bang_in, (ahead p.here).0)) c.skip-g-in-Space.ensures.1 (ap (λ (x : State). changed (x.spaces + 1) x.conversion x.equals x.bang x) c.skip-g-in-Space.ensures.0) (λ e. space_goes p _ e t)
 
 pub returns-in-Backslash : goal.returns-in-Backslash
-returns-in-Backslash c = let p = fits (goal.at.returns-in-Backslash c).After-class_of-class in let t = rw c.in-Backslash.is at (told (goal.at.returns-in-Backslash c).After-class_of-class) in rw c.refuse.ensures (refl, λ e. backslash_stops p _ e t)
+returns-in-Backslash c = let p = fits (goal.at.returns-in-Backslash c).After-class_of-class in let t = rw c.in-Backslash.is at (told (goal.at.returns-in-Backslash c).After-class_of-class) in rw c.refused_at.ensures (refl, λ e. backslash_stops p _ e t)
 
 pub returns-in-Stray : goal.returns-in-Stray
 returns-in-Stray c = let p = fits (goal.at.returns-in-Stray c).After-class_of-class in let t = rw c.in-Stray.is at (told (goal.at.returns-in-Stray c).After-class_of-class) in rw c.unclosed_brace-in-Stray.ensures (refl, λ e. stray_stops p _ e t)

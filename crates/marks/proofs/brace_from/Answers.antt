@@ -1,10 +1,8 @@
 use borrow.Author.Rules.{rules}
-use mathlib.Core.Path.{refl, sym, ◌∙◌}
+use native.Mathlib.Omega.{arith}
+use mathlib.Core.Path.{sym, ◌∙◌}
 use Rattle.marks.proofs.Braces.{first_here, first_on, first_end_lem}
 use Rattle.marks.proofs.brace_from.Goals as goal
-
-pub loop-i-init : goal.loop-i-init
-loop-i-init c = refl
 
 pub returns-then-is_brace : goal.returns-then-is_brace
 returns-then-is_brace c = first_here _ _ c.loop-i-test.true (sym (search rules) ∙ c.if-is_brace.true) ∙ sym c.loop-i.invariant
@@ -13,4 +11,4 @@ pub loop-i-preserved : goal.loop-i-preserved
 loop-i-preserved c = c.loop-i.invariant ∙ first_on _ _ c.loop-i-test.true (sym (search rules) ∙ c.if-is_brace.false)
 
 pub returns : goal.returns
-returns c = first_end_lem _ _ c.loop-i-test.false ∙ sym c.loop-i.invariant
+returns c = grind (arith, first_end_lem c.args.s.now c.args.from, first_end_lem c.args.s.now c.loop-i.i)

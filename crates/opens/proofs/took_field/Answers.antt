@@ -3,4 +3,4 @@ use Rattle.opens.proofs.OpenLaws.{took_field_lem}
 use Rattle.opens.proofs.took_field.Goals as goal
 
 pub returns : goal.returns
-returns c = let o = c.args.o in (took_field_lem o.left o.late o.outer o.behind o.depth _ c.less.ensures, refl)
+returns c = let o = c.args.o in (took_field_lem o.left o.late o.outer o.behind o.depth _ c.saturating_sub.ensures, refl)

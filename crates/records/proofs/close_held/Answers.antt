@@ -1,4 +1,4 @@
-use Rattle.std.proofs.Common.{rules, eq-eqb, ne_eqb}
+use Rattle.std.proofs.Common.{eq-eqb, ne_eqb}
 use Rattle.records.specs.Written.{closed, held_words}
 use Rattle.records.proofs.close_held.Goals as goal
 

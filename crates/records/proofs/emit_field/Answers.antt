@@ -1,4 +1,3 @@
-use Rattle.std.proofs.Common.{rules}
 use Rattle.records.specs.Written.{field}
 use Rattle.records.proofs.emit_field.Goals as goal
 

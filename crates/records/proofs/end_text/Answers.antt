@@ -1,4 +1,4 @@
-use Rattle.std.proofs.Common.{ap, rules, eq-eqb, ne_eqb}
+use Rattle.std.proofs.Common.{ap, eq-eqb, ne_eqb}
 use Rattle.records.specs.Written.{ended, literal, written}
 use Rattle.records.proofs.end_text.Goals as goal
 

@@ -1,4 +1,3 @@
-use Rattle.std.proofs.Common.{rules}
 use Rattle.records.specs.Written.{specified}
 use Rattle.records.proofs.fill_spec.Goals as goal
 

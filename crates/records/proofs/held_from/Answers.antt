@@ -4,5 +4,5 @@ use Rattle.records.proofs.held_from.Goals as goal
 pub returns-then-k-eq1 : goal.returns-then-k-eq1
 returns-then-k-eq1 c = rw (eq-eqb _ _ c.if-k-eq1.true)
 
-pub returns : goal.returns
-returns c = rw (ne_eqb _ _ c.if-k-eq1.false)
+pub returns-else-k-eq1 : goal.returns-else-k-eq1
+returns-else-k-eq1 c = rw (ne_eqb _ _ c.if-k-eq1.false)

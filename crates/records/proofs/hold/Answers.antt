@@ -1,4 +1,3 @@
-use Rattle.std.proofs.Common.{rules}
 use Rattle.records.specs.Written.{held}
 use Rattle.records.proofs.hold.Goals as goal
 

@@ -1,4 +1,4 @@
-use Rattle.std.proofs.Common.{ap, rules, eq-eqb, ne_eqb}
+use Rattle.std.proofs.Common.{ap, eq-eqb, ne_eqb}
 use Rattle.records.specs.Written.{literal, written}
 use Rattle.records.proofs.literal.Goals as goal
 

@@ -1,6 +1,7 @@
-use Rattle.std.proofs.Common.{arith, rules}
-use Rattle.records.proofs.Counting.{is_minus}
+use Rattle.std.proofs.Common.{refl}
+use Rattle.records.specs.Counts.{minus}
 use Rattle.records.proofs.minus.Goals as goal
 
 pub returns : goal.returns
-returns c = is_minus _ _ _ (omega arith) (omega arith) c.wrapping_sub_usize.ensures.value
+unfolding minus
+returns c = refl

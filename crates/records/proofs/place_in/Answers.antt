@@ -1,4 +1,4 @@
-use Rattle.std.proofs.Common.{◌∙◌, rules}
+use Rattle.std.proofs.Common.{◌∙◌}
 use Rattle.records.proofs.Counting.{is_place}
 use Rattle.records.proofs.place_in.Goals as goal
 

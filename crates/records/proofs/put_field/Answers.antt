@@ -1,4 +1,3 @@
-use Rattle.std.proofs.Common.{rules}
 use Rattle.records.specs.Written.{field_put}
 use Rattle.records.proofs.put_field.Goals as goal
 

@@ -1,4 +1,3 @@
-use Rattle.std.proofs.Common.{rules}
 use Rattle.records.specs.Written.{put}
 use Rattle.records.proofs.put_inner.Goals as goal
 

@@ -1,4 +1,3 @@
-use Rattle.std.proofs.Common.{rules}
 use Rattle.records.specs.Written.{reserved}
 use Rattle.records.proofs.reserve.Goals as goal
 

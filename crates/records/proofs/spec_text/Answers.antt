@@ -1,4 +1,4 @@
-use Rattle.std.proofs.Common.{rules, eq-eqb, ne_eqb}
+use Rattle.std.proofs.Common.{eq-eqb, ne_eqb}
 use Rattle.records.specs.Written.{spec_text}
 use Rattle.records.proofs.spec_text.Goals as goal
 

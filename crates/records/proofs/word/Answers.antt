@@ -1,4 +1,4 @@
-use Rattle.std.proofs.Common.{refl, rules}
+use Rattle.std.proofs.Common.{refl}
 use Rattle.records.specs.Counts.{word}
 use Rattle.records.proofs.word.Goals as goal
 

@@ -3,7 +3,7 @@ use mathlib.Core.Path.{refl, sym, ◌∙◌}
 use mathlib.Core.List.{[]}
 use Rattle.escapes.proofs.Lent.{names_none}
 use Rattle.utf8.proofs.Steps.{step_char, step_end}
-use Rattle.texts.proofs.EscapeEndLaws.{escape_tells}
+use Rattle.texts.proofs.EscapeEndLaws.{escape_tells, refused_tells}
 use Rattle.texts.proofs.escape_end.Goals as goal
 
 pub returns-in_default : goal.returns-in_default
@@ -16,10 +16,4 @@ pub returns-in-On : goal.returns-in-On
 returns-in-On c = let t = step_char _ _ _ _ (sym c.next_char.ensures ∙ c.in-Char.is) in (search rules, t.there, rw t.next_is (escape_tells _ _ _ _ _ _ _ _ c.in-On.is (rw (names_none [] [] refl) at c.escape_text.ensures)))
 
 pub returns-in-Field : goal.returns-in-Field
-returns-in-Field c = absurd (escape_tells _ _ _ _ _ _ _ _ c.in-Field.is (rw (names_none [] [] refl) at c.escape_text.ensures))
-
-pub returns-in-Over : goal.returns-in-Over
-returns-in-Over c = absurd (escape_tells _ _ _ _ _ _ _ _ c.in-Over.is (rw (names_none [] [] refl) at c.escape_text.ensures))
-
-pub returns-in-Refused : goal.returns-in-Refused
-returns-in-Refused c = let t = step_char _ _ _ _ (sym c.next_char.ensures ∙ c.in-Char.is) in (search rules, t.there, rw t.next_is (escape_tells _ _ _ _ _ _ _ _ c.in-Refused.is (rw (names_none [] [] refl) at c.escape_text.ensures)))
+returns-in-Field c = let t = step_char _ _ _ _ (sym c.next_char.ensures ∙ c.in-Char.is) in (search rules, t.there, rw t.next_is (refused_tells _ _ _ _ _ _ _ c.in-Field.is (rw (names_none [] [] refl) at c.escape_text.ensures)))

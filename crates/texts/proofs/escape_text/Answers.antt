@@ -17,7 +17,7 @@ take-requires c =
     let w = within _ _ _ p.0 in
     let e = sym c.parse_escaped_char-escaped.ensures ∙ ap says c.in-Kept.is in
     let a = c.args in
-    let h = rw e at (escape_sound (names_by a.file.now a.index.now) a.kind a.s.now a.after.at w.1) in
+    let h = rw e at (escape_sound (names_by a.names.now.file.now a.names.now.index.now) a.kind a.s.now a.after.at w.1) in
     search rules
 
 pub returns-in-Code : goal.returns-in-Code
@@ -34,4 +34,4 @@ returns-in-Gone c = rw (sym c.parse_escaped_char-escaped.ensures ∙ ap says c.i
 
 pub returns-in-Refused : goal.returns-in-Refused
 unfolding with_escape meant
-returns-in-Refused c = rw (sym c.parse_escaped_char-escaped.ensures ∙ ap says c.in-Refused.is) (c.refuse.ensures, refl)
+returns-in-Refused c = rw (sym c.parse_escaped_char-escaped.ensures ∙ ap says c.in-Refused.is) (rw c.refused_at.ensures refl, refl)

@@ -1,11 +1,6 @@
 use borrow.Author.Rules.{rules}
 use native.Mathlib.Omega.{arith}
-use Prim.Native.Nat.{◌-◌}
-use lib.ListN.{length}
-use Rattle.definition.specs.Body.{text_move}
-use Rattle.escapes.specs.Answers.{names_by}
 use Rattle.plain.proofs.Runs.{plain_told, end_later}
-use Rattle.texts.specs.Text.{Upto}
 use Rattle.texts.proofs.Laws.{text_bounds, start, long, text_more, text_opens, text_over, text_refused}
 use Rattle.texts.proofs.Runs.{text_run}
 use Rattle.texts.proofs.fstring_text.Goals as goal

@@ -1,4 +1,3 @@
-use borrow.Author.Rules.{rules}
 use Rattle.plain.proofs.Runs.{end_in}
 use Rattle.texts.proofs.plain_text.Goals as goal
 

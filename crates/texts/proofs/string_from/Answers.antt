@@ -1,19 +1,17 @@
 use borrow.Author.Rules.{rules}
 use native.Mathlib.Omega.{arith}
 use mathlib.Core.Path.{sym, ◌∙◌}
-use mathlib.Core.List.{List}
-use Prim.Native.Nat.{ℕ, ◌-◌, ◌≤◌}
+use Prim.Native.Nat.{◌≤◌}
 use lib.ListN.{length}
-use Rattle.definition.specs.Body.{string_move}
 use Rattle.escapes.specs.Answers.{names_by}
 use Rattle.plain.proofs.Runs.{plain_told, end_later}
-use Rattle.texts.specs.Text.{Upto, Begun}
+use Rattle.texts.specs.Text.{Begun}
 use Rattle.texts.proofs.Laws.{string_bounds, long, string_more, string_coded, string_refused, string_over}
 use Rattle.texts.proofs.Runs.{string_run}
 use Rattle.texts.proofs.string_from.Goals as goal
 use Rattle.texts.proofs.string_from.Goals.{At-loop-text}
 
-so_far : (c : At-loop-text) → let a = c.args in Begun (names_by a.file.now a.index.now) a.kind a.s.now c.loop-text.text c.loop-text.cursor.at c.loop-text.end
+so_far : (c : At-loop-text) → let a = c.args in Begun (names_by a.names.now.file.now a.names.now.index.now) a.kind a.s.now c.loop-text.text c.loop-text.cursor.at c.loop-text.end
 so_far c =
     let p = c.requires.1 in
     record { used = p.used; lent = p.lent; few = p.few; upto = c.loop-text.invariant p.used p.lent p.upto }
@@ -48,21 +46,21 @@ loop-text-preserved-then-is_plain_at c =
     let h : c.loop-text.cursor.at ≤ length a.s.now = omega (arith, p.0) in
     string_run _ _ _ _ _ _ _ _ (c.loop-text.invariant first lent u) h _ c.plain_text-run.result c.plain_text-run.ensures
 
-pub coded_at-escaped-requires : goal.coded_at-escaped-requires
+pub coded_at-requires : goal.coded_at-requires
 unfolding so_far
-coded_at-escaped-requires c = let b = string_bounds _ _ _ _ _ (so_far (goal.at.coded_at-escaped-requires c).At-loop-text).upto.leads in (b.inside (omega arith), c.requires.0)
+coded_at-requires c = let b = string_bounds _ _ _ _ _ (so_far (goal.at.coded_at-requires c).At-loop-text).upto.leads in (b.inside (omega arith), c.requires.0)
 
 pub add_code-end-requires : goal.add_code-end-requires
 unfolding so_far
 add_code-end-requires c = let u = so_far (goal.at.add_code-end-requires c).At-loop-text in let f = u.few in let e = u.upto.ended in let b = string_bounds _ _ _ _ _ u.upto.leads in search rules
 
-pub loop-text-smaller-then-cursor-escaped : goal.loop-text-smaller-then-cursor-escaped
+pub loop-text-smaller-in-Some : goal.loop-text-smaller-in-Some
 unfolding so_far
-loop-text-smaller-then-cursor-escaped c = let m = string_coded _ _ _ _ _ _ _ _ (so_far (goal.at.loop-text-smaller-then-cursor-escaped c).At-loop-text).upto c.coded_at-escaped.result.code c.coded_at-escaped.result.to _ _ (c.coded_at-escaped.ensures c.if-cursor-escaped.true) c.add_code-end.ensures.0 c.add_code-end.ensures.1 in omega (arith, m.0, m.1)
+loop-text-smaller-in-Some c = let m = string_coded _ _ _ _ _ _ _ _ (so_far (goal.at.loop-text-smaller-in-Some c).At-loop-text).upto c.in-Some.escaped.code c.in-Some.escaped.to _ _ c.in-Some.ensures c.add_code-end.ensures.0 c.add_code-end.ensures.1 in omega (arith, m.0, m.1)
 
-pub loop-text-preserved-then-cursor-escaped : goal.loop-text-preserved-then-cursor-escaped
+pub loop-text-preserved-in-Some : goal.loop-text-preserved-in-Some
 unfolding so_far
-loop-text-preserved-then-cursor-escaped c = λ first lent u. (string_coded _ _ _ _ _ _ _ _ (c.loop-text.invariant first lent u) c.coded_at-escaped.result.code c.coded_at-escaped.result.to _ _ (c.coded_at-escaped.ensures c.if-cursor-escaped.true) c.add_code-end.ensures.0 c.add_code-end.ensures.1).2
+loop-text-preserved-in-Some c = λ first lent u. (string_coded _ _ _ _ _ _ _ _ (c.loop-text.invariant first lent u) c.in-Some.escaped.code c.in-Some.escaped.to _ _ c.in-Some.ensures c.add_code-end.ensures.0 c.add_code-end.ensures.1).2
 
 pub string_piece-piece-requires : goal.string_piece-piece-requires
 unfolding so_far
@@ -84,10 +82,6 @@ pub returns-in-Refused : goal.returns-in-Refused
 unfolding so_far
 returns-in-Refused c = λ first lent u. string_refused _ _ _ _ _ _ _ _ (c.loop-text.invariant first lent u) _ _ c.string_piece-piece.ensures _ c.in-Refused.is
 
-pub shape_of-text-in_default : goal.shape_of-text-in_default
+pub returns-in-Field : goal.returns-in-Field
 unfolding so_far
-shape_of-text-in_default c = let l = long _ _ _ _ _ _ _ (so_far (goal.at.shape_of-text-in_default c).At-loop-text).upto ∙ sym (long _ _ _ _ _ _ _ c.requires.1.upto) in search rules
-
-pub returns-in_default : goal.returns-in_default
-unfolding so_far
-returns-in_default c = λ first lent u. string_over _ _ _ _ _ _ _ _ (c.loop-text.invariant first lent u) _ _ c.string_piece-piece.ensures c.in_default.in_default-own.keys3
+returns-in-Field c = λ first lent u. string_over _ _ _ _ _ _ _ _ (c.loop-text.invariant first lent u) _ _ c.string_piece-piece.ensures c.in-Field.is

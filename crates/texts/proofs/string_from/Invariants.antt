@@ -1,20 +1,14 @@
-use borrow.Author.Rules.{rules}
-use native.Mathlib.Omega.{arith}
-use mathlib.Core.Path.{sym, ◌∙◌}
 use mathlib.Core.List.{List}
-use Prim.Native.Nat.{ℕ, ◌-◌, ◌≤◌}
+use Prim.Native.Nat.{ℕ, ◌-◌}
 use lib.ListN.{length}
 use Rattle.definition.specs.Body.{string_move}
 use Rattle.escapes.specs.Answers.{names_by}
-use Rattle.plain.proofs.Runs.{plain_told, end_later}
-use Rattle.texts.specs.Text.{Upto, Begun}
-use Rattle.texts.proofs.Laws.{string_bounds, long, string_more, string_coded, string_refused, string_over}
-use Rattle.texts.proofs.Runs.{string_run}
+use Rattle.texts.specs.Text.{Upto}
 use Rattle.texts.proofs.string_from.Given as goal
 
 -- whatever was read and written up to the loop is read on
 abbrev pub invariant-loop-text : goal.invariant-loop-text
-invariant-loop-text l = (first : ℕ) (lent : List ℕ) → Upto (string_move (names_by l.file l.index) l.kind l.s) 0 first lent l.initial.text l.initial.cursor.at l.initial.end → Upto (string_move (names_by l.file l.index) l.kind l.s) 0 first lent l.text l.cursor.at l.end
+invariant-loop-text l = (first : ℕ) (lent : List ℕ) → Upto (string_move (names_by l.names.file.now l.names.index.now) l.kind l.s) 0 first lent l.initial.text l.initial.cursor.at l.initial.end → Upto (string_move (names_by l.names.file.now l.names.index.now) l.kind l.s) 0 first lent l.text l.cursor.at l.end
 
 abbrev pub decreases-loop-text : goal.decreases-loop-text
 decreases-loop-text l = length l.s - l.cursor.at

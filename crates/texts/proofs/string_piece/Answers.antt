@@ -26,7 +26,7 @@ returns-then-is_escape c = let t = step (goal.at.returns-then-is_escape c).After
 
 pub returns-then-is_foreign : goal.returns-then-is_foreign
 unfolding string_move string_case char
-returns-then-is_foreign c = let t = step (goal.at.returns-then-is_foreign c).After-is_escape in rw (lt-leb _ _ t.there, t.code_is, ← c.is_escape.ensures, c.if-is_escape.false, ← c.is_foreign.ensures, c.if-is_foreign.true, string_move, string_case, t.next_is) (c.refuse.ensures, refl)
+returns-then-is_foreign c = let t = step (goal.at.returns-then-is_foreign c).After-is_escape in rw (lt-leb _ _ t.there, t.code_is, ← c.is_escape.ensures, c.if-is_escape.false, ← c.is_foreign.ensures, c.if-is_foreign.true, string_move, string_case, t.next_is) (rw c.refused_at.ensures refl, refl)
 
 pub take-requires : goal.take-requires
 unfolding string_move string_case char

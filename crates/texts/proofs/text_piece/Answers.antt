@@ -18,19 +18,19 @@ returns-in_default c = rw (lt-leb _ _ c.requires.0, le-leb _ _ (step_end _ _ (sy
 
 pub left_brace-requires : goal.left_brace-requires
 unfolding text_move text_case char
-left_brace-requires c = let t = step (goal.at.left_brace-requires c).In-Char in ((t.there, sym t.next_is), t.code_is ∙ c.if-c-eq123.true, search rules, search rules)
+left_brace-requires c = let t = step (goal.at.left_brace-requires c).In-Char in ((t.there, sym t.next_is), t.code_is ∙ c.if-c-eq-LEFT_BRACE.true, search rules, search rules)
 
-pub returns-then-c-eq123 : goal.returns-then-c-eq123
+pub returns-then-c-eq-LEFT_BRACE : goal.returns-then-c-eq-LEFT_BRACE
 unfolding text_move text_case char
-returns-then-c-eq123 c = c.left_brace.ensures _ c.args.kind
+returns-then-c-eq-LEFT_BRACE c = c.left_brace.ensures _ c.args.kind
 
 pub right_brace-requires : goal.right_brace-requires
 unfolding text_move text_case char
-right_brace-requires c = let t = step (goal.at.right_brace-requires c).In-Char in ((t.there, sym t.next_is), t.code_is ∙ c.if-c-eq125.true, search rules, search rules)
+right_brace-requires c = let t = step (goal.at.right_brace-requires c).In-Char in ((t.there, sym t.next_is), t.code_is ∙ c.if-c-eq-RIGHT_BRACE.true, search rules, search rules)
 
-pub returns-then-c-eq125 : goal.returns-then-c-eq125
+pub returns-then-c-eq-RIGHT_BRACE : goal.returns-then-c-eq-RIGHT_BRACE
 unfolding text_move text_case char
-returns-then-c-eq125 c = c.right_brace.ensures _ c.args.kind
+returns-then-c-eq-RIGHT_BRACE c = c.right_brace.ensures _ c.args.kind
 
 pub escape_text-requires : goal.escape_text-requires
 unfolding text_move text_case char
@@ -38,7 +38,7 @@ escape_text-requires c = let t = step (goal.at.escape_text-requires c).In-Char i
 
 pub returns-then-begins_escape : goal.returns-then-begins_escape
 unfolding text_move text_case char
-returns-then-begins_escape c = let t = step (goal.at.returns-then-begins_escape c).In-Char in rw (lt-leb _ _ c.requires.0, lt-leb _ _ t.there, t.code_is, ne_eqb _ _ c.if-c-eq123.false, ne_eqb _ _ c.if-c-eq125.false, t.next_is, ← c.begins_escape.ensures, c.if-begins_escape.true, text_move, text_case, t.next_is) c.escape_text.ensures
+returns-then-begins_escape c = let t = step (goal.at.returns-then-begins_escape c).In-Char in rw (lt-leb _ _ c.requires.0, lt-leb _ _ t.there, t.code_is, ne_eqb _ _ c.if-c-eq-LEFT_BRACE.false, ne_eqb _ _ c.if-c-eq-RIGHT_BRACE.false, t.next_is, ← c.begins_escape.ensures, c.if-begins_escape.true, text_move, text_case, t.next_is) c.escape_text.ensures
 
 pub take-requires : goal.take-requires
 unfolding text_move text_case char
@@ -46,4 +46,4 @@ take-requires c = let t = step (goal.at.take-requires c).In-Char in let w = with
 
 pub returns : goal.returns
 unfolding text_move text_case char
-returns c = let t = step (goal.at.returns c).In-Char in rw (lt-leb _ _ c.requires.0, lt-leb _ _ t.there, t.code_is, ne_eqb _ _ c.if-c-eq123.false, ne_eqb _ _ c.if-c-eq125.false, t.next_is, ← c.begins_escape.ensures, c.if-begins_escape.false, text_move, text_case, char, t.next_is) c.take.ensures
+returns c = let t = step (goal.at.returns c).In-Char in rw (lt-leb _ _ c.requires.0, lt-leb _ _ t.there, t.code_is, ne_eqb _ _ c.if-c-eq-LEFT_BRACE.false, ne_eqb _ _ c.if-c-eq-RIGHT_BRACE.false, t.next_is, ← c.begins_escape.ensures, c.if-begins_escape.false, text_move, text_case, char, t.next_is) c.take.ensures

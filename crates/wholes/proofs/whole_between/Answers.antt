@@ -1,4 +1,4 @@
-use Rattle.std.proofs.Common.{refl, rules}
+use Rattle.std.proofs.Common.{refl}
 use Rattle.entry.specs.Answers.{described}
 use Rattle.wholes.specs.Wholes.{whole_between}
 use Rattle.wholes.proofs.whole_between.Goals as goal

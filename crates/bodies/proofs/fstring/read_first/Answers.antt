@@ -1,11 +1,7 @@
 use borrow.Author.Rules.{rules}
 use native.Mathlib.Omega.{arith}
 use mathlib.Core.Path.{◌≡◌, refl, sym, ◌∙◌}
-use Prim.Native.Nat.{◌+◌, ◌-◌, ◌≤◌}
 use lib.ListN.{length}
-use Rattle.definition.specs.Chars.{part}
-use Rattle.definition.specs.Body.{first_end}
-use Rattle.buffers.specs.Over.{over}
 use Rattle.marks.proofs.Braces.{first_here, first_on, first_end_lem}
 use Rattle.bodies.proofs.PieceLaws.{piece_more, piece_none}
 use Rattle.bodies.proofs.fstring.read_first.Goals as goal
@@ -27,4 +23,7 @@ loop-i-preserved c =
     (omega (arith, I.0), omega (arith, t), omega (arith, I.2), c.text-1.given ∙ I.3, c.put.ensures ∙ rw I.4 (piece_more a.s.now _ _ a.from.at _ _ I.0 t I.2), I.5 ∙ first_on _ _ t (sym c.is_brace.ensures ∙ c.if-is_brace.false))
 
 pub returns : goal.returns
-returns c = let I = c.loop-i.invariant in (first_end_lem _ _ c.loop-i-test.false ∙ sym I.5, I.2, I.4)
+returns c =
+    let I = c.loop-i.invariant in
+    let e : c.loop-i.i ≡ length c.args.s.now = omega (arith, I.1, c.loop-i-test.false) in
+    (sym e ∙ first_end_lem _ _ c.loop-i-test.false ∙ sym I.5, omega (arith, I.2, e), rw e at I.4)

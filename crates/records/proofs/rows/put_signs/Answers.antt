@@ -1,11 +1,12 @@
-use Rattle.std.proofs.Common.{arith, rules}
+use Rattle.std.proofs.Common.{sym, ◌∙◌, length, arith}
+use borrow.Author.Tests.{eqb-true}
 use Rattle.definition.specs.Rows.{row_numbers}
 use Rattle.records.proofs.Windowing.{none_lent, left_out, shown}
 use Rattle.records.proofs.rows.put_signs.Goals as goal
 
-pub returns-then-rows-eq0 : goal.returns-then-rows-eq0
+pub returns-then-is_empty : goal.returns-then-is_empty
 unfolding row_numbers
-returns-then-rows-eq0 c = none_lent _ _ _ _ (omega arith)
+returns-then-is_empty c = none_lent _ _ _ _ (omega (arith, eqb-true (length c.args.rows.now) 0 (sym c.is_empty.ensures ∙ c.if-is_empty.true)))
 
 pub returns-then-fields-skip : goal.returns-then-fields-skip
 unfolding row_numbers

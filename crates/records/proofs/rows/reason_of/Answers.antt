@@ -14,6 +14,6 @@ pub returns-then-colon-eq0 : goal.returns-then-colon-eq0
 unfolding reason
 returns-then-colon-eq0 c = λ close. rw (c.if-bang-ne0.false, ne_eqb _ _ c.if-equals-eq0.false, eq-eqb _ _ c.if-colon-eq0.true)
 
-pub returns : goal.returns
+pub returns-else-colon-eq0 : goal.returns-else-colon-eq0
 unfolding reason
-returns c = λ close. rw (c.if-bang-ne0.false, ne_eqb _ _ c.if-equals-eq0.false, ne_eqb _ _ c.if-colon-eq0.false)
+returns-else-colon-eq0 c = λ close. rw (c.if-bang-ne0.false, ne_eqb _ _ c.if-equals-eq0.false, ne_eqb _ _ c.if-colon-eq0.false)

@@ -1,4 +1,4 @@
-use Rattle.std.proofs.Common.{◌≡◌, ℕ, zero, suc, ◌+◌, refl, ap, ◌∙◌, rules}
+use Rattle.std.proofs.Common.{◌≡◌, ℕ, zero, suc, ◌+◌, refl, ap, ◌∙◌}
 use Rattle.definition.specs.Rows.{sign_at}
 use Rattle.records.specs.Counts.{word}
 use Rattle.records.proofs.rows.sign_at.Goals as goal
@@ -12,6 +12,6 @@ pub returns-then-taken-eq0 : goal.returns-then-taken-eq0
 unfolding sign_at word
 returns-then-taken-eq0 c = rw c.if-taken-eq0.true
 
-pub returns : goal.returns
+pub returns-else-taken-eq0 : goal.returns-else-taken-eq0
 unfolding sign_at word
-returns c = c.place_in.ensures ∙ ap word (more _ _ c.if-taken-eq0.false)
+returns-else-taken-eq0 c = c.place_in.ensures ∙ ap word (more _ _ c.if-taken-eq0.false)

@@ -1,4 +1,3 @@
-use borrow.Author.Rules.{rules}
 use native.Mathlib.Omega.{arith}
 use Rattle.written.proofs.PutLaws.{puts_none, puts_same, puts_then, conversion_none, conversion_some}
 use Rattle.written.proofs.spell.put_conversion.Goals as goal

@@ -1,4 +1,3 @@
-use borrow.Author.Rules.{rules}
 use native.Mathlib.Omega.{arith}
 use Rattle.written.proofs.PutLaws.{puts_then}
 use Rattle.written.proofs.spell.put_hex.Goals as goal

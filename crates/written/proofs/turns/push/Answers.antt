@@ -1,4 +1,3 @@
-use borrow.Author.Rules.{rules}
 use mathlib.Core.Path.{refl}
 use Rattle.opens.proofs.OpenLaws.{pushed}
 use Rattle.written.proofs.turns.push.Goals as goal
