@@ -1,6 +1,7 @@
 -- Digits read one at a time. Assumes nothing.
 use mathlib.Core.Path.{◌≡◌, refl, sym, ◌∙◌, ap, subst}
 use mathlib.Core.Bool.{true, false}
+use mathlib.Core.Logic.{◌⊎◌, inl, inr}
 use mathlib.Core.List.{List, [], ◌∷◌}
 use Prim.Native.Nat.{ℕ, ◌+◌, ◌-◌, ◌*◌, ◌≤◌, ◌<◌, min}
 use native.Mathlib.Omega.{arith}
@@ -123,6 +124,9 @@ module _ (s : List ℕ) (at : ℕ) where
 
     pub valued_high : i < length s → 57 < get_or s i 0 → Number
     valued_high h l = told_so (read_high s at (told_at value at i) i v.reading h l)
+
+    pub valued_not : i < length s → (get_or s i 0 < 48) ⊎ (57 < get_or s i 0) → Number
+    valued_not h n = elim n [ inl l ↦ valued_low h l | inr l ↦ valued_high h l ]
 
     pub valued_end : length s ≤ i → Number
     valued_end h = told_so (read_end s at (told_at value at i) i v.reading h)

@@ -1,5 +1,5 @@
 -- The form of a text from its parts. Assumes nothing.
-use Rattle.std.specs.Prelude.{if◌then◌else◌}
+use Rattle.std.specs.Prelude.{if◌then◌else◌, Ok, Err}
 use mathlib.Core.Path.{◌≡◌, refl, sym, ◌∙◌, ap}
 use mathlib.Core.Bool.{Bool, true, false, ◌&&◌, not}
 use mathlib.Core.List.{List, [], ◌∷◌}
@@ -18,8 +18,9 @@ use Rattle.definition_replay_laws.proofs.Integers.WrittenLaws.{base_big}
 use Rattle.definition_replay.specs.SpecNumbers.{told_of}
 use Rattle.integers.specs.Written.{formed}
 use Rattle.formats.specs.declared.Parts.{Parts}
-use Rattle.formats.specs.declared.Form.{Form as Answer}
-use Rattle.formats.specs.Parts.{PartsIs, FormIs, fill_of}
+use Rattle.formats.specs.declared.FormError.{FormError}
+use Rattle.formats.specs.declared.FormError.TheVariants.{NotOfGrammar, OutsideSet}
+use Rattle.formats.specs.Parts.{PartsIs, number_of, FormIs}
 use Rattle.formats.proofs.Sets.{told_none}
 
 -- THE SMALL FUNCTIONS
@@ -81,65 +82,57 @@ module _ (s : List ℕ) {p : Parts} (x : PartsIs s p) where
   unfolding spec_of nothing
   spec_some h = let e : nothing (behind_type s) ≡ true = sym (ap nothing x.rest) ∙ ap nothing (drop_of_length-le s h) in rw e
 
-  module _ (r : Answer) (zero-fill : r.fill ≡ 0) where
-    stops : (n : ℕ) → r.number ≡ n → (n ≡ 0 → ⊥) → ((k : ℕ) → stopped n k ≡ form_made k 0 s) → FormIs s r
-    stops n e z m =
-        record {
-          told = λ k. ap (λ y. if eqb y 0 then made (column (formed (fill_of s r) r.shape)) else stopped y k) e ∙ ap (λ b. if b then made (column (formed (fill_of s r) r.shape)) else stopped n k) (ne_eqb n 0 z) ∙ m k;
-          base = λ f. absurd (z (sym e ∙ f));
-          width = λ f. absurd (z (sym e ∙ f));
-          short = omega arith;
-          within = omega arith;
-        }
+  stops : (e : FormError) → ((k : ℕ) → stopped (number_of e) k ≡ form_made k 0 s) → FormIs s (Err e)
+  stops e m = record { told = m; form = tt }
 
-    pub form_none : r.number ≡ 68 → p.end < length s → FormIs s r
-    unfolding form_made
-    form_none e h = stops 68 e (λ z. omega arith) (λ k. rw (spec_none h, form_made))
+  pub form_none : p.end < length s → FormIs s (Err NotOfGrammar)
+  unfolding form_made
+  form_none h = stops NotOfGrammar (λ k. rw (spec_none h, form_made))
 
-    form_out : r.number ≡ 69 → length s ≤ p.end → outside_of (parts_of s) ≡ true → FormIs s r
-    unfolding form_made form_of
-    form_out e h o = stops 69 e (λ z. omega arith) (λ k. rw (spec_some h, form_made, o, form_made))
+  form_out : length s ≤ p.end → outside_of (parts_of s) ≡ true → FormIs s (Err OutsideSet)
+  unfolding form_made form_of
+  form_out h o = stops OutsideSet (λ k. rw (spec_some h, form_made, o, form_made))
 
-    module _ (e : r.number ≡ 69) (h : length s ≤ p.end) where
-      pub form_z : (p.z ≡ 0 → ⊥) → FormIs s r
+  module _ (h : length s ≤ p.end) where
+    pub form_z : (p.z ≡ 0 → ⊥) → FormIs s (Err OutsideSet)
+    unfolding outside_of
+    form_z n = form_out h (rw (ne_eqb (parts_of s).z 0 (λ f. n (x.z ∙ f))))
+
+    module _ (z : p.z ≡ 0) where
+      z_is : eqb (parts_of s).z 0 ≡ true
+      z_is = eq-eqb (parts_of s).z 0 (sym x.z ∙ z)
+
+      pub form_precision : (p.precision ≡ 0 → ⊥) → FormIs s (Err OutsideSet)
       unfolding outside_of
-      form_z n = form_out e h (rw (ne_eqb (parts_of s).z 0 (λ f. n (x.z ∙ f))))
+      form_precision n = form_out h (rw (z_is, told_some (parts_of s).precision x.precision n))
 
-      module _ (z : p.z ≡ 0) where
-        z_is : eqb (parts_of s).z 0 ≡ true
-        z_is = eq-eqb (parts_of s).z 0 (sym x.z ∙ z)
+      module _ (q : p.precision ≡ 0) {base : ℕ} (b : base ≡ base_of p.kind) where
+        none_is : nothing (parts_of s).precision ≡ true
+        unfolding nothing
+        none_is = rw (told_none (parts_of s).precision x.precision q)
 
-        pub form_precision : (p.precision ≡ 0 → ⊥) → FormIs s r
+        base_is : base ≡ base_of (parts_of s).type
+        base_is = b ∙ ap base_of x.kind
+
+        pub form_base : base ≡ 0 → FormIs s (Err OutsideSet)
         unfolding outside_of
-        form_precision n = form_out e h (rw (z_is, told_some (parts_of s).precision x.precision n))
+        form_base f = form_out h (rw (z_is, none_is, eq-eqb (base_of (parts_of s).type) 0 (sym base_is ∙ f)))
 
-        module _ (q : p.precision ≡ 0) {base : ℕ} (b : base ≡ base_of p.kind) where
-          none_is : nothing (parts_of s).precision ≡ true
-          unfolding nothing
-          none_is = rw (told_none (parts_of s).precision x.precision q)
+        module _ (n : base ≡ 0 → ⊥) where
+          based : eqb (base_of (parts_of s).type) 0 ≡ false
+          based = ne_eqb (base_of (parts_of s).type) 0 (λ f. n (base_is ∙ f))
 
-          base_is : base ≡ base_of (parts_of s).type
-          base_is = b ∙ ap base_of x.kind
-
-          pub form_base : base ≡ 0 → FormIs s r
+          pub form_wide : 65 < p.width → FormIs s (Err OutsideSet)
           unfolding outside_of
-          form_base f = form_out e h (rw (z_is, none_is, eq-eqb (base_of (parts_of s).type) 0 (sym base_is ∙ f)))
+          form_wide w = form_out h (rw (z_is, none_is, based, lt-ltb 64 (decimal (parts_of s).width) (told_over (parts_of s).width x.width w)))
 
-          module _ (n : base ≡ 0 → ⊥) where
-            based : eqb (base_of (parts_of s).type) 0 ≡ false
-            based = ne_eqb (base_of (parts_of s).type) 0 (λ f. n (base_is ∙ f))
-
-            pub form_wide : 65 < p.width → FormIs s r
-            unfolding outside_of
-            form_wide w = form_out e h (rw (z_is, none_is, based, lt-ltb 64 (decimal (parts_of s).width) (told_over (parts_of s).width x.width w)))
-
-            pub form_apart : {apart : Bool} → p.width ≤ 65 → apart ≡ (p.grouping is "," && not (eqb base 10)) → apart ≡ true → FormIs s r
-            unfolding outside_of
-            form_apart w a y =
-                let u = told_under (parts_of s).width x.width w in
-                let v = le-ltb 64 (decimal (parts_of s).width) (omega arith) in
-                let g : ((parts_of s).grouping is "," && not (eqb (base_of (parts_of s).type) 10)) ≡ true = sym (λ i. x.grouping i is "," && not (eqb (base_is i) 10)) ∙ sym a ∙ y in
-                form_out e h (rw (z_is, none_is, based, v, g))
+          pub form_apart : {apart : Bool} → p.width ≤ 65 → apart ≡ (p.grouping is "," && not (eqb base 10)) → apart ≡ true → FormIs s (Err OutsideSet)
+          unfolding outside_of
+          form_apart w a y =
+              let u = told_under (parts_of s).width x.width w in
+              let v = le-ltb 64 (decimal (parts_of s).width) (omega arith) in
+              let g : ((parts_of s).grouping is "," && not (eqb (base_of (parts_of s).type) 10)) ≡ true = sym (λ i. x.grouping i is "," && not (eqb (base_is i) 10)) ∙ sym a ∙ y in
+              form_out h (rw (z_is, none_is, based, v, g))
 
   -- within the set
   module _ {base : ℕ} {apart : Bool} (h : length s ≤ p.end) (z : p.z ≡ 0) (q : p.precision ≡ 0) (b : base ≡ base_of p.kind) (n : base ≡ 0 → ⊥) (w : p.width ≤ 65)
@@ -171,20 +164,21 @@ module _ (s : List ℕ) {p : Parts} (x : PartsIs s p) where
       pub form_in_lem : {pad align width : ℕ} → pad ≡ (if eqb p.nought 0 then 32 else 48)
           → align ≡ (if eqb p.align 0 then (if eqb p.nought 0 then 62 else 61) else p.align) → width ≡ p.width - 1
           → FormIs s
-          (record {
-            number = 0;
+          (Ok (record {
             fill = p.fill;
             pad = pad;
             shape = record { align = align; sign = p.sign; alternate = not (eqb p.alternate 0); width = width; grouping = p.grouping; kind = p.kind };
-          })
+          }))
       unfolding form_made form_of form_in
       form_in_lem {pad} {align} {width} d al wi =
           record {
             told = λ k. ap (λ f. made (column f)) same ∙ rw (spec_some h, form_made, inside, form_made);
-            base = λ f. base_big p.kind (ne_eqb (base_of p.kind) 0 (λ g. n (b ∙ g)));
-            width = λ f. omega arith;
-            short = x.short;
-            within = x.within;
+            form = record {
+              base = base_big p.kind (ne_eqb (base_of p.kind) 0 (λ g. n (b ∙ g)));
+              width = omega arith;
+              short = x.short;
+              within = x.within;
+            };
           }
         where
           same : formed (if eqb p.fill 0 then pad ∷ [] else take p.fill s)

@@ -4,10 +4,9 @@ use mathlib.Core.Bool.{Bool, true, false, ◌&&◌}
 use mathlib.Core.List.{List, [], ◌∷◌}
 use mathlib.Core.Option.{Option, none, some}
 use Prim.Native.Nat.{ℕ, ◌+◌, ◌≤◌, ◌<◌}
-use Prim.Native.String.{String}
 use native.Mathlib.Numerals.{add-one}
 use native.Mathlib.Omega.{arith}
-use lib.Dec.{eqb, leb}
+use lib.Dec.{leb}
 use lib.ListN.{length, get_or, drop, drop_of_length-le, get_or-eq_default}
 use lib.Seq.{drop-cons}
 use borrow.Author.Tests.{ne_eqb, eq-eqb, leb-true}
@@ -17,19 +16,15 @@ use Rattle.definition.proofs.Moves.CharLaws.{cases, byte_is}
 use Rattle.definition_replay_laws.proofs.Spec.SpecLaws.{both_true}
 use Rattle.definition_replay_laws.proofs.Spec.SpecSteps.{first_there, first_not, first_end_lem}
 use Rattle.definition_replay.specs.SpecNumbers.{told_of}
+use Rattle.formats.specs.declared.Set.{Set}
 use Rattle.formats.specs.Parts.{set_of, point_told, PartsIs}
 
-pub is_there : (set : String) (b c : ℕ) → (c is set) ≡ true → b ≡ c → true ≡ (b is set)
-is_there set b c t e = sym (ap (λ x. x is set) e ∙ t)
-
-pub in_set : (set n b : ℕ) {r : Bool} → r ≡ (b is set_of n) → set ≡ n → r ≡ (b is set_of set)
-in_set set n b h e = h ∙ ap (λ x. b is set_of x) (sym e)
-
-pub in_last : (set b : ℕ) → (set ≡ 0 → ⊥) → (set ≡ 1 → ⊥) → (set ≡ 2 → ⊥) → (set ≡ 3 → ⊥) → (set ≡ 4 → ⊥) → (set ≡ 5 → ⊥) → eqb b 48 ≡ (b is set_of set)
-in_last set b p q r t u v = rw (ne_eqb set 0 p, ne_eqb set 1 q, ne_eqb set 2 r, ne_eqb set 3 t, ne_eqb set 4 u, ne_eqb set 5 v)
+-- A SET by its name
+pub in_set : (b : ℕ) {set n : Set} {r : Bool} → r ≡ (b is set_of n) → set ≡ n → r ≡ (b is set_of set)
+in_set b h e = h ∙ ap (λ x. b is set_of x) (sym e)
 
 -- ONE CHARACTER
-module _ (s : List ℕ) (at set : ℕ) where
+module _ (s : List ℕ) (at : ℕ) (set : Set) where
   pub one_end : length s ≤ at → at ≤ length s → (0 ≡ first (set_of set) (drop at s)) × (drop at s ≡ past (set_of set) (drop at s)) × (at ≤ length s)
   one_end h k = let e = first_end_lem s at (set_of set) h in (sym e.0, sym e.1, k)
 

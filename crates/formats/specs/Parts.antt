@@ -1,24 +1,34 @@
 -- The parts of a text as the code tells them.
-use Rattle.std.specs.Prelude.{ℕ, ◌≤◌, ◌<◌, ◌≡◌, List, [], ◌∷◌, ◌&&◌, ◌||◌, not, eqb, length, take, drop, if◌then◌else◌}
+use Rattle.std.specs.Prelude.{ℕ, ◌≤◌, ◌<◌, ◌≡◌, List, [], ◌∷◌, ◌&&◌, ◌||◌, not, eqb, length, take, drop, if◌then◌else◌, Result, Ok, Err, IfOk}
 use Prim.Native.String.{String}
 use Rattle.definition.specs.Chars.{◌is◌}
+use Rattle.definition.specs.Numbers.{not_of_grammar, outside_set}
 use Rattle.definition_replay.specs.Spec.{aligns, signs, groupings, types, fill_size, fill_code, pointed, parts_of, behind_type}
 use Rattle.definition_replay.specs.Integers.{Integer, base_of, written}
 use Rattle.definition_replay.specs.Replay.{Made, made, stopped, Part, stands, column, form_made}
 use Rattle.definition_replay.specs.SpecNumbers.{told_of}
 use Rattle.integers.specs.Written.{formed, written_in}
 use Rattle.formats.specs.declared.Form.{Form}
+use Rattle.formats.specs.declared.FormError.{FormError}
+use Rattle.formats.specs.declared.FormError.TheVariants.{NotOfGrammar, OutsideSet}
 use Rattle.formats.specs.declared.Parts.{Parts}
+use Rattle.formats.specs.declared.Set.{Set}
+use Rattle.formats.specs.declared.Set.TheVariants.{Aligns, Signs, Groupings, Types, Z, Hash, Nought}
 
--- the sets by their numbers
-abbrev pub set_of : ℕ → String
-set_of n =
-    if eqb n 0 then aligns else
-    if eqb n 1 then signs else
-    if eqb n 2 then groupings else
-    if eqb n 3 then types else
-    if eqb n 4 then "z" else
-    if eqb n 5 then "#" else "0"
+-- the characters of each set
+abbrev pub set_of : Set → String
+set_of Aligns = aligns
+set_of Signs = signs
+set_of Groupings = groupings
+set_of Types = types
+set_of Z = "z"
+set_of Hash = "#"
+set_of Nought = "0"
+
+-- why a text has no form, as a number
+abbrev pub number_of : FormError → ℕ
+number_of NotOfGrammar = not_of_grammar
+number_of OutsideSet = outside_set
 
 abbrev pub point_told : List ℕ → ℕ
 point_told s = told_of (pointed s)
@@ -45,25 +55,35 @@ pub record PartsIs (s : List ℕ) (r : Parts) : Type 0 where
 abbrev pub fill_of : List ℕ → Form → List ℕ
 fill_of s r = if eqb r.fill 0 then r.pad ∷ [] else take r.fill s
 
--- what a form says of field k
-abbrev pub says : List ℕ → (k : ℕ) → Form → Made Part
-says s k r = if eqb r.number 0 then made (column (formed (fill_of s r) r.shape)) else stopped r.number k
+-- what a form, or why there is none, says of field k
+abbrev pub says : List ℕ → (k : ℕ) → Result Form FormError → Made Part
+says s k (Ok r) = made (column (formed (fill_of s r) r.shape))
+says s k (Err e) = stopped (number_of e) k
 
--- the form that was read of a text
-pub record FormIs (s : List ℕ) (r : Form) : Type 0 where
-  pub told : (k : ℕ) → says s k r ≡ form_made k 0 s
-  pub base : r.number ≡ 0 → 1 < base_of r.shape.kind
-  pub width : r.number ≡ 0 → r.shape.width ≤ 64
+-- a form within the set, its fill in front of the text
+pub record InSet (s : List ℕ) (r : Form) : Type 0 where
+  pub base : 1 < base_of r.shape.kind
+  pub width : r.shape.width ≤ 64
   pub short : r.fill ≤ 4
   pub within : r.fill ≤ length s
+
+-- the form that was read of a text, or why it has none
+pub record FormIs (s : List ℕ) (r : Result Form FormError) : Type 0 where
+  pub told : (k : ℕ) → says s k r ≡ form_made k 0 s
+  pub form : IfOk r (λ f. InSet s f)
 
 -- 1 for a type and a told precision that round
 unfoldable pub rounds_from : (kind precision : ℕ) → ℕ
 rounds_from kind precision = if kind is "eEfFgGn%" || eqb kind 0 && not (eqb precision 0) then 1 else 0
 
+-- an integer written by a form of a text; nothing by one outside the set
+unfoldable pub written_with : (spec : List ℕ) → Form → Integer → List ℕ
+written_with s r v = written_in (fill_of s r) r.shape v
+
 -- an integer written by the form that was read of a text; nothing by one that is refused, or outside the set
-unfoldable pub written_as : (spec : List ℕ) → Form → Integer → List ℕ
-written_as s r v = if eqb r.number 0 then written_in (fill_of s r) r.shape v else []
+abbrev pub written_as : (spec : List ℕ) → Result Form FormError → Integer → List ℕ
+written_as s (Ok r) v = written_with s r v
+written_as s (Err e) v = []
 
 -- an integer written by a text; nothing by one that is refused
 unfoldable pub written_part : Made Part → Integer → List ℕ

@@ -4,20 +4,36 @@
 ghost use Rattle.std.specs.Prelude.{◌≡◌, ◌&&◌, not, ◌+◌, ◌-◌, ◌<◌, ◌≤◌, min, eqb, length, drop, if◌then◌else◌};
 ghost use Rattle.definition.specs.Chars.{◌is◌};
 ghost use Rattle.definition_replay.specs.Spec.{aligns, signs, groupings, types, first, past, past_pointed, fill_size, fill_code};
-ghost use Rattle.formats.specs.Parts.{set_of, PartsIs, point_told, FormIs, rounds_from, written_as};
+ghost use Rattle.formats.specs.Parts.{set_of, number_of, PartsIs, point_told, FormIs, rounds_from, written_with, written_as};
 ghost use Rattle.definition_replay.specs.SpecNumbers.{flag_of, spec_numbers};
 ghost use Rattle.buffers.specs.Over.{over};
 ghost use Rattle.integers.specs.Written.{integer};
 
 use forms::Shape;
+use numbering::Number;
 use utf8::{Cursor, Step};
 
-const NOT_OF_GRAMMAR: u32 = 68;
+// Why a text has no form: it is not of the grammar, or it is outside the set.
+#[derive(Clone, Copy, PartialEq, Eq)]
+pub enum FormError {
+    NotOfGrammar,
+    OutsideSet,
+}
 
-const OUTSIDE_SET: u32 = 69;
+// The number of the refusal.
+impl From<FormError> for u32 {
+    ghost from_gives = { λ e n. n ≡ number_of e };
 
-// The parts of a text: a part of one character by its code, 0 where there is none; the fill by its bytes and its code; width and precision by
-// what is told of their digits. And where the parts end.
+    fn from(e: FormError) -> u32 {
+        match e {
+            FormError::NotOfGrammar => Number::NotOfGrammar as u32,
+            FormError::OutsideSet => Number::OutsideSet as u32,
+        }
+    }
+}
+
+// The parts of a text: a part of one character by its code, 0 where there is none, as the definition has it and `tell` says it; the fill by its
+// bytes and its code; width and precision by what is told of their digits. And where the parts end.
 #[derive(Clone, Copy)]
 pub(crate) struct Parts {
     fill: usize,
@@ -34,7 +50,19 @@ pub(crate) struct Parts {
     end: usize,
 }
 
-// A character that was taken, 0 for none, and where the next one stands.
+// The characters that a part may be.
+#[derive(Clone, Copy, PartialEq, Eq)]
+pub(crate) enum Set {
+    Aligns,
+    Signs,
+    Groupings,
+    Types,
+    Z,
+    Hash,
+    Nought,
+}
+
+// A character that was taken, 0 for none, as the definition has it, and where the next one stands.
 #[derive(Clone, Copy)]
 pub(crate) struct One {
     code: u8,
@@ -52,128 +80,69 @@ pub(crate) struct Fill {
 fn is_align(b: u8) -> bool
     ensures { result ≡ b is aligns }
 {
-    if b == b'<' {
-        return true;
-    }
-    if b == b'>' {
-        return true;
-    }
-    if b == b'=' {
-        return true;
-    }
-    b == b'^'
+    matches!(b, b'<' | b'>' | b'=' | b'^')
 }
 
 // Whether a byte is a sign.
 fn is_sign(b: u8) -> bool
     ensures { result ≡ b is signs }
 {
-    if b == b'+' {
-        return true;
-    }
-    if b == b'-' {
-        return true;
-    }
-    b == b' '
+    matches!(b, b'+' | b'-' | b' ')
 }
 
 // Whether a byte is a grouping.
 fn is_grouping(b: u8) -> bool
     ensures { result ≡ b is groupings }
 {
-    if b == b'_' {
-        return true;
-    }
-    b == b','
+    matches!(b, b'_' | b',')
 }
 
 // Whether a byte is a type.
 fn is_kind(b: u8) -> bool
     ensures { result ≡ b is types }
 {
-    if b == b'b' {
-        return true;
-    }
-    if b == b'c' {
-        return true;
-    }
-    if b == b'd' {
-        return true;
-    }
-    if b == b'e' {
-        return true;
-    }
-    if b == b'E' {
-        return true;
-    }
-    if b == b'f' {
-        return true;
-    }
-    if b == b'F' {
-        return true;
-    }
-    if b == b'g' {
-        return true;
-    }
-    if b == b'G' {
-        return true;
-    }
-    if b == b'n' {
-        return true;
-    }
-    if b == b'o' {
-        return true;
-    }
-    if b == b's' {
-        return true;
-    }
-    if b == b'x' {
-        return true;
-    }
-    if b == b'X' {
-        return true;
-    }
-    b == b'%'
+    matches!(
+        b,
+        b'b' | b'c'
+            | b'd'
+            | b'e'
+            | b'E'
+            | b'f'
+            | b'F'
+            | b'g'
+            | b'G'
+            | b'n'
+            | b'o'
+            | b's'
+            | b'x'
+            | b'X'
+            | b'%'
+    )
 }
 
-// Whether a byte is one of a numbered set: aligns, signs, groupings, types, `z`, `#`, else `0`.
-fn is_in(set: u8, b: u8) -> bool
+// Whether a byte is one of a set.
+fn is_in(set: Set, b: u8) -> bool
     ensures { result ≡ b is (set_of set) }
 {
-    if set == 0 {
-        return is_align(b);
+    match set {
+        Set::Aligns => is_align(b),
+        Set::Signs => is_sign(b),
+        Set::Groupings => is_grouping(b),
+        Set::Types => is_kind(b),
+        Set::Z => b == b'z',
+        Set::Hash => b == b'#',
+        Set::Nought => b == b'0',
     }
-    if set == 1 {
-        return is_sign(b);
-    }
-    if set == 2 {
-        return is_grouping(b);
-    }
-    if set == 3 {
-        return is_kind(b);
-    }
-    if set == 4 {
-        return b == b'z';
-    }
-    if set == 5 {
-        return b == b'#';
-    }
-    b == b'0'
 }
 
-// Takes a character of a numbered set at an index, if there is one.
-fn take_one(s: &[u8], at: usize, set: u8) -> One
+// Takes a character of a set at an index, if there is one.
+fn take_one(s: &[u8], at: usize, set: Set) -> One
     requires { at ≤ length s.now }
     ensures { (result.code ≡ first (set_of set) (drop at s.now)) × (drop result.next s.now ≡ past (set_of set) (drop at s.now)) × (result.next ≤ length s.now) }
 {
-    if s.len() <= at {
-        return One { code: 0, next: at };
-    }
-    let b = s[at];
-    let there = is_in(set, b);
-    if there {
+    if at < s.len() && is_in(set, s[at]) {
         return One {
-            code: b,
+            code: s[at],
             next: at + 1,
         };
     }
@@ -185,17 +154,12 @@ fn read_fill(s: &[u8]) -> Fill
     ensures { (result.size ≡ fill_size s.now) × (result.code ≡ fill_code s.now) × (result.size ≤ length s.now) × (result.size ≤ 4) }
 {
     let start = Cursor { at: 0 };
-    let Step::Char(c, after) = start.next_char(s) else {
+    let Step::Char(code, after) = start.next_char(s) else {
         return Fill { size: 0, code: 0 };
     };
-    let to = after.at;
-    if s.len() <= to {
-        return Fill { size: 0, code: 0 };
-    }
-    let b = s[to];
-    let there = is_align(b);
-    if there {
-        return Fill { size: to, code: c };
+    let size = after.at;
+    if size < s.len() && is_align(s[size]) {
+        return Fill { size, code };
     }
     Fill { size: 0, code: 0 }
 }
@@ -205,15 +169,10 @@ fn read_pointed(s: &[u8], at: usize) -> digits::Number
     requires { at ≤ length s.now }
     ensures { (result.told ≡ point_told (drop at s.now)) × (drop result.next s.now ≡ past_pointed (drop at s.now)) × (result.next ≤ length s.now) }
 {
-    if s.len() <= at {
+    if s.len() <= at || s[at] != b'.' {
         return digits::Number { told: 0, next: at };
     }
-    let b = s[at];
-    if b != b'.' {
-        return digits::Number { told: 0, next: at };
-    }
-    let from = at + 1;
-    let number = digits::read_digits(s, from);
+    let number = digits::read_digits(s, at + 1);
     if number.told == 0 {
         return digits::Number { told: 0, next: at };
     }
@@ -225,15 +184,15 @@ fn read(s: &[u8]) -> Parts
     ensures { PartsIs s.now result }
 {
     let fill = read_fill(s);
-    let align = take_one(s, fill.size, 0);
-    let sign = take_one(s, align.next, 1);
-    let z = take_one(s, sign.next, 4);
-    let alternate = take_one(s, z.next, 5);
-    let nought = take_one(s, alternate.next, 6);
+    let align = take_one(s, fill.size, Set::Aligns);
+    let sign = take_one(s, align.next, Set::Signs);
+    let z = take_one(s, sign.next, Set::Z);
+    let alternate = take_one(s, z.next, Set::Hash);
+    let nought = take_one(s, alternate.next, Set::Nought);
     let width = digits::read_digits(s, nought.next);
-    let grouping = take_one(s, width.next, 2);
+    let grouping = take_one(s, width.next, Set::Groupings);
     let precision = read_pointed(s, grouping.next);
-    let kind = take_one(s, precision.next, 3);
+    let kind = take_one(s, precision.next, Set::Types);
     Parts {
         fill: fill.size,
         code: fill.code,
@@ -250,52 +209,20 @@ fn read(s: &[u8]) -> Parts
     }
 }
 
-// The form of a text: 0, or the number of a refusal; the bytes of the fill in front of the text, else 0 and the fill by itself; and the form but for its fill.
+// The form of a text: the bytes of the fill in front of the text, else 0 and the fill by itself; and the form but for its fill.
+// Two numbers and no enum, since a step holds its form as numbers (`trace_lines::hold_step`).
 #[derive(Clone, Copy)]
 pub struct Form {
-    pub number: u32,
     pub fill: usize,
     pub pad: u8,
     pub shape: Shape,
-}
-
-// A refusal.
-fn refuse(number: u32) -> Form
-    ensures { (result.number ≡ number) × (result.fill ≡ 0) }
-{
-    Form {
-        number: number,
-        fill: 0,
-        pad: 0,
-        shape: Shape {
-            align: 0,
-            sign: 0,
-            alternate: false,
-            width: 0,
-            grouping: 0,
-            kind: 0,
-        },
-    }
 }
 
 // Whether a comma stands in another base than ten.
 fn is_apart(grouping: u8, base: u32) -> bool
     ensures { result ≡ (grouping is "," && not (eqb base 10)) }
 {
-    if grouping != b',' {
-        return false;
-    }
-    base != 10
-}
-
-// A width of what is told of its digits.
-fn width_of(told: u32) -> usize
-    ensures { result ≡ told - 1 }
-{
-    if told == 0 {
-        return 0;
-    }
-    (told - 1) as usize
+    grouping == b',' && base != 10
 }
 
 // A part, or what stands for it by the flag `0`.
@@ -303,110 +230,63 @@ fn part_or(part: u8, nought: u8, with: u8, without: u8) -> u8
     ensures { result ≡ (if eqb part 0 then (if eqb nought 0 then without else with) else part) }
 {
     if part != 0 {
-        return part;
+        part
+    } else if nought == 0 {
+        without
+    } else {
+        with
     }
-    if nought == 0 {
-        return without;
-    }
-    with
 }
 
-// The form of a text: 68 if it is not of the grammar, 69 if it is outside the set.
-pub fn read_form(s: &[u8]) -> Form
+// The form of a text, or why it has none.
+pub fn read_form(s: &[u8]) -> Result<Form, FormError>
     ensures { FormIs s.now result }
 {
     let p = read(s);
     if p.end < s.len() {
-        return refuse(NOT_OF_GRAMMAR);
+        return Err(FormError::NotOfGrammar);
     }
-    if p.z != 0 {
-        return refuse(OUTSIDE_SET);
-    }
-    if p.precision != 0 {
-        return refuse(OUTSIDE_SET);
+    if p.z != 0 || p.precision != 0 {
+        return Err(FormError::OutsideSet);
     }
     let base = forms::base_of(p.kind);
-    if base == 0 {
-        return refuse(OUTSIDE_SET);
+    if base == 0 || 65 < p.width || is_apart(p.grouping, base) {
+        return Err(FormError::OutsideSet);
     }
-    if 65 < p.width {
-        return refuse(OUTSIDE_SET);
-    }
-    let apart = is_apart(p.grouping, base);
-    if apart {
-        return refuse(OUTSIDE_SET);
-    }
-    let pad = part_or(0, p.nought, b'0', b' ');
-    let align = part_or(p.align, p.nought, b'=', b'>');
-    let width = width_of(p.width);
-    Form {
-        number: 0,
+    Ok(Form {
         fill: p.fill,
-        pad: pad,
+        pad: part_or(0, p.nought, b'0', b' '),
         shape: Shape {
-            align: align,
+            align: part_or(p.align, p.nought, b'=', b'>'),
             sign: p.sign,
             alternate: p.alternate != 0,
-            width: width,
+            width: p.width.saturating_sub(1) as usize,
             grouping: p.grouping,
             kind: p.kind,
         },
-    }
+    })
 }
 
 // Whether a type is one of a float.
 fn is_float(b: u8) -> bool
     ensures { result ≡ b is "eEfFgGn%" }
 {
-    if b == b'e' {
-        return true;
-    }
-    if b == b'E' {
-        return true;
-    }
-    if b == b'f' {
-        return true;
-    }
-    if b == b'F' {
-        return true;
-    }
-    if b == b'g' {
-        return true;
-    }
-    if b == b'G' {
-        return true;
-    }
-    if b == b'n' {
-        return true;
-    }
-    b == b'%'
+    matches!(b, b'e' | b'E' | b'f' | b'F' | b'g' | b'G' | b'n' | b'%')
 }
 
 // 1 for a part that is there.
 fn flag(c: u8) -> u32
     ensures { result ≡ flag_of c }
 {
-    if c == 0 {
-        return 0;
-    }
-    1
+    u32::from(c != 0)
 }
 
 // 1 for a type and a precision that round.
+#[tactic(auto, unfolding(crate::specs::Parts::rounds_from))]
 fn rounding(kind: u8, precision: u32) -> u32
     ensures { result ≡ rounds_from kind precision }
 {
-    let float = is_float(kind);
-    if float {
-        return 1;
-    }
-    if kind != 0 {
-        return 0;
-    }
-    if precision == 0 {
-        return 0;
-    }
-    1
+    u32::from(is_float(kind) || kind == 0 && precision != 0)
 }
 
 // Tells a text's parts in twelve numbers.
@@ -414,51 +294,49 @@ pub fn tell(s: &[u8]) -> [u32; 12]
     ensures { result ≡ spec_numbers s.now }
 {
     let p = read(s);
-    let kind = p.kind as u32;
-    let align = p.align as u32;
-    let sign = p.sign as u32;
-    let grouping = p.grouping as u32;
     if p.end < s.len() {
-        return [NOT_OF_GRAMMAR, 0, 0, 0, 0, 0, 0, 0, 0, 0, 0, 0];
+        let number = u32::from(FormError::NotOfGrammar);
+        return [number, 0, 0, 0, 0, 0, 0, 0, 0, 0, 0, 0];
     }
-    let z = flag(p.z);
-    let alternate = flag(p.alternate);
-    let nought = flag(p.nought);
-    let rounds = rounding(p.kind, p.precision);
     [
         0,
         p.code,
-        align,
-        sign,
-        z,
-        alternate,
-        nought,
+        u32::from(p.align),
+        u32::from(p.sign),
+        flag(p.z),
+        flag(p.alternate),
+        flag(p.nought),
         p.width,
-        grouping,
+        u32::from(p.grouping),
         p.precision,
-        kind,
-        rounds,
+        u32::from(p.kind),
+        rounding(p.kind, p.precision),
     ]
 }
 
-// The lesser of two numbers.
-fn least(a: usize, b: usize) -> usize
-    ensures { result ≡ min a b }
+// Writes an integer by a form of a text from the front on; says how many bytes it has, at most 325.
+fn write_with(out: &mut [u8], s: &[u8], form: Form, negative: bool, size: u32) -> usize
+    ensures { (result ≡ length (written_with s.now form (integer negative size))) × (out.new ≡ over out.old 0 (written_with s.now form (integer negative size))) × (result ≤ 325) }
 {
-    if a <= b { a } else { b }
-}
-
-// Writes an integer by the form that was read of a text from the front on, nothing by one that is refused; says how many bytes it has, at most 325.
-pub fn write_by(out: &mut [u8], s: &[u8], form: Form, negative: bool, size: u32) -> usize
-    ensures { (result ≡ length (written_as s.now form (integer negative size))) × (out.new ≡ over out.old 0 (written_as s.now form (integer negative size))) × (result ≤ 325) }
-{
-    if form.number != 0 {
-        return 0;
-    }
     if form.fill == 0 {
         return integers::write_one(out, form.pad, form.shape, negative, size);
     }
-    let fill = least(form.fill, s.len());
-    let shape = forms::anew(form.shape);
-    integers::write(out, &s[0..fill], shape, negative, size)
+    let fill = form.fill.min(s.len());
+    integers::write(out, &s[..fill], forms::anew(form.shape), negative, size)
+}
+
+// Writes an integer by the form that was read of a text from the front on, nothing by one that is refused; says how many bytes it has, at most 325.
+pub fn write_by(
+    out: &mut [u8],
+    s: &[u8],
+    form: Result<Form, FormError>,
+    negative: bool,
+    size: u32,
+) -> usize
+    ensures { (result ≡ length (written_as s.now form (integer negative size))) × (out.new ≡ over out.old 0 (written_as s.now form (integer negative size))) × (result ≤ 325) }
+{
+    match form {
+        Ok(form) => write_with(out, s, form, negative, size),
+        Err(_) => 0,
+    }
 }

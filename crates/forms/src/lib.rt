@@ -1,6 +1,6 @@
+// The form of an integer but for its fill, and the base of its type.
 #![tactic(auto)]
 
-// The form of an integer but for its fill, and the base of its type.
 ghost use Rattle.std.specs.Prelude.{◌≡◌};
 ghost use Rattle.definition_replay.specs.Integers.{base_of};
 
@@ -15,41 +15,22 @@ pub struct Shape {
     pub kind: u8,
 }
 
-// A form once more. One that is handed on is made only there.
+// A form once more. One that is handed on is made only there: otherwise it is copied to memory for each number.
 pub fn anew(shape: Shape) -> Shape
     ensures { result ≡ shape }
 {
-    Shape {
-        align: shape.align,
-        sign: shape.sign,
-        alternate: shape.alternate,
-        width: shape.width,
-        grouping: shape.grouping,
-        kind: shape.kind,
-    }
+    Shape { ..shape }
 }
 
-// The base of a type; 0 if it is none of an integer.
+// The base of a type; 0 if it is none of an integer, as the definition's `base_of` promises it.
 pub fn base_of(kind: u8) -> u32
     ensures { result ≡ base_of kind }
 {
-    if kind == 0 {
-        return 10;
+    match kind {
+        0 | b'd' => 10,
+        b'b' => 2,
+        b'o' => 8,
+        b'x' | b'X' => 16,
+        _ => 0,
     }
-    if kind == b'd' {
-        return 10;
-    }
-    if kind == b'b' {
-        return 2;
-    }
-    if kind == b'o' {
-        return 8;
-    }
-    if kind == b'x' {
-        return 16;
-    }
-    if kind == b'X' {
-        return 16;
-    }
-    0
 }

@@ -6,7 +6,7 @@ use Prim.Native.Nat.{ℕ, zero, suc, ◌+◌, ◌-◌, ◌*◌, ◌/◌, ◌≤�
 use native.Mathlib.Omega.{arith}
 use lib.Dec.{eqb, leb}
 use lib.ListN.{length, get_or, take, drop, length-append, length-reverse}
-use borrow.Author.Tests.{ne_eqb, eq-eqb, leb-true, leb-false}
+use borrow.Author.Tests.{ne_eqb, eq-eqb, eqb-true, eqb-false, leb-true, leb-false}
 use Rattle.definition.specs.Chars.{same, ◌is◌}
 use Rattle.definition_replay.specs.Integers.{Form, digits, base_of, group_size, figures, zeroed, sign_of, prefix_of, head_of, zero_pads, least_of, numeral_of, copies, pad_of, left_of, inner_of, written}
 use Rattle.definition.proofs.Moves.CharLaws.{cases}
@@ -44,7 +44,7 @@ module _ (out : List ℕ) (at : ℕ) {t : List ℕ} where
   piece_one e w = let l = ap length e in (omega arith, w ∙ ap (over out at) e)
 
   pub piece_two : {x y : ℕ} {mid now : List ℕ} → x ∷ y ∷ [] ≡ t → mid ≡ over out at (x ∷ []) → now ≡ over mid (at + 1) (y ∷ [])
-      → (at + 1 + 1 ≡ at + length t) × (now ≡ over out at t)
+      → (at + 2 ≡ at + length t) × (now ≡ over out at t)
   piece_two {x} {y} e w v =
       let l = ap length e in
       (omega arith, v ∙ ap (λ b. over b (at + 1) (y ∷ [])) w ∙ over_append out at (x ∷ []) (y ∷ []) ∙ ap (over out at) e)
@@ -164,6 +164,9 @@ module _ (align pad : ℕ) where
   pub left_inner : (align ≡ 60 → ⊥) → align ≡ 61 → 0 ≡ left_of align pad
   unfolding left_of
   left_inner n e = rw (ne_eqb align 60 n, eq-eqb align 61 e)
+
+  pub left_low : 60 ≤ align → align ≤ 61 → 0 ≡ left_of align pad
+  left_low h k = cases (eqb align 60) (λ e. left_less (eqb-true align 60 e)) (λ e. let n = eqb-false align 60 e in left_inner n (omega arith))
 
   pub left_all : (align ≡ 60 → ⊥) → (align ≡ 61 → ⊥) → align ≡ 62 → pad ≡ left_of align pad
   unfolding left_of

@@ -108,7 +108,7 @@ pub put_one : (grouping come fig : ℕ) (out : List ℕ) (at : ℕ) {now : List 
 put_one grouping come fig out at e f = let l = ap length e in (omega arith, f ∙ ap (over out at) e)
 
 pub put_two : (grouping come fig : ℕ) (out : List ℕ) (at : ℕ) {mid now : List ℕ} → grouping ∷ fig ∷ [] ≡ one_more grouping come fig → mid ≡ over out at (grouping ∷ []) → now ≡ over mid (at + 1) (fig ∷ [])
-    → (at + 1 + 1 ≡ at + length (one_more grouping come fig)) × (now ≡ over out at (one_more grouping come fig))
+    → (at + 2 ≡ at + length (one_more grouping come fig)) × (now ≡ over out at (one_more grouping come fig))
 put_two grouping come fig out at e f g =
     let l = ap length e in
     (omega arith, g ∙ ap (λ b. over b (at + 1) (fig ∷ [])) f ∙ over_append out at (grouping ∷ []) (fig ∷ []) ∙ ap (over out at) e)

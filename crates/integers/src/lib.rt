@@ -22,12 +22,12 @@ fn figure_of(kind: u8, d: u8) -> u8
     ensures { result ≡ figure kind d }
 {
     if d < 10 {
-        return 48 + d;
+        b'0' + d
+    } else if kind == b'X' {
+        b'A' - 10 + d
+    } else {
+        b'a' - 10 + d
     }
-    if kind == b'X' {
-        return 55 + d;
-    }
-    87 + d
 }
 
 // Writes a figure, behind a separator if none is to come before it; says where the next one goes.
@@ -35,15 +35,10 @@ fn put_figure(out: &mut [u8], at: usize, grouping: u8, come: usize, fig: u8) -> 
     requires { at < 0x1000000000000 }
     ensures { (result ≡ at + length (one_more grouping come fig)) × (out.new ≡ over out.old at (one_more grouping come fig)) }
 {
-    if grouping == 0 {
-        buffers::put(out, at, fig);
-        return at + 1;
-    }
-    if come == 0 {
+    if grouping != 0 && come == 0 {
         buffers::put(out, at, grouping);
-        let next = at + 1;
-        buffers::put(out, next, fig);
-        return next + 1;
+        buffers::put(out, at + 1, fig);
+        return at + 2;
     }
     buffers::put(out, at, fig);
     at + 1
@@ -54,10 +49,7 @@ fn come_after(size: usize, come: usize) -> usize
     requires { 1 ≤ size }
     ensures { result ≡ come_after size come }
 {
-    if come == 0 {
-        return size - 1;
-    }
-    come - 1
+    if come == 0 { size - 1 } else { come - 1 }
 }
 
 // A number's last digit in a base, and the number before it.
@@ -72,21 +64,19 @@ fn last_digit(n: u32, base: u32) -> Split
     requires { (1 < base) × (base ≤ 16) }
     ensures { (result.rest ≡ n / base) × (result.digit ≡ n % base) }
 {
-    if base == 10 {
-        return Split {
+    match base {
+        10 => Split {
             rest: n / 10,
             digit: (n % 10) as u8,
-        };
-    }
-    if base == 16 {
-        return Split {
+        },
+        16 => Split {
             rest: n / 16,
             digit: (n % 16) as u8,
-        };
-    }
-    Split {
-        rest: n / base,
-        digit: (n % base) as u8,
+        },
+        _ => Split {
+            rest: n / base,
+            digit: (n % base) as u8,
+        },
     }
 }
 
@@ -98,6 +88,7 @@ fn figures(out: &mut [u8], number: u32, base: u32, kind: u8, grouping: u8, size:
     let mut n = number;
     let mut at: usize = 0;
     let mut come = size;
+    // A step is a division.
     while base <= n {
         let parts = last_digit(n, base);
         let fig = figure_of(kind, parts.digit);
@@ -105,32 +96,30 @@ fn figures(out: &mut [u8], number: u32, base: u32, kind: u8, grouping: u8, size:
         come = come_after(size, come);
         n = parts.rest;
     }
-    let last = n as u8;
-    let fig = figure_of(kind, last);
-    let bytes = put_figure(out, at, grouping, come, fig);
-    let next = come_after(size, come);
+    let fig = figure_of(kind, n as u8);
     Run {
-        bytes: bytes,
-        come: next,
+        bytes: put_figure(out, at, grouping, come, fig),
+        come: come_after(size, come),
     }
 }
 
 // Writes the figures of a number in a base without separators, the units first, from the front on; says how many they are.
+// Apart from `figures`, which would do, since that one was slower.
 fn plain_figures(out: &mut [u8], number: u32, base: u32, kind: u8) -> usize
     requires { (1 < base) × (base ≤ 16) }
     ensures { (result ≡ length (rest_of 0 1 1 kind (digits base number))) × (result ≤ 0x200000000) × (out.new ≡ over out.old 0 (rest_of 0 1 1 kind (digits base number))) }
 {
     let mut n = number;
     let mut at: usize = 0;
+    // A step is a division.
     while base <= n {
         let parts = last_digit(n, base);
         let fig = figure_of(kind, parts.digit);
         buffers::put(out, at, fig);
         n = parts.rest;
-        at = at + 1;
+        at += 1;
     }
-    let last = n as u8;
-    let fig = figure_of(kind, last);
+    let fig = figure_of(kind, n as u8);
     buffers::put(out, at, fig);
     at + 1
 }
@@ -142,6 +131,7 @@ fn zeros(out: &mut [u8], at: usize, come: usize, grouping: u8, size: usize, leas
 {
     let mut to = at;
     let mut c = come;
+    // A step is a zero, with a separator or without.
     while to < least {
         to = put_figure(out, to, grouping, c, b'0');
         c = come_after(size, c);
@@ -153,10 +143,7 @@ fn zeros(out: &mut [u8], at: usize, come: usize, grouping: u8, size: usize, leas
 fn group_size(base: u32) -> usize
     ensures { (result ≡ group_of base) × (1 ≤ result) }
 {
-    if base == 10 {
-        return 3;
-    }
-    4
+    if base == 10 { 3 } else { 4 }
 }
 
 // Writes the figures of a number, the units first, with zeros until that many bytes stand there; says how many do.
@@ -170,25 +157,19 @@ fn numeral(out: &mut [u8], number: u32, kind: u8, grouping: u8, least: usize) ->
         let plain = plain_figures(out, number, base, kind);
         return zeros(out, plain, size, grouping, size, least);
     }
-    let run = figures(out, number, base, kind, grouping, size);
-    let bytes = run.bytes;
-    let come = run.come;
+    let Run { bytes, come } = figures(out, number, base, kind, grouping, size);
     zeros(out, bytes, come, grouping, size, least)
 }
 
-// Writes so many copies of a byte from the used length on; says where they end.
+// Writes so many copies of a byte from the used length on; says where they end. Apart from `add_runs`, which was slower for one byte.
 fn add_bytes(out: &mut [u8], used: usize, count: usize, byte: u8) -> usize
     requires { used + length (copies count (byte ∷ [])) ≤ 0x4000000000000000 }
     ensures { (result ≡ used + length (copies count (byte ∷ []))) × (out.new ≡ over out.old used (copies count (byte ∷ []))) }
 {
-    let mut at = used;
-    let mut left = count;
-    while 0 < left {
-        buffers::put(out, at, byte);
-        at = at + 1;
-        left = left - 1;
+    for i in 0..count {
+        buffers::put(out, used + i, byte);
     }
-    at
+    used + count
 }
 
 // Writes so many copies of some bytes from the used length on; says where they end.
@@ -197,11 +178,9 @@ fn add_runs(out: &mut [u8], used: usize, count: usize, fill: &[u8]) -> usize
     ensures { (result ≡ used + length (copies count fill.now)) × (out.new ≡ over out.old used (copies count fill.now)) }
 {
     let mut at = used;
-    let mut left = count;
-    while 0 < left {
+    for _ in 0..count {
         buffers::add_run(out, at, fill);
-        at = at + fill.len();
-        left = left - 1;
+        at += fill.len();
     }
     at
 }
@@ -211,11 +190,10 @@ fn add_copies(out: &mut [u8], used: usize, count: usize, fill: &[u8]) -> usize
     requires { used + length (copies count fill.now) ≤ 0x4000000000000000 }
     ensures { (result ≡ used + length (copies count fill.now)) × (out.new ≡ over out.old used (copies count fill.now)) }
 {
-    if fill.len() == 1 {
-        let byte = fill[0];
-        return add_bytes(out, used, count, byte);
+    match fill {
+        [byte] => add_bytes(out, used, count, *byte),
+        _ => add_runs(out, used, count, fill),
     }
-    add_runs(out, used, count, fill)
 }
 
 // Writes the first bytes of some from the used length on, the last one first; says where they end.
@@ -223,15 +201,10 @@ fn add_reversed(out: &mut [u8], used: usize, units: &[u8], count: usize) -> usiz
     requires { (count ≤ length units.now) × (used + count ≤ 0x4000000000000000) }
     ensures { (result ≡ used + count) × (out.new ≡ over out.old used (reverse (take count units.now))) }
 {
-    let mut at = used;
-    let mut left = count;
-    while 0 < left {
-        left = left - 1;
-        let byte = units[left];
-        buffers::put(out, at, byte);
-        at = at + 1;
+    for i in 0..count {
+        buffers::put(out, used + i, units[count - 1 - i]);
     }
-    at
+    used + count
 }
 
 // Writes the sign of an integer; says where it ends.
@@ -243,15 +216,13 @@ fn put_sign(out: &mut [u8], at: usize, sign: u8, negative: bool) -> usize
         buffers::put(out, at, b'-');
         return at + 1;
     }
-    if sign == b'+' {
-        buffers::put(out, at, sign);
-        return at + 1;
+    match sign {
+        b'+' | b' ' => {
+            buffers::put(out, at, sign);
+            at + 1
+        }
+        _ => at,
     }
-    if sign == b' ' {
-        buffers::put(out, at, sign);
-        return at + 1;
-    }
-    at
 }
 
 // Writes the prefix of a base, if it is asked for; says where it ends.
@@ -259,17 +230,12 @@ fn put_prefix(out: &mut [u8], at: usize, alternate: bool, kind: u8) -> usize
     requires { at ≤ 0x1000000000010 }
     ensures { (result ≡ at + length (prefix_from alternate kind)) × (out.new ≡ over out.old at (prefix_from alternate kind)) }
 {
-    if !alternate {
-        return at;
-    }
-    let base = base_of(kind);
-    if base == 10 {
+    if !alternate || base_of(kind) == 10 {
         return at;
     }
     buffers::put(out, at, b'0');
-    let next = at + 1;
-    buffers::put(out, next, kind);
-    next + 1
+    buffers::put(out, at + 1, kind);
+    at + 2
 }
 
 // Writes sign and prefix; says where they end.
@@ -285,60 +251,36 @@ fn put_head(out: &mut [u8], at: usize, sign: u8, alternate: bool, kind: u8, nega
 fn zero_pads(fill: &[u8], align: u8) -> bool
     ensures { result ≡ pads_from fill.now align }
 {
-    if align != b'=' {
-        return false;
-    }
-    if fill.len() != 1 {
-        return false;
-    }
-    fill[0] == b'0'
+    align == b'=' && fill.len() == 1 && fill[0] == b'0'
 }
 
 // How many fills come first.
 fn left_of(align: u8, pad: usize) -> usize
     ensures { result ≡ left_of align pad }
 {
-    if align == b'<' {
-        return 0;
+    match align {
+        b'<' | b'=' => 0,
+        b'>' => pad,
+        _ => pad / 2,
     }
-    if align == b'=' {
-        return 0;
-    }
-    if align == b'>' {
-        return pad;
-    }
-    pad / 2
 }
 
 // How many fills come behind the head.
 fn inner_of(align: u8, pad: usize) -> usize
     ensures { result ≡ inner_of align pad }
 {
-    if align == b'=' {
-        return pad;
-    }
-    0
+    if align == b'=' { pad } else { 0 }
 }
 
 // The bytes that a width leaves to figures behind a head, if zeros belong to the number.
 fn least_of(fill: &[u8], align: u8, width: usize, head: usize) -> usize
     ensures { result ≡ least_from fill.now align width head }
 {
-    let pads = zero_pads(fill, align);
-    if !pads {
-        return 0;
+    if zero_pads(fill, align) {
+        width.saturating_sub(head)
+    } else {
+        0
     }
-    rest_of(width, head)
-}
-
-// A difference; 0 where the second is the greater.
-fn rest_of(a: usize, b: usize) -> usize
-    ensures { result ≡ a - b }
-{
-    if b <= a {
-        return a - b;
-    }
-    0
 }
 
 // Writes an integer by a form within the set from an index on; says where it ends.
@@ -353,18 +295,20 @@ fn write_at(
     requires { (1 < base_of shape.kind) × (shape.width ≤ 64) × (length fill.now ≤ 4) × (at ≤ 0x100000000000) }
     ensures { (result ≡ at + length (written (formed fill.now shape) (integer negative size))) × (out.new ≡ over out.old at (written (formed fill.now shape) (integer negative size))) }
 {
-    let align = shape.align;
-    let sign = shape.sign;
-    let alternate = shape.alternate;
-    let width = shape.width;
-    let grouping = shape.grouping;
-    let kind = shape.kind;
+    let Shape {
+        align,
+        sign,
+        alternate,
+        width,
+        grouping,
+        kind,
+    } = shape;
     let mut space = [0u8; 4];
     let head = put_head(&mut space, 0, sign, alternate, kind, negative);
     let least = least_of(fill, align, width, head);
     let mut units = [0u8; 80];
     let count = numeral(&mut units, size, kind, grouping, least);
-    let pad = rest_of(width, head + count);
+    let pad = width.saturating_sub(head + count);
     let left = left_of(align, pad);
     let inner = inner_of(align, pad);
     let one = add_copies(out, at, left, fill);
@@ -378,22 +322,14 @@ fn write_at(
 fn is_fitting(fill: usize, shape: Shape) -> bool
     ensures { result ≡ fitting fill shape }
 {
-    let base = base_of(shape.kind);
-    if base == 0 {
-        return false;
-    }
-    if 64 < shape.width {
-        return false;
-    }
-    fill <= 4
+    base_of(shape.kind) != 0 && shape.width <= 64 && fill <= 4
 }
 
 // Writes an integer by a form from the front on, nothing by one outside the set; says how many bytes it has.
 pub fn write(out: &mut [u8], fill: &[u8], shape: Shape, negative: bool, size: u32) -> usize
     ensures { (result ≡ length (written_in fill.now shape (integer negative size))) × (out.new ≡ over out.old 0 (written_in fill.now shape (integer negative size))) }
 {
-    let fits = is_fitting(fill.len(), shape);
-    if !fits {
+    if !is_fitting(fill.len(), shape) {
         return 0;
     }
     write_at(out, 0, fill, shape, negative, size)
@@ -409,10 +345,10 @@ fn count_figures(number: u32, base: u32) -> usize
     }
     let mut n = number;
     let mut count: usize = 1;
+    // A step is a division.
     while base <= n {
-        let parts = last_digit(n, base);
-        n = parts.rest;
-        count = count + 1;
+        n = last_digit(n, base).rest;
+        count += 1;
     }
     count
 }
@@ -425,16 +361,15 @@ fn put_figures(out: &mut [u8], from: usize, count: usize, number: u32, base: u32
     let to = from + count;
     let mut n = number;
     let mut at = to;
+    // A step is a division.
     while base <= n {
         let parts = last_digit(n, base);
         let fig = figure_of(kind, parts.digit);
-        at = at - 1;
+        at -= 1;
         out[at] = fig;
         n = parts.rest;
     }
-    let last = n as u8;
-    let fig = figure_of(kind, last);
-    out[from] = fig;
+    out[from] = figure_of(kind, n as u8);
     to
 }
 
@@ -442,36 +377,32 @@ fn put_figures(out: &mut [u8], from: usize, count: usize, number: u32, base: u32
 fn is_plain(shape: Shape, room: usize) -> bool
     ensures { result ≡ true → (shape.grouping ≡ 0) × (1 < base_of shape.kind) × (shape.width ≤ 64) × (128 ≤ room) }
 {
-    if room < 128 {
-        return false;
-    }
-    if shape.grouping != 0 {
-        return false;
-    }
-    if shape.sign != 0 {
-        return false;
-    }
-    if 64 < shape.width {
-        return false;
-    }
-    let base = base_of(shape.kind);
-    base != 0
+    128 <= room
+        && shape.grouping == 0
+        && shape.sign == 0
+        && shape.width <= 64
+        && base_of(shape.kind) != 0
 }
 
 // Writes an integer by a form within the set, without groups and with a fill of one byte, from the front on, where there is room for any; says how many bytes it has.
+// Apart from `write_at`, which was slower: no numeral is held, and its figures are counted first.
 fn write_plain(out: &mut [u8], byte: u8, shape: Shape, negative: bool, size: u32) -> usize
     requires { (shape.grouping ≡ 0) × (1 < base_of shape.kind) × (shape.width ≤ 64) × (128 ≤ length out.old) }
     ensures { (result ≡ length (written (formed (byte ∷ []) shape) (integer negative size))) × (out.new ≡ over out.old 0 (written (formed (byte ∷ []) shape) (integer negative size))) }
 {
-    let align = shape.align;
-    let sign = shape.sign;
-    let alternate = shape.alternate;
-    let kind = shape.kind;
+    let Shape {
+        align,
+        sign,
+        alternate,
+        width,
+        kind,
+        ..
+    } = shape;
     let mut space = [0u8; 4];
     let head = put_head(&mut space, 0, sign, alternate, kind, negative);
     let base = base_of(kind);
     let count = count_figures(size, base);
-    let pad = rest_of(shape.width, head + count);
+    let pad = width.saturating_sub(head + count);
     let left = left_of(align, pad);
     let inner = inner_of(align, pad);
     let one = add_bytes(out, 0, left, byte);
@@ -485,11 +416,8 @@ fn write_plain(out: &mut [u8], byte: u8, shape: Shape, negative: bool, size: u32
 pub fn write_one(out: &mut [u8], byte: u8, shape: Shape, negative: bool, size: u32) -> usize
     ensures { (result ≡ length (written_in (byte ∷ []) shape (integer negative size))) × (out.new ≡ over out.old 0 (written_in (byte ∷ []) shape (integer negative size))) }
 {
-    let plain = is_plain(shape, out.len());
-    if plain {
+    if is_plain(shape, out.len()) {
         return write_plain(out, byte, shape, negative, size);
     }
-    let fill = [byte];
-    let form = anew(shape);
-    write(out, &fill, form, negative, size)
+    write(out, &[byte], anew(shape), negative, size)
 }

@@ -22,11 +22,14 @@ use Rattle.answers.specs.declared.Outcome.TheVariants.{Accepted, Refused}
 use Rattle.strings.specs.Strings.{CallIs}
 use Rattle.templates.specs.Walk.{records_in, laid_from, parts_laid}
 use Rattle.templates.proofs.Walking.{laid_records}
-use Rattle.trace_lines.specs.declared.Told.{Told}
+use Rattle.std.specs.Prelude.{Result, Ok, Err}
+use Rattle.trace_lines.specs.declared.Written.{Written}
+use Rattle.trace_lines.specs.declared.Stopped.{Stopped}
 use Rattle.trace_lines.specs.Lines.{lines_in, ToldIs}
-use Rattle.answers.specs.declared.Replay.{Replay}
-use Rattle.answers.specs.declared.Replay.TheVariants as variants
-use Rattle.answers.specs.Twelve.{read_numbers, replay_says as says}
+use Rattle.answers.specs.declared.Lines.{Lines}
+use Rattle.answers.specs.declared.Unreplayed.{Unreplayed}
+use Rattle.answers.specs.declared.Unreplayed.TheVariants as variants
+use Rattle.answers.specs.Twelve.{read_numbers}
 use Rattle.replay.specs.Answers.{ReplayIs, Holds, replay_of}
 
 -- A READING that lies in words and text
@@ -51,8 +54,7 @@ answer_is a room (stopped n k) = refl
 answer_is a room (made ls) = cases (ltb (min room 0xFFFFFFFF) (length (concat ls))) (λ e. rw e) (λ e. rw e)
 
 -- THE TWO WAYS that a call over a reading ends
-module _ (x : Read) (trace words text output : List ℕ) (l : x.records * 8 ≤ length words) (output' : List ℕ) (told : Told)
-    (t : ToldIs (lines_of (parts_laid words x.records (take x.text text)) trace) output output' told)
+module _ (x : Read) (trace words text output : List ℕ) (l : x.records * 8 ≤ length words) (output' : List ℕ)
   where
     module _ (a : Answer) (h : Holds a x words text) where
       answers : replayed (accepts a) trace (length output) ≡ answer_of a (lines_in (length output) (lines_of (parts_laid words x.records (take x.text text)) trace))
@@ -61,19 +63,17 @@ module _ (x : Read) (trace words text output : List ℕ) (l : x.records * 8 ≤ 
           answer_is a (length output) (lines_of (template_of a) trace)
           ∙ ap (λ p. answer_of a (lines_in (length output) (lines_of p trace))) (sym (same_parts x words text l a h))
 
-    pub at_refused : (told.number ≡ 0 → ⊥) → {words' text' : List ℕ} → (words' ≡ zeros words) × (text' ≡ zeros text) → (a : Answer) → Holds a x words text
-        → ReplayIs (replay_of a trace words text output) words' text' output' (variants.Stopped (record { number = told.number; told = told.told }))
+    pub at_refused : (stop : Stopped) → ToldIs (lines_of (parts_laid words x.records (take x.text text)) trace) output output' (Err stop) → {words' text' : List ℕ} → (words' ≡ zeros words) × (text' ≡ zeros text) → (a : Answer) → Holds a x words text
+        → ReplayIs (replay_of a trace words text output) words' text' output' (Err (variants.Stopped (record { number = stop.number; told = stop.told })))
     unfolding replay_call kept_after lines_after replay_numbers_of answer_of
-    at_refused z c a h =
-        let q = t.refused z in
+    at_refused stop q c a h =
         let e = answers a h ∙ ap (answer_of a) q.are in
         record { answer = rw e; words = rw e c.0; text = rw e c.1; output = rw e q.output }
 
-    pub at_end_lem : told.number ≡ 0 → (a : Answer) → Holds a x words text
-        → ReplayIs (replay_of a trace words text output) words text output' (variants.Replayed (record { reading = x; rows = told.rows; bytes = told.bytes }))
+    pub at_end_lem : (told : Written) → ToldIs (lines_of (parts_laid words x.records (take x.text text)) trace) output output' (Ok told) → (a : Answer) → Holds a x words text
+        → ReplayIs (replay_of a trace words text output) words text output' (Ok (record { reading = x; rows = told.rows; bytes = told.bytes }))
     unfolding replay_call kept_after lines_after replay_numbers_of answer_of
-    at_end_lem z a h =
-        let q = t.fine z in
+    at_end_lem told q a h =
         let e = answers a h ∙ ap (answer_of a) q.are in
         record { answer = rw e (λ i. h.numbered i ++ (q.rows i ∷ q.bytes i ∷ [])); words = rw e; text = rw e; output = rw e q.output }
 
@@ -83,11 +83,11 @@ module _ (look : Naming) (script ns trace words text output W T : List ℕ) wher
   call = reading.read_numbers look script ns words text
 
   pub trace_refused : (q : Why) → CallIs call W T (Refused q) → {w' t' o' : List ℕ} → (w' ≡ zeros W) × (t' ≡ zeros T) × (o' ≡ zeros output)
-      → ReplayIs (replay_numbers look script ns trace words text output) w' t' o' (variants.Unread q)
+      → ReplayIs (replay_numbers look script ns trace words text output) w' t' o' (Err (variants.Unread q))
   unfolding replay_numbers replay_call replayed kept_after lines_after replay_numbers_of
   trace_refused q c {w'} {t'} {o'} z = go call.outcome refl
     where
-      go : (o : Outcome Answer) → call.outcome ≡ o → ReplayIs (replay_numbers look script ns trace words text output) w' t' o' (variants.Unread q)
+      go : (o : Outcome Answer) → call.outcome ≡ o → ReplayIs (replay_numbers look script ns trace words text output) w' t' o' (Err (variants.Unread q))
       go (accepts a) e = no (rw e at c.accepted)
       go (refuses r) e =
           record {
@@ -125,7 +125,7 @@ module _ (look : Naming) (script ns trace words text output W T : List ℕ) wher
         let w = c.words in
         rw (m, w) (leb-true _ _ l.0))
 
-    pub trace_accepted : {w' t' o' : List ℕ} {r : Replay} → ((a : Answer) → Holds a x W T → ReplayIs (replay_of a trace W T output) w' t' o' r)
+    pub trace_accepted : {w' t' o' : List ℕ} {r : Result Lines Unreplayed} → ((a : Answer) → Holds a x W T → ReplayIs (replay_of a trace W T output) w' t' o' r)
         → ReplayIs (replay_numbers look script ns trace words text output) w' t' o' r
     unfolding replay_numbers
     trace_accepted {w'} {t'} {o'} {r} f =

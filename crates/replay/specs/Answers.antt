@@ -1,16 +1,17 @@
 -- What a replay answers, and what it leaves in the three buffers.
-use Rattle.std.specs.Prelude.{ℕ, ◌≡◌, List, [], ◌∷◌, ◌++◌, length, take, replicate}
+use Rattle.std.specs.Prelude.{ℕ, ◌≡◌, List, length, take, Result}
 use Rattle.definition.specs.Records.{Answer}
 use Rattle.definition.specs.Reading.{accepts, numbers}
 use Rattle.definition.specs.Words.{records_from}
 use Rattle.definition_replay.specs.Replay.{ReplayCall, replay_call, replay_numbers_of}
 use Rattle.definition_laws.proofs.Outcomes.Outcomes.{Gapless}
 use Rattle.answers.specs.declared.Answer.{Answer as Read}
-use Rattle.answers.specs.declared.Replay.{Replay}
+use Rattle.answers.specs.declared.Lines.{Lines}
+use Rattle.answers.specs.declared.Unreplayed.{Unreplayed}
 use Rattle.answers.specs.Twelve.{read_numbers, replay_says}
 
 -- a call of the definition: what is answered, and the three buffers afterwards
-pub record ReplayIs (call : ReplayCall) (words' text' output' : List ℕ) (r : Replay) : Type 0 where
+pub record ReplayIs (call : ReplayCall) (words' text' output' : List ℕ) (r : Result Lines Unreplayed) : Type 0 where
   pub answer : replay_says r ≡ replay_numbers_of call.result
   pub words : words' ≡ call.words
   pub text : text' ≡ call.text

@@ -8,7 +8,7 @@ ghost use Rattle.definition.specs.Reading.{zeros};
 ghost use Rattle.definition_replay.specs.Replay.{replay_numbers};
 ghost use Rattle.replay.specs.Answers.{ReplayIs, Holds, replay_of};
 
-use answers::{Lines, Outcome, Replay, Stop};
+use answers::{Lines, Outcome, Stop, Unreplayed};
 use strings::parse_strings;
 use trace_lines::write_trace;
 
@@ -16,7 +16,7 @@ use trace_lines::write_trace;
 fn clear(words: &mut [u32], text: &mut [u8])
     ensures { (words.new ≡ zeros words.old) × (text.new ≡ zeros text.old) }
 {
-    buffers::fill_words(words, 0);
+    buffers::fill(words, 0);
     buffers::fill(text, 0);
 }
 
@@ -27,23 +27,24 @@ fn replay_read(
     words: &mut [u32],
     text: &mut [u8],
     output: &mut [u8],
-) -> Replay
+) -> Result<Lines, Unreplayed>
     requires { x.records * 8 ≤ length words.old }
     ensures { (a : Answer) → Holds a x words.old text.old → ReplayIs (replay_of a trace.now words.old text.old output.old) words.new text.new output.new result }
 {
-    let lines = write_trace(output, words, x.records, text, x.text, trace);
-    if lines.number != 0 {
-        clear(words, text);
-        return Replay::Stopped(Stop {
-            number: lines.number,
-            told: lines.told,
-        });
+    match write_trace(output, words, x.records, text, x.text, trace) {
+        Ok(lines) => Ok(Lines {
+            reading: x,
+            rows: lines.rows,
+            bytes: lines.bytes,
+        }),
+        Err(stop) => {
+            clear(words, text);
+            Err(Unreplayed::Stopped(Stop {
+                number: stop.number,
+                told: stop.told,
+            }))
+        }
     }
-    Replay::Replayed(Lines {
-        reading: x,
-        rows: lines.rows,
-        bytes: lines.bytes,
-    })
 }
 
 // Replays a trace through the template whose literals are listed, six numbers for each: reads it into words and text, and writes a line for each
@@ -55,14 +56,14 @@ pub fn replay_trace(
     words: &mut [u32],
     text: &mut [u8],
     output: &mut [u8],
-) -> Replay
+) -> Result<Lines, Unreplayed>
     ensures { ReplayIs (replay_numbers held_names script.now numbers.now trace.now words.old text.old output.old) words.new text.new output.new result }
 {
     match parse_strings(script, numbers, words, text) {
         Outcome::Refused(r) => {
             clear(words, text);
             buffers::fill(output, 0);
-            Replay::Unread(r)
+            Err(Unreplayed::Unread(r))
         }
         Outcome::Accepted(x) => replay_read(x, trace, words, text, output),
     }

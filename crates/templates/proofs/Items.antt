@@ -1,5 +1,5 @@
 -- The items of a template one after another: each is text, a field with its form, or refused. Assumes nothing.
-use Rattle.std.specs.Prelude.{if◌then◌else◌}
+use Rattle.std.specs.Prelude.{if◌then◌else◌, Result, Ok, Err}
 use mathlib.Core.Path.{◌≡◌, refl, sym, ◌∙◌, ap}
 use mathlib.Core.Bool.{Bool, true, false}
 use mathlib.Core.List.{List, [], ◌∷◌}
@@ -17,9 +17,12 @@ use Rattle.definition_replay.specs.Replay.{Made, made, stopped, followed, Part, 
 use Rattle.definition.proofs.Moves.CharLaws.{cases}
 use Rattle.definition_replay_laws.proofs.Replay.ReplayFirst.{items_none}
 use Rattle.formats.specs.declared.Form as formats
-use Rattle.formats.specs.Parts.{FormIs}
+use Rattle.formats.specs.declared.FormError.{FormError}
+use Rattle.formats.specs.declared.FormError.TheVariants.{NotOfGrammar, OutsideSet}
+use Rattle.formats.specs.Parts.{FormIs, number_of, says}
+use Rattle.templates.specs.declared.Refused.{Refused}
 use Rattle.templates.specs.declared.Place.{Place}
-use Rattle.templates.specs.Walk.{records_in, laid_from, parts_laid, Stand, PlaceIs, field_part, number_in, fields_made, says_count}
+use Rattle.templates.specs.Walk.{records_in, laid_from, parts_laid, Stand, PlaceIs, field_part, number_in, fields_made, says_count, told_in}
 use Rattle.templates.proofs.Walking.{laid_stands}
 
 -- WHAT AN ITEM IS, whatever its number
@@ -84,35 +87,28 @@ module _ (kind mode : ℕ) (n : Bool) (spec : List ℕ) where
   unfolding number_in field_part
   field_nested h e = rw (eq-eqb kind 2 h, e)
 
-  module _ (h : kind ≡ 2) (e : n ≡ false) (form : formats.Form) (f : FormIs spec form) where
+  module _ (h : kind ≡ 2) (e : n ≡ false) {form : Result formats.Form FormError} (f : FormIs spec form) where
     told : number_in (field_part 0 kind mode n [] spec) ≡ number_in (converted mode (form_made 0 0 spec))
     unfolding field_part
     told =
         (λ i. number_in (if eq-eqb kind 2 h i then (if e i then stopped 69 0 else form_made 0 mode spec) else made (stands [])))
         ∙ ap number_in (by_mode mode spec)
 
-    pub field_form : (form.number ≡ 0 → ⊥) → Refuses form.number
+    pub field_form : {why : FormError} → form ≡ Err why → Refuses (number_of why)
     unfolding number_in converted
-    field_form z = let g = rw (ne_eqb form.number 0 z) at (f.told 0) in ap (λ o. number_in (converted mode o)) g ∙ sym told
+    field_form z = ap (λ o. number_in (converted mode o)) (ap (says spec 0) (sym z) ∙ f.told 0) ∙ sym told
 
-    module _ (z : form.number ≡ 0) where
+    module _ {x : formats.Form} (z : form ≡ Ok x) where
+      made_so : says spec 0 (Ok x) ≡ form_made 0 0 spec
+      made_so = ap (says spec 0) (sym z) ∙ f.told 0
+
       pub field_converted : (mode ≡ 0 → ⊥) → Refuses 69
       unfolding number_in converted
-      field_converted m =
-          let g = rw (eq-eqb form.number 0 z) at (f.told 0) in
-          sym (told ∙ sym (ap (λ o. number_in (converted mode o)) g) ∙ refused_mode mode _ (ne_eqb mode 0 m))
+      field_converted m = sym (told ∙ sym (ap (λ o. number_in (converted mode o)) made_so) ∙ refused_mode mode _ (ne_eqb mode 0 m))
 
       pub field_fine : mode ≡ 0 → Refuses 0
       unfolding number_in converted
-      field_fine m =
-          let g = rw (eq-eqb form.number 0 z) at (f.told 0) in
-          sym (told ∙ sym (ap (λ o. number_in (converted mode o)) g) ∙ fine_mode mode _ (eq-eqb mode 0 m))
-
-pub one_field : {kind : ℕ} → kind ≡ 2 → ◌≡◌ {A = ℕ} 1 (if eqb kind 2 then 1 else 0)
-one_field {kind} e = rw (eq-eqb kind 2 e)
-
-pub none_field : {kind : ℕ} → (kind ≡ 2 → ⊥) → ◌≡◌ {A = ℕ} 0 (if eqb kind 2 then 1 else 0)
-none_field {kind} e = rw (ne_eqb kind 2 e)
+      field_fine m = sym (told ∙ sym (ap (λ o. number_in (converted mode o)) made_so) ∙ fine_mode mode _ (eq-eqb mode 0 m))
 
 -- THE ITEM AT A PLACE
 abbrev pub part_at : (text : List ℕ) (at : ℕ) → Place → (k : ℕ) → Made Part
@@ -139,6 +135,11 @@ more_made k (stands b) (made ps) = let n : k + field_count ps ≡ k + 0 + field_
 more_made k (column f) (made ps) = let n : k + suc (field_count ps) ≡ k + 1 + field_count ps = omega arith in ap made n
 more_made k p (stopped n j) = refl
 
+-- a refusal has a number
+some_number : (e : FormError) → number_of e ≡ 0 → ⊥
+some_number NotOfGrammar z = omega arith
+some_number OutsideSet z = omega arith
+
 -- THE WALK over all items
 module _ (words : List ℕ) (count : ℕ) (text : List ℕ) where
   -- what is made of all of them is what is made of those to come, after k fields
@@ -156,8 +157,8 @@ module _ (words : List ℕ) (count : ℕ) (text : List ℕ) where
   pub template_start : Template-at 0 0 0
   template_start = record { walks = λ rs s. record { rest = rs; stand = s; same = refl }; before_end = omega arith; within = omega arith; few = omega arith }
 
-  abbrev Says : (number told : ℕ) → Type 0
-  Says number told = ((rs : List Record) → Stand words count (length text) 0 0 rs → says_count number told ≡ fields_made 0 (parts_from text 0 (items_from 0 rs))) × (told ≤ count)
+  abbrev Says : Result ℕ Refused → Type 0
+  Says r = ((rs : List Record) → Stand words count (length text) 0 0 rs → says_count r ≡ fields_made 0 (parts_from text 0 (items_from 0 rs))) × (told_in r ≤ count)
 
   module _ (i at k : ℕ) (w : Template-at i at k) where
     nothing_left : (rest : List Record) → i + length rest ≡ count → count ≤ i → made k ≡ fields_made k (parts_from text k (items_from 0 rest))
@@ -165,7 +166,7 @@ module _ (words : List ℕ) (count : ℕ) (text : List ℕ) where
     nothing_left [] e h = let n : k ≡ k + 0 = omega arith in ap made n ∙ sym (ap (λ l. fields_made k (parts_from text k l)) (items_none 0))
     nothing_left (r ∷ rs) e h = absurd (omega arith)
 
-    pub template_end : count ≤ i → Says 0 k
+    pub template_end : count ≤ i → Says (Ok k)
     template_end h =
         let f = w.few in
         let b = w.before_end in
@@ -193,19 +194,21 @@ module _ (words : List ℕ) (count : ℕ) (text : List ℕ) where
         unfolding fields_past
         past_is r f = rw (← f) (cases (eqb p.kind 2) (λ b. rw b (omega arith)) (λ b. rw b (omega arith)))
 
-        pub template_stop : (number ≡ 0 → ⊥) → Says number k
+        pub template_stop : (why : FormError) → number ≡ number_of why → Says (Err (record { why = why; field = k }))
         unfolding number_in followed fields_made
-        template_stop z = by-view view
+        template_stop why w' = by-view view
           where
-            by-view : View text at p → Says number k
+            z : number ≡ 0 → ⊥
+            z e' = some_number why (sym w' ∙ e')
+
+            by-view : View text at p → Says (Err (record { why = why; field = k }))
             by-view (is_text_lem b f) = absurd (z (number_of_lem (f 0)))
             by-view (is_field_lem b x g f) = absurd (z (number_of_lem (f 0)))
             by-view (is_refused b m h f) = (
               (λ rs s.
                   let x = w.walks rs s in
                   let y = q.0 x.rest x.stand in
-                  ap (λ (b : Bool). if b then made k else stopped number k) (ne_eqb number 0 z)
-                  ∙ ap (λ j. stopped j k) (number_of_lem (f 0))
+                  ap (λ j. stopped j k) (sym w' ∙ number_of_lem (f 0))
                   ∙ sym (ap (λ o. fields_made k (followed o (parts_from text (fields_past k y.item) (items_from 0 y.rest)))) (f k))
                   ∙ sym (ap (fields_made k) (parts_step words count text at p k x.rest y))
                   ∙ x.same),
@@ -252,7 +255,7 @@ module _ (words : List ℕ) (count : ℕ) (text : List ℕ) where
               by-view (is_refused b m h f) = absurd (h (sym (number_of_lem (f 0)) ∙ z))
 
 -- OF ANY WORDS
-pub said_laid : (words : List ℕ) (count : ℕ) (text : List ℕ) {n : ℕ} (number told : ℕ) → n ≡ records_in words count → Says words n text number told
-    → (says_count number told ≡ fields_made 0 (parts_laid words count text)) × (told ≤ records_in words count)
+pub said_laid : (words : List ℕ) (count : ℕ) (text : List ℕ) {n : ℕ} (r : Result ℕ Refused) → n ≡ records_in words count → Says words n text r
+    → (says_count r ≡ fields_made 0 (parts_laid words count text)) × (told_in r ≤ records_in words count)
 unfolding parts_laid
-said_laid words count text number told e s = let q = rw e at s in (q.0 (laid_from (records_in words count) 0 0 (length text) words) (laid_stands words (records_in words count) (length text)), q.1)
+said_laid words count text r e s = let q = rw e at s in (q.0 (laid_from (records_in words count) 0 0 (length text) words) (laid_stands words (records_in words count) (length text)), q.1)

@@ -1,6 +1,8 @@
 -- The walk over a template's records: those below one are passed, and each item is found. Assumes nothing.
 use mathlib.Core.Path.{◌≡◌, refl, sym, ◌∙◌, ap, ap₂}
 use mathlib.Core.Bool.{Bool, true, false, ◌||◌}
+use mathlib.Core.Logic.{◌⊎◌, inl, inr}
+use Rattle.std.specs.Prelude.{Some, None}
 use mathlib.Core.List.{List, [], ◌∷◌, ◌++◌, append-nil, append_assoc}
 use Prim.Native.Nat.{ℕ, zero, suc, ◌+◌, ◌-◌, ◌*◌, ◌≤◌, ◌<◌, min}
 use native.Mathlib.Nat.{sub_self}
@@ -17,7 +19,7 @@ use Rattle.definition_laws.proofs.Outcomes.Outcomes.{Gapless, gapless_sum}
 use Rattle.definition_replay_laws.proofs.Replay.ReplayFirst.{items_top, items_below, items_none}
 use Rattle.templates.specs.declared.Below.{Below}
 use Rattle.templates.specs.declared.Place.{Place}
-use Rattle.templates.specs.Walk.{laid_from, Lies, Stand, BelowIs, PlaceIs, nowhere, FoundIs}
+use Rattle.templates.specs.Walk.{laid_from, Lies, Stand, BelowIs, PlaceIs, FoundIs}
 
 -- RECORDS as they lie in words
 lies_from : (n owed i at size : ℕ) (words : List ℕ) → at ≤ size → Lies words size i at (laid_from n owed at size (drop (i * 8) words))
@@ -76,6 +78,12 @@ below_empty (suc owed) = refl
 or_false : (b : Bool) → (b || false) ≡ b
 or_false true = refl
 or_false false = refl
+
+pub or_yes : {a : Bool} (b : Bool) → a ≡ true → a ≡ (a || b)
+or_yes {a} b e = e ∙ sym (ap (λ x. x || b) e)
+
+pub or_no : {a : Bool} (b : Bool) → a ≡ false → b ≡ (a || b)
+or_no b e = sym (ap (λ x. x || b) e)
 
 or_assoc : (a b c : Bool) → ((a || b) || c) ≡ (a || (b || c))
 or_assoc true b c = refl
@@ -226,13 +234,10 @@ module _ (words : List ℕ) (count : ℕ) (text : List ℕ) (i at : ℕ) (rs : L
 
 -- AN ITEM AT ANY NUMBER AND PLACE
 module _ (words : List ℕ) (count : ℕ) (text : List ℕ) (i at : ℕ) where
-  pub found_past : {n : ℕ} → n ≡ count → n ≤ i → FoundIs words count text i at nowhere
-  found_past e h = record { inside = λ l b. absurd (omega arith); past = λ l. refl; behind = λ l. refl }
-
-  pub found_behind : length text < at → FoundIs words count text i at nowhere
-  found_behind h = record { inside = λ l b. absurd (omega arith); past = λ l. refl; behind = λ l. refl }
+  pub found_none : {n : ℕ} → n ≡ count → (n ≤ i) ⊎ (length text < at) → FoundIs words count text i at None
+  found_none e h = elim h [ inl l ↦ inl (omega arith) | inr l ↦ inr l ]
 
   pub found_there : {n : ℕ} → n ≡ count → i < n → at ≤ length text → (r : Place)
       → ((rs : List Record) → Stand words n (length text) i at rs → PlaceIs words n text at rs r) × (i < r.next) × (r.next ≤ n) × (at ≤ r.own) × (r.own ≤ r.to) × (r.to ≤ length text)
-      → FoundIs words count text i at r
-  found_there e h b r q = record { inside = λ l m. rw e at q; past = λ l. absurd (omega arith); behind = λ l. absurd (omega arith) }
+      → FoundIs words count text i at (Some r)
+  found_there e h b r q = (omega arith, b, rw e at q)

@@ -1,5 +1,5 @@
 -- The template's records as they lie in words, and what the walk over them finds.
-use Rattle.std.specs.Prelude.{ℕ, zero, suc, ◌+◌, ◌-◌, ◌*◌, ◌/◌, ◌≤◌, ◌<◌, min, ◌≡◌, Bool, false, List, [], ◌∷◌, eqb, length, drop, if◌then◌else◌}
+use Rattle.std.specs.Prelude.{ℕ, zero, suc, ◌+◌, ◌-◌, ◌*◌, ◌/◌, ◌≤◌, ◌<◌, min, ◌≡◌, Bool, List, [], ◌∷◌, eqb, length, drop, if◌then◌else◌, ◌⊎◌, Option, Some, None, Result, Ok, Err}
 use Rattle.definition.specs.Numbers.{outside_set}
 use Rattle.definition.specs.Chars.{part}
 use Rattle.definition.specs.Records.{Record}
@@ -7,6 +7,9 @@ use Rattle.definition.specs.Words.{word, owing, role_at}
 use Rattle.definition_replay.specs.Replay.{Made, made, stopped, Part, stands, records_below, items_from, nested, texts_of, form_made, parts_from, field_count}
 use Rattle.templates.specs.declared.Below.{Below}
 use Rattle.templates.specs.declared.Place.{Place}
+use Rattle.templates.specs.declared.Refused.{Refused}
+use Rattle.formats.specs.declared.FormError.{FormError}
+use Rattle.formats.specs.Parts.{number_of}
 
 -- so many records lie in words
 abbrev pub Sized : List ℕ → ℕ → Type 0
@@ -74,21 +77,18 @@ pub record PlaceIs (words : List ℕ) (count : ℕ) (text : List ℕ) (at : ℕ)
   pub own : part text at r.own ≡ part text item.offset (item.offset + item.size)
   pub spec : part text r.own r.to ≡ texts_of text under
 
--- no item
-abbrev pub nowhere : Place
-nowhere = record { kind = 0; mode = 0; own = 0; nested = false; to = 0; next = 0 }
-
 -- the item at a record's number, whose text begins at a place: that of any records that stand there, or none past their ends
-pub record FoundIs (words : List ℕ) (count : ℕ) (text : List ℕ) (i at : ℕ) (r : Place) : Type 0 where
-  pub inside : i < count → at ≤ length text
-      → ((rs : List Record) → Stand words count (length text) i at rs → PlaceIs words count text at rs r)
-      × (i < r.next)
-      × (r.next ≤ count)
-      × (at ≤ r.own)
-      × (r.own ≤ r.to)
-      × (r.to ≤ length text)
-  pub past : count ≤ i → r ≡ nowhere
-  pub behind : length text < at → r ≡ nowhere
+abbrev pub FoundIs : (words : List ℕ) (count : ℕ) (text : List ℕ) (i at : ℕ) → Option Place → Type 0
+FoundIs words count text i at (Some r) =
+    (i < count)
+    × (at ≤ length text)
+    × (((rs : List Record) → Stand words count (length text) i at rs → PlaceIs words count text at rs r)
+    × (i < r.next)
+    × (r.next ≤ count)
+    × (at ≤ r.own)
+    × (r.own ≤ r.to)
+    × (r.to ≤ length text))
+FoundIs words count text i at None = (count ≤ i) ⊎ (length text < at)
 
 -- the part of an item, by what the walk finds
 unfoldable pub field_part : (k kind mode : ℕ) (nested : Bool) (own spec : List ℕ) → Made Part
@@ -104,6 +104,17 @@ unfoldable pub fields_made : ℕ → Made (List Part) → Made ℕ
 fields_made k (made ps) = made (k + field_count ps)
 fields_made k (stopped n j) = stopped n j
 
--- what the code says: a count, or a refusal's number and what is told of it
-abbrev pub says_count : (number told : ℕ) → Made ℕ
-says_count number told = if eqb number 0 then made told else stopped number told
+-- what refuses an item, as a number; 0 for nothing
+abbrev pub told_of_item : Result (Unit {0}) FormError → ℕ
+told_of_item (Ok u) = 0
+told_of_item (Err e) = number_of e
+
+-- what the code says: a count, or a refusal and the field
+abbrev pub says_count : Result ℕ Refused → Made ℕ
+says_count (Ok k) = made k
+says_count (Err r) = stopped (number_of r.why) r.field
+
+-- the count, or the field
+abbrev pub told_in : Result ℕ Refused → ℕ
+told_in (Ok k) = k
+told_in (Err r) = r.field

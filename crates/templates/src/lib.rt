@@ -4,11 +4,12 @@
 ghost use Rattle.std.specs.Prelude.{◌≡◌, ◌||◌, List, [], ◌+◌, ◌<◌, ◌≤◌, min, eqb, length, if◌then◌else◌};
 ghost use Rattle.definition.specs.Records.{Record};
 ghost use Rattle.definition_replay.specs.Replay.{items_from, parts_from};
-ghost use Rattle.templates.specs.Walk.{records_in, parts_laid, Sized, Stand, BelowIs, PlaceIs, FoundIs, field_part, number_in, fields_made, says_count};
+ghost use Rattle.templates.specs.Walk.{records_in, parts_laid, Sized, Stand, BelowIs, PlaceIs, FoundIs, field_part, number_in, fields_made, told_of_item, says_count, told_in};
 
-const FIELD: u32 = 2;
+use formats::FormError;
+use numbering::RecordKind;
 
-const OUTSIDE_SET: u32 = 69;
+const FIELD: u32 = RecordKind::Field as u32;
 
 // The records that stand below one: whether a field is among them, the number of the record behind them, and where their texts end.
 #[derive(Clone, Copy)]
@@ -30,33 +31,11 @@ pub struct Place {
     pub next: usize,
 }
 
-// No item.
-pub const NOWHERE: Place = Place {
-    kind: 0,
-    mode: 0,
-    own: 0,
-    nested: false,
-    to: 0,
-    next: 0,
-};
-
-// Whether one of two holds.
-fn either(a: bool, b: bool) -> bool
-    ensures { result ≡ (a || b) }
-{
-    if a {
-        return true;
-    }
-    b
-}
-
 // How many records lie in words, at most so many.
 pub fn records_in(words: &[u32], count: u32) -> usize
     ensures { result ≡ records_in words.now count }
 {
-    let most = count as usize;
-    let room = words.len() / 8;
-    if most <= room { most } else { room }
+    (count as usize).min(words.len() / 8)
 }
 
 // Where so many bytes from a place on end, at most at the end of all.
@@ -64,10 +43,7 @@ fn text_end(at: usize, more: usize, size: usize) -> usize
     requires { at ≤ size }
     ensures { result ≡ min (at + more) size }
 {
-    if size - at <= more {
-        return size;
-    }
-    at + more
+    at + more.min(size - at)
 }
 
 // Passes over the records that stand below one, from a number on, so many owed; their texts begin at a place.
@@ -76,30 +52,24 @@ fn pass_below(words: &[u32], count: usize, from: usize, parts: u32, text: &[u8],
     ensures { ((rs : List Record) → Stand words.now count (length text.now) from at rs → BelowIs words.now count text.now at parts rs result) × (from ≤ result.next) × (result.next ≤ count) × (at ≤ result.to) × (result.to ≤ length text.now) }
 {
     let mut owed = parts as usize;
-    let mut next = from;
     let mut to = at;
     let mut nested = false;
-    while next < count {
+    for next in from..count {
         if owed == 0 {
-            return Below {
-                nested: nested,
-                next: next,
-                to: to,
-            };
+            return Below { nested, next, to };
         }
         let first = next * 8;
         let kind = words[first];
         let size = words[first + 2] as usize;
         let more = words[first + 6] as usize;
-        nested = either(nested, kind == FIELD);
+        nested = nested || kind == FIELD;
         to = text_end(to, size, text.len());
         owed = owed - 1 + more;
-        next = next + 1;
     }
     Below {
-        nested: nested,
-        next: next,
-        to: to,
+        nested,
+        next: count,
+        to,
     }
 }
 
@@ -114,98 +84,84 @@ fn place_at(words: &[u32], count: usize, text: &[u8], i: usize, at: usize) -> Pl
     let mode = words[first + 5];
     let parts = words[first + 6];
     let own = text_end(at, size, text.len());
-    let from = i + 1;
-    let rest = pass_below(words, count, from, parts, text, own);
+    let Below { nested, next, to } = pass_below(words, count, i + 1, parts, text, own);
     Place {
-        kind: kind,
-        mode: mode,
-        own: own,
-        nested: rest.nested,
-        to: rest.to,
-        next: rest.next,
+        kind,
+        mode,
+        own,
+        nested,
+        to,
+        next,
     }
 }
 
 // The top-level item whose record has a number among at most so many that lie in words, and whose text begins at a place; none past their ends.
-pub fn find_place(words: &[u32], count: u32, text: &[u8], i: usize, at: usize) -> Place
+pub fn find_place(words: &[u32], count: u32, text: &[u8], i: usize, at: usize) -> Option<Place>
     ensures { FoundIs words.now (records_in words.now count) text.now i at result }
 {
     let most = records_in(words, count);
-    if most <= i {
-        return NOWHERE;
+    if most <= i || text.len() < at {
+        return None;
     }
-    if text.len() < at {
-        return NOWHERE;
-    }
-    place_at(words, most, text, i, at)
+    Some(place_at(words, most, text, i, at))
 }
 
-// What refuses an item: 0 for nothing; of a field a field below it, else its spec, else its conversion.
-fn check_item(kind: u32, mode: u32, nested: bool, spec: &[u8]) -> u32
-    ensures { result ≡ number_in (field_part 0 kind mode nested [] spec.now) }
+// What refuses an item: of a field a field below it, else its spec, else its conversion.
+fn check_item(kind: u32, mode: u32, nested: bool, spec: &[u8]) -> Result<(), FormError>
+    ensures { told_of_item result ≡ number_in (field_part 0 kind mode nested [] spec.now) }
 {
     if kind != FIELD {
-        return 0;
+        return Ok(());
     }
     if nested {
-        return OUTSIDE_SET;
+        return Err(FormError::OutsideSet);
     }
-    let form = formats::read_form(spec);
-    if form.number != 0 {
-        return form.number;
-    }
+    let _form = formats::read_form(spec)?;
     if mode != 0 {
-        return OUTSIDE_SET;
+        return Err(FormError::OutsideSet);
     }
-    0
+    Ok(())
 }
 
 // How many fields an item is.
 fn fields_of(kind: u32) -> usize
     ensures { (result ≡ (if eqb kind 2 then 1 else 0)) × (result ≤ 1) }
 {
-    if kind == FIELD {
-        return 1;
-    }
-    0
+    usize::from(kind == FIELD)
 }
 
-// What a check finds: 0 and a count; or the number of a refusal and the field that is refused, from 0.
+// A field that is refused, from 0, and why.
 #[derive(Clone, Copy)]
-pub struct Verdict {
-    pub number: u32,
-    pub told: usize,
+pub struct Refused {
+    pub why: FormError,
+    pub field: usize,
 }
 
 // Checks every item of a template of so many records, up to the first that is refused, and counts its fields.
-fn check_all(words: &[u32], count: usize, text: &[u8]) -> Verdict
+fn check_all(words: &[u32], count: usize, text: &[u8]) -> Result<usize, Refused>
     requires { Sized words.now count }
-    ensures { ((rs : List Record) → Stand words.now count (length text.now) 0 0 rs → says_count result.number result.told ≡ fields_made 0 (parts_from text.now 0 (items_from 0 rs))) × (result.told ≤ count) }
+    ensures { ((rs : List Record) → Stand words.now count (length text.now) 0 0 rs → says_count result ≡ fields_made 0 (parts_from text.now 0 (items_from 0 rs))) × (told_in result ≤ count) }
 {
     let mut i: usize = 0;
     let mut at: usize = 0;
     let mut k: usize = 0;
+    // A step is an item of some records.
     while i < count {
         let item = place_at(words, count, text, i, at);
-        let own = item.own;
-        let to = item.to;
-        let number = check_item(item.kind, item.mode, item.nested, &text[own..to]);
-        if number != 0 {
-            return Verdict {
-                number: number,
-                told: k,
-            };
+        let spec = &text[item.own..item.to];
+        if let Err(why) = check_item(item.kind, item.mode, item.nested, spec) {
+            return Err(Refused { why, field: k });
         }
-        k = k + fields_of(item.kind);
+        k += fields_of(item.kind);
         i = item.next;
-        at = to;
+        at = item.to;
     }
-    Verdict { number: 0, told: k }
+    Ok(k)
 }
 
 // Checks every item of a template, at most so many records that lie in words, up to the first that is refused, and counts its fields.
-pub fn check_template(words: &[u32], count: u32, text: &[u8]) -> Verdict
-    ensures { (says_count result.number result.told ≡ fields_made 0 (parts_laid words.now count text.now)) × (result.told ≤ records_in words.now count) }
+pub fn check_template(words: &[u32], count: u32, text: &[u8]) -> Result<usize, Refused>
+    ensures { (says_count result ≡ fields_made 0 (parts_laid words.now count text.now)) × (told_in result ≤ records_in words.now count) }
 {
     let most = records_in(words, count);
     check_all(words, most, text)

@@ -1,6 +1,6 @@
 -- The lines of all rows, one row after another. Assumes nothing.
 use mathlib.Core.Path.{◌≡◌, refl, sym, ◌∙◌, ap, ap₂}
-use mathlib.Core.Bool.{Bool, true, false, not}
+use mathlib.Core.Bool.{Bool, true, false}
 use mathlib.Core.List.{List, [], ◌∷◌, ◌++◌, append-nil, append_assoc}
 use mathlib.Core.Option.{some}
 use Prim.Native.Nat.{ℕ, suc, ◌+◌, ◌≤◌, ◌<◌, min}
@@ -9,7 +9,7 @@ use native.Mathlib.Omega.{arith}
 use lib.Dec.{eqb, leb}
 use lib.ListN.{length, get_or, drop, drop_of_length-le, length-append}
 use lib.Seq.{drop-cons}
-use borrow.Author.Tests.{eqb-true, eq-eqb, leb-true, leb-false, not-true, not-false}
+use borrow.Author.Tests.{eqb-true, eq-eqb, leb-true, leb-false}
 use Rattle.definition.specs.Records.{Record}
 use Rattle.definition_replay.specs.Integers.{Integer}
 use Rattle.definition_replay.specs.Trace.{Taken, taken, broken, row_of, rows_n, rows_of}
@@ -21,6 +21,8 @@ use Rattle.buffers.specs.Over.{over}
 use Rattle.buffers.proofs.Over.{over_nil, over_append}
 use Rattle.traces.specs.Cells.{verdict_of, check_of}
 use Rattle.templates.specs.Walk.{Stand}
+use Rattle.std.specs.Prelude.{Some, None}
+use Rattle.trace_lines.specs.declared.Line.{Line}
 use Rattle.trace_lines.specs.Lines.{Writes, RowIs, LineIs, Wrote, LinesAre}
 
 -- A ROW THAT IS MADE
@@ -151,48 +153,43 @@ module _ (words : List ℕ) (count : ℕ) (text trace : List ℕ) (fields : ℕ)
           (λ z. absurd (z refl)),
         )
 
-    module _ (l : next < length trace) {from : ℕ} (m : from ≡ min used 0x100000000) {out' : List ℕ} {used' next' : ℕ} {fine : Bool}
-        (y : LineIs words count text trace next out from out' used' next' fine × (fine ≡ true → next < next') × (next' ≤ length trace))
-      where
-        here : drop next trace ≡ get_or trace next 0 ∷ drop (suc next) trace
-        here = drop-cons trace next 0 l
+    module _ (l : next < length trace) {from : ℕ} (m : from ≡ min used 0x100000000) where
+      here : drop next trace ≡ get_or trace next 0 ∷ drop (suc next) trace
+      here = drop-cons trace next 0 l
 
-        -- a row that is refused
-        pub lines_stop : not fine ≡ true → {number : ℕ} → number ≡ check_of fields (row_of (drop next trace)) → LinesAre words count text trace fields out₀ out' number row 0
-        lines_stop f {number} n rs ps s p c =
-            let x = w.goes rs ps s p in
-            let z = (y.0 rs ps s p).1 (not-true fine f) in
-            let d : number ≡ check_of (field_count ps) (row_of (drop next trace)) = n ∙ ap (λ k. check_of k (row_of (drop next trace))) (sym c) in (
-              (λ e. absurd (z (sym d ∙ e))),
-              (λ e.
-                  x.are
-                  ∙ ap (both (made x.lines))
-                  (ap (λ t. lines_from ps row (rows_of t)) here ∙ row_stops ps row (get_or trace next 0) (drop (suc next) trace) number (d ∙ ap (λ t. check_of (field_count ps) (row_of t)) here) e)
-                  ∙ both_stopped x.lines number row),
-            )
+      -- a row that is refused
+      pub lines_stop : (out' : List ℕ) → LineIs words count text trace next out from out' None → {number : ℕ} → number ≡ check_of fields (row_of (drop next trace)) → LinesAre words count text trace fields out₀ out' number row 0
+      lines_stop out' y {number} n rs ps s p c =
+          let x = w.goes rs ps s p in
+          let z = y rs ps s p in
+          let d : number ≡ check_of (field_count ps) (row_of (drop next trace)) = n ∙ ap (λ k. check_of k (row_of (drop next trace))) (sym c) in (
+            (λ e. absurd (z (sym d ∙ e))),
+            (λ e.
+                x.are
+                ∙ ap (both (made x.lines))
+                (ap (λ t. lines_from ps row (rows_of t)) here ∙ row_stops ps row (get_or trace next 0) (drop (suc next) trace) number (d ∙ ap (λ t. check_of (field_count ps) (row_of t)) here) e)
+                ∙ both_stopped x.lines number row),
+          )
 
-        -- one row more
-        pub lines_on : not fine ≡ false → next < next'
-        lines_on f = y.1 (not-false fine f)
-
-        pub lines_next : not fine ≡ false → Lines-at out' used' next' (row + 1)
-        lines_next f =
-            let g = lines_on f in
-            let k = w.few in
-            record { goes = λ rs ps s p. go ps (w.goes rs ps s p) ((y.0 rs ps s p).0 (not-false fine f)); inside = y.2; few = omega arith }
-          where
-            go : (ps : List Part) → Lines-to ps out used next row → RowIs ps trace next out from out' used' next' → Lines-to ps out' used' next' (row + 1)
-            go ps x r =
-                let c = x.counts in
-                let n = length-append x.lines (row_line ps r.values ∷ []) in
-                record {
-                  lines = x.lines ++ (row_line ps r.values ∷ []);
-                  are = x.are
-                      ∙ ap (both (made x.lines))
-                      (ap (λ t. lines_from ps row (rows_of t)) here
-                      ∙ row_made_lem ps row (get_or trace next 0) (drop (suc next) trace) r.values (drop next' trace) (ap row_of (sym here) ∙ r.reads) r.counts r.fits
-                      ∙ ap (λ j. followed (made (row_line ps r.values)) (lines_from ps j (rows_of (drop next' trace)))) (sym (add-one row)))
-                      ∙ both_more x.lines (row_line ps r.values) (lines_from ps (row + 1) (rows_of (drop next' trace)));
-                  counts = omega arith;
-                  wrote = wrote_more x.lines (row_line ps r.values) out₀ out used x.wrote m r.writes;
-                }
+      -- one row more
+      pub lines_next : (out' : List ℕ) {line : Line} → LineIs words count text trace next out from out' (Some line) → Lines-at out' line.used line.next (row + 1)
+      lines_next out' {line} y =
+          let g = y.1 in
+          let k = w.few in
+          record { goes = λ rs ps s p. go ps (w.goes rs ps s p) (y.0 rs ps s p); inside = y.2; few = omega arith }
+        where
+          go : (ps : List Part) → Lines-to ps out used next row → RowIs ps trace next out from out' line.used line.next → Lines-to ps out' line.used line.next (row + 1)
+          go ps x r =
+              let c = x.counts in
+              let n = length-append x.lines (row_line ps r.values ∷ []) in
+              record {
+                lines = x.lines ++ (row_line ps r.values ∷ []);
+                are = x.are
+                    ∙ ap (both (made x.lines))
+                    (ap (λ t. lines_from ps row (rows_of t)) here
+                    ∙ row_made_lem ps row (get_or trace next 0) (drop (suc next) trace) r.values (drop line.next trace) (ap row_of (sym here) ∙ r.reads) r.counts r.fits
+                    ∙ ap (λ j. followed (made (row_line ps r.values)) (lines_from ps j (rows_of (drop line.next trace)))) (sym (add-one row)))
+                    ∙ both_more x.lines (row_line ps r.values) (lines_from ps (row + 1) (rows_of (drop line.next trace)));
+                counts = omega arith;
+                wrote = wrote_more x.lines (row_line ps r.values) out₀ out used x.wrote m r.writes;
+              }

@@ -1,84 +1,70 @@
 -- Steps that are worked out once. Assumes nothing.
-use Rattle.std.specs.Prelude.{if◌then◌else◌}
+use Rattle.std.specs.Prelude.{if◌then◌else◌, Some, None, Result, Ok}
 use mathlib.Core.Path.{◌≡◌, refl, sym, ◌∙◌, ap, subst}
 use mathlib.Core.Bool.{Bool, true, false, not}
+use mathlib.Core.Logic.{inl, inr}
 use mathlib.Core.List.{List, [], ◌∷◌}
 use Prim.Native.Nat.{ℕ, zero, suc, ◌+◌, ◌-◌, ◌*◌, ◌%◌, ◌≤◌, ◌<◌}
-use native.Mathlib.Numerals.{add-one}
 use native.Mathlib.Omega.{arith}
 use lib.Dec.{eqb}
-use lib.ListN.{length, take, drop, get_or, drop_of_length-le}
-use lib.Seq.{drop-cons}
+use lib.ListN.{length, take}
 use borrow.Author.Tests.{eqb-true, eqb-false}
 use Rattle.definition.specs.Chars.{part}
 use Rattle.definition.specs.Records.{Record}
 use Rattle.definition.proofs.Moves.CharLaws.{cases}
 use Rattle.buffers.specs.Over.{over}
-use Rattle.buffers.proofs.Over.{over_nil, length_over, over_append, over_before, over_part}
+use Rattle.buffers.proofs.Over.{length_over, over_before, over_part}
+use Rattle.formats.specs.declared.Form.{Form}
+use Rattle.formats.specs.declared.FormError.{FormError}
+use Rattle.formats.specs.Parts.{InSet, FormIs}
 use Rattle.templates.specs.declared.Place.{Place}
 use Rattle.templates.specs.Walk.{records_in, Sized, Stand, PlaceIs, FoundIs}
 use Rattle.trace_lines.specs.declared.Step.{Step}
 use Rattle.trace_lines.specs.Steps.{StepIs, step_numbers, held_step, Held}
 
 -- THE ITEM of a step, among records that lie in words
-pub item_found : (words : List ℕ) (count : ℕ) (text : List ℕ) (i at : ℕ) (r : Place) → Sized words count → i < count → at ≤ length text → FoundIs words (records_in words count) text i at r
-    → ((rs : List Record) → Stand words count (length text) i at rs → PlaceIs words count text at rs r) × (i < r.next) × (r.next ≤ count) × (at ≤ r.own) × (r.own ≤ r.to) × (r.to ≤ length text)
-item_found words count text i at r s l b f =
-    let w = s.0 in
-    let n : records_in words count ≡ count = omega arith in
-    let g : FoundIs words count text i at r = subst (λ m. FoundIs words m text i at r) n f in
-    g.inside l b
+module _ (words : List ℕ) (count : ℕ) (text : List ℕ) (i at : ℕ) (s : Sized words count) (l : i < count) (b : at ≤ length text) where
+  all_in : records_in words count ≡ count
+  all_in = let w = s.0 in omega arith
 
--- NUMBERS one after another
-module _ (held₀ numbers : List ℕ) (from : ℕ) where
-  pub record Numbers-at (held : List ℕ) (k : ℕ) : Type 0 where
-    pub same : over held (from + k) (drop k numbers) ≡ over held₀ from numbers
-    pub long : length held ≡ length held₀
+  pub item_found : {r : Place} → FoundIs words (records_in words count) text i at (Some r)
+      → ((rs : List Record) → Stand words count (length text) i at rs → PlaceIs words count text at rs r) × (i < r.next) × (r.next ≤ count) × (at ≤ r.own) × (r.own ≤ r.to) × (r.to ≤ length text)
+  item_found {r} f = let g : FoundIs words count text i at (Some r) = subst (λ m. FoundIs words m text i at (Some r)) all_in f in g.2
 
-  pub numbers_start : Numbers-at held₀ 0
-  numbers_start = let e : from + 0 ≡ from = omega arith in record { same = ap (λ p. over held₀ p numbers) e; long = refl }
+  pub item_there : FoundIs words (records_in words count) text i at None → ⊥
+  item_there f = let n = all_in in elim f [ inl h ↦ absurd (omega arith) | inr h ↦ absurd (omega arith) ]
 
-  module _ (held : List ℕ) (k : ℕ) (w : Numbers-at held k) where
-    pub numbers_next : k < length numbers → {held' : List ℕ} → held' ≡ over held (from + k) (get_or numbers k 0 ∷ []) → Numbers-at held' (k + 1)
-    numbers_next h e =
-        let a : from + (k + 1) ≡ from + k + 1 = omega arith in
-        record {
-          same = (λ j. over (e j) (a j) (drop (add-one k j) numbers))
-              ∙ over_append held (from + k) (get_or numbers k 0 ∷ []) (drop (suc k) numbers)
-              ∙ ap (over held (from + k)) (sym (drop-cons numbers k 0 h))
-              ∙ w.same;
-          long = ap length e ∙ length_over held (from + k) (get_or numbers k 0 ∷ []) ∙ w.long;
-        }
-
-    pub numbers_end : length numbers ≤ k → held ≡ over held₀ from numbers
-    numbers_end h = sym (over_nil held (from + k)) ∙ ap (over held (from + k)) (sym (drop_of_length-le numbers h)) ∙ w.same
+-- A FORM that is there is one within the set
+pub in_set : {spec : List ℕ} {r : Result Form FormError} {f : Form} → r ≡ Ok f → FormIs spec r → InSet spec f
+in_set {spec} e x = (subst (FormIs spec) e x).form
 
 -- A STEP comes back from its numbers
 flag_back : (b : Bool) → not (eqb (if b then 1 else 0) 0) ≡ b
 flag_back true = refl
 flag_back false = refl
 
-module _ (s : Step) (n : s.form.number ≡ 0) (pad : s.form.pad < 256) (align : s.form.shape.align < 256) (sign : s.form.shape.sign < 256) (grouping : s.form.shape.grouping < 256) (kind : s.form.shape.kind < 256) where
-  pub step_back : held_step (step_numbers s) ≡ s
-  step_back = λ i.
+module _ (s : Step) (f : Form) (n : s.form ≡ Ok f) (pad : f.pad < 256) (align : f.shape.align < 256) (sign : f.shape.sign < 256) (grouping : f.shape.grouping < 256) (kind : f.shape.kind < 256) where
+  pub step_back : held_step (step_numbers s f) ≡ s
+  step_back =
+      (λ i.
       record {
         first = s.first;
         at = s.at;
         item = record { kind = s.item.kind; mode = s.item.mode; own = s.item.own; nested = flag_back s.item.nested i; to = s.item.to; next = s.item.next };
-        form = record {
-          number = sym n i;
-          fill = s.form.fill;
-          pad = mod-small s.form.pad pad i;
+        form = Ok (record {
+          fill = f.fill;
+          pad = mod-small f.pad pad i;
           shape = record {
-            align = mod-small s.form.shape.align align i;
-            sign = mod-small s.form.shape.sign sign i;
-            alternate = flag_back s.form.shape.alternate i;
-            width = s.form.shape.width;
-            grouping = mod-small s.form.shape.grouping grouping i;
-            kind = mod-small s.form.shape.kind kind i;
+            align = mod-small f.shape.align align i;
+            sign = mod-small f.shape.sign sign i;
+            alternate = flag_back f.shape.alternate i;
+            width = f.shape.width;
+            grouping = mod-small f.shape.grouping grouping i;
+            kind = mod-small f.shape.kind kind i;
           };
-        };
-      }
+        });
+      })
+      ∙ (λ i. record { first = s.first; at = s.at; item = s.item; form = sym n i })
     where
       mod-small : (m : ℕ) → m < 256 → m % 256 ≡ m
       mod-small m h = omega arith
@@ -103,16 +89,16 @@ module _ (words : List ℕ) (count : ℕ) (text : List ℕ) where
   pub held_none : (held : List ℕ) → 512 ≤ length held → Held held words count text 0
   held_none held h = record { room = h; few = omega arith; each = λ k l. absurd (omega arith) }
 
-  module _ (held : List ℕ) (k : ℕ) (w : Held held words count text k) (l : k < 32) (i at : ℕ) (s : Step) (x : StepIs words count text i at s) {held' : List ℕ}
-      (e : (held' ≡ over held (k * 16) (step_numbers s)) × (held_step (step_numbers s) ≡ s))
+  module _ (held : List ℕ) (k : ℕ) (w : Held held words count text k) (l : k < 32) (i at : ℕ) (s : Step) (f : Form) (x : StepIs words count text i at s) {held' : List ℕ}
+      (e : (held' ≡ over held (k * 16) (step_numbers s f)) × (held_step (step_numbers s f) ≡ s))
     where
       kept : (j : ℕ) → j < k → slot held' j ≡ slot held j
-      kept j h = ap (λ b. slot b j) e.0 ∙ over_before held (k * 16) (step_numbers s) (j * 16) (j * 16 + 16) (omega arith)
+      kept j h = ap (λ b. slot b j) e.0 ∙ over_before held (k * 16) (step_numbers s f) (j * 16) (j * 16 + 16) (omega arith)
 
       put : held_step (slot held' k) ≡ s
       put =
           let r = w.room in
-          ap held_step (ap (λ b. slot b k) e.0 ∙ over_part held (k * 16) (step_numbers s) ∙ take_all (length held - k * 16) (step_numbers s) (omega arith)) ∙ e.1
+          ap held_step (ap (λ b. slot b k) e.0 ∙ over_part held (k * 16) (step_numbers s f) ∙ take_all (length held - k * 16) (step_numbers s f) (omega arith)) ∙ e.1
 
       itself : Itself s
       itself = record { record_is = refl; begins = refl; place = rw (x.record_is, x.begins) x.place; form = x.form }
@@ -120,7 +106,7 @@ module _ (words : List ℕ) (count : ℕ) (text : List ℕ) where
       pub held_more : Held held' words count text (k + 1)
       held_more =
           let r = w.room in
-          let n = ap length e.0 ∙ length_over held (k * 16) (step_numbers s) in
+          let n = ap length e.0 ∙ length_over held (k * 16) (step_numbers s f) in
           record {
             room = omega arith;
             few = omega arith;

@@ -1,28 +1,30 @@
 -- A row's line, item by item and column by column. Assumes nothing.
-use Rattle.std.specs.Prelude.{if◌then◌else◌}
-use mathlib.Core.Path.{◌≡◌, refl, sym, ◌∙◌, ap, ap₂}
-use mathlib.Core.Bool.{Bool, true, false, not}
+use Rattle.std.specs.Prelude.{Some, None, Result, Ok, Err}
+use mathlib.Core.Path.{◌≡◌, refl, sym, ◌∙◌, ap, ap₂, subst}
+use mathlib.Core.Bool.{Bool, true, false}
 use mathlib.Core.List.{List, [], ◌∷◌, ◌++◌, append-nil, append_assoc}
 use Prim.Native.Nat.{ℕ, zero, suc, ◌+◌, ◌-◌, ◌*◌, ◌≤◌, ◌<◌}
 use native.Mathlib.Omega.{arith}
 use lib.Dec.{eqb}
 use lib.ListN.{length, drop, length-append, length-take, length-drop}
-use borrow.Author.Tests.{eqb-true, eqb-false, eq-eqb, ne_eqb}
+use borrow.Author.Tests.{eqb-true, eqb-false, eq-eqb}
 use Rattle.definition.specs.Chars.{part}
 use Rattle.definition.specs.Records.{Record}
 use Rattle.definition_replay.specs.Integers.{Integer, Form, written}
-use Rattle.definition_replay.specs.Trace.{taken, more_of, comma, other, row_of}
-use Rattle.definition_replay.specs.Trace as Trace
+use Rattle.definition_replay.specs.Trace.{taken, more_of, row_of}
 use Rattle.definition_replay.specs.Replay.{Made, made, stopped, followed, Part, stands, column, items_from, form_made, fields_past, parts_from, field_count, row_line, in_range, all_in_range}
 use Rattle.definition.proofs.Moves.CharLaws.{cases, no}
 use Rattle.definition_replay_laws.proofs.Trace.TraceByNumber.{numbers_n, row_by_number}
 use Rattle.definition_replay_laws.proofs.Replay.ReplayFirst.{items_none}
 use Rattle.buffers.specs.Over.{over}
-use Rattle.buffers.proofs.Over.{over_append}
-use Rattle.traces.specs.Cells.{more, ended_with, cell_of, fit_cell, integer, says_cell, check_of}
+use Rattle.buffers.proofs.Over.{over_nil, over_append}
+use Rattle.traces.specs.declared.Ends.{Ends}
+use Rattle.traces.specs.declared.Ends.TheVariants.{Nothing, Comma, Row}
+use Rattle.traces.specs.Cells.{says_behind, more, ended_with, cell_of, fit_cell, integer, says_cell, check_of}
 use Rattle.formats.specs.declared.Form as formats
-use Rattle.formats.specs.Parts.{FormIs, written_as, written_part, written_by}
-use Rattle.formats.proofs.Telling.{written_by_lem}
+use Rattle.formats.specs.Parts.{FormIs, written_with, written_as, written_part, written_by}
+use Rattle.formats.specs.declared.FormError.{FormError}
+use Rattle.formats.proofs.Telling.{written_by_lem, written_none}
 use Rattle.templates.specs.declared.Place.{Place}
 use Rattle.trace_lines.specs.declared.Step.{Step}
 use Rattle.templates.specs.Walk.{Stand, PlaceIs}
@@ -31,23 +33,55 @@ use Rattle.trace_lines.specs.Lines.{Writes, FieldIs, RowIs, LineIs}
 use Rattle.templates.proofs.Items.{is_text_lem, is_field_lem, is_refused, part_at, View, view_at, parts_step}
 use Rattle.trace_lines.proofs.Scanned.{onto, onto_none, onto_more, onto_last, numbers_more, numbers_last, fit_more, fit_last, all_more, zero_taken, refused_cell, too_many}
 
+-- BY WHAT ENDS a column
+by_comma : {P : Type 0} (e : Ends) → (e ≡ Comma → P) → ((e ≡ Comma → ⊥) → P) → P
+by_comma Nothing f g = g (λ z. cc)
+by_comma Comma f g = f refl
+by_comma Row f g = g (λ z. cc)
+
+row_left : (e : Ends) → (e ≡ Nothing → ⊥) → (e ≡ Comma → ⊥) → e ≡ Row
+row_left Nothing n m = absurd (n refl)
+row_left Comma n m = absurd (m refl)
+row_left Row n m = refl
+
 -- A FIELD
-pub field_read : (spec trace : List ℕ) (ends at : ℕ) (out : List ℕ) (used : ℕ) (e : ℕ) (negative : Bool) (size next : ℕ)
-    → (says_cell trace e negative size next ≡ fit_cell (cell_of (drop at trace))) × ((e ≡ 0 → ⊥) → at < next) × (next ≤ length trace)
-    → (form : formats.Form) → FormIs spec form → {out' : List ℕ} {used' : ℕ} → Writes (written_as spec form (integer negative size)) out used out' used' → ends ≡ 1
+pub field_read : (spec trace : List ℕ) (ends : Ends) (at : ℕ) (out : List ℕ) (used : ℕ) (e : Ends) (negative : Bool) (size next : ℕ)
+    → (says_cell trace e negative size next ≡ fit_cell (cell_of (drop at trace))) × ((e ≡ Nothing → ⊥) → at < next) × (next ≤ length trace)
+    → {out' : List ℕ} {used' : ℕ} → Writes (written_by spec (integer negative size)) out used out' used' → ends ≡ Comma
     → FieldIs spec trace ends at out used out' used' e next
-field_read spec trace ends at out used e negative size next c form f w o =
+field_read spec trace ends at out used e negative size next c w o =
     record {
       value = integer negative size;
       cell = λ n. c.0;
-      writes = λ n. rw (written_by_lem spec form negative size f) at w;
+      writes = λ n. w;
       shut = λ n. absurd (n o);
       goes = c.1;
     }
 
-pub field_shut : (spec trace : List ℕ) (ends at : ℕ) (out : List ℕ) (used : ℕ) (out' : List ℕ) (used' next : ℕ) → (ends ≡ 1 → ⊥) → FieldIs spec trace ends at out used out' used' 0 next
+pub field_shut : (spec trace : List ℕ) (ends : Ends) (at : ℕ) (out : List ℕ) (used : ℕ) (out' : List ℕ) (used' next : ℕ) → (ends ≡ Comma → ⊥) → FieldIs spec trace ends at out used out' used' Nothing next
 field_shut spec trace ends at out used out' used' next n =
     record { value = integer false 0; cell = λ o. absurd (n o); writes = λ o. absurd (n o); shut = λ o. refl; goes = λ z. absurd (z refl) }
+
+-- an integer written by a spec's form, or by none
+pub written_formed : {spec : List ℕ} {r : Result formats.Form FormError} {form : formats.Form} → FormIs spec r → r ≡ Ok form → (negative : Bool) (size : ℕ) (out : List ℕ) {out' : List ℕ} {used : ℕ}
+    → (used ≡ length (written_with spec form (integer negative size))) × (out' ≡ over out 0 (written_with spec form (integer negative size))) × (used ≤ 325)
+    → Writes (written_by spec (integer negative size)) out 0 out' used × (used ≤ 325)
+written_formed {spec} {r} {form} f e negative size out w =
+    let g = subst (FormIs spec) e f in
+    let b = written_by_lem spec form negative size g in
+    let k = w.0 in
+    let l = ap length b in
+    ((omega arith, w.1 ∙ ap (over out 0) b), w.2)
+
+pub written_result : (spec : List ℕ) (r : Result formats.Form FormError) → FormIs spec r → (negative : Bool) (size : ℕ) (out : List ℕ) {out' : List ℕ} {used : ℕ}
+    → (used ≡ length (written_as spec r (integer negative size))) × (out' ≡ over out 0 (written_as spec r (integer negative size))) × (used ≤ 325)
+    → Writes (written_by spec (integer negative size)) out 0 out' used × (used ≤ 325)
+written_result spec (Ok form) f negative size out w = written_formed f refl negative size out w
+written_result spec (Err e) f negative size out w =
+    let b = written_none spec (integer negative size) f in
+    let k = w.0 in
+    let l = ap length b in
+    ((omega arith, w.1 ∙ ap (over out 0) b), w.2)
 
 form_written : (spec : List ℕ) (f : Form) (v : Integer) → form_made 0 0 spec ≡ made (column f) → written_by spec v ≡ written f v
 unfolding written_by written_part
@@ -91,38 +125,38 @@ module _ (words : List ℕ) (count : ℕ) (text trace : List ℕ) (out₀ : List
     pub same : row_of (drop row trace) ≡ onto done (numbers_n (suc fuel) (drop next trace))
 
   -- of the template's parts those to come, and the row's columns so far
-  pub record Line-to (ps₀ : List Part) (out : List ℕ) (used i at ends next : ℕ) : Type 0 where
+  pub record Line-to (ps₀ : List Part) (out : List ℕ) (used i at : ℕ) (ends : Ends) (next : ℕ) : Type 0 where
     pub rest : List Record
     pub parts : List Part
     pub k : ℕ
     pub stand : Stand words count (length text) i at rest
     pub are : parts_from text k (items_from 0 rest) ≡ made parts
     pub done : List Integer
-    pub open_so : ends ≡ 1 → Open-at done next
-    pub shut_so : (ends ≡ 1 → ⊥) → row_of (drop row trace) ≡ taken done (drop next trace)
+    pub open_so : ends ≡ Comma → Open-at done next
+    pub shut_so : (ends ≡ Comma → ⊥) → row_of (drop row trace) ≡ taken done (drop next trace)
     pub fits : all_in_range done ≡ true
     pub counts : length done + field_count parts ≡ field_count ps₀
     pub wrote : (vs : List Integer) → over out used (row_line parts vs) ≡ over out₀ from (row_line ps₀ (done ++ vs))
     pub size : (vs : List Integer) → used + length (row_line parts vs) ≡ from + length (row_line ps₀ (done ++ vs))
 
-  abbrev Premised : (out : List ℕ) (used i at ends next : ℕ) → Type 0
+  abbrev Premised : (out : List ℕ) (used i at : ℕ) (ends : Ends) (next : ℕ) → Type 0
   Premised out used i at ends next =
       (rs : List Record) (ps : List Part) → Stand words count (length text) 0 0 rs → parts_from text 0 (items_from 0 rs) ≡ made ps → Line-to ps out used i at ends next
 
-  pub record Line-at (out : List ℕ) (used i at ends next : ℕ) : Type 0 where
+  pub record Line-at (out : List ℕ) (used i at : ℕ) (ends : Ends) (next : ℕ) : Type 0 where
     pub goes : Premised out used i at ends next
     pub before_end : i ≤ count
     pub within : at ≤ length text
     pub inside : next ≤ length trace
-    pub moved : (ends ≡ 1 → ⊥) → row < next
+    pub moved : (ends ≡ Comma → ⊥) → row < next
     pub begun : row ≤ next
-    pub some : ends ≡ 0 → ⊥
+    pub some : ends ≡ Nothing → ⊥
     pub few : used ≤ from + at + 325 * i
 
   abbrev Refused : Type 0
   Refused = (rs : List Record) (ps : List Part) → Stand words count (length text) 0 0 rs → parts_from text 0 (items_from 0 rs) ≡ made ps → check_of (field_count ps) (row_of (drop row trace)) ≡ 0 → ⊥
 
-  pub line_start : row ≤ length trace → Line-at out₀ from 0 0 1 row
+  pub line_start : row ≤ length trace → Line-at out₀ from 0 0 Comma row
   line_start h =
       let l = length-drop row trace in
       record {
@@ -146,14 +180,14 @@ module _ (words : List ℕ) (count : ℕ) (text trace : List ℕ) (out₀ : List
         inside = h;
         moved = λ n. absurd (n refl);
         begun = omega arith;
-        some = λ e. omega arith;
+        some = λ e. cc;
         few = omega arith;
       }
 
-  module _ (out : List ℕ) (used i at ends next : ℕ) (w : Line-at out used i at ends next) where
+  module _ (out : List ℕ) (used i at : ℕ) (ends : Ends) (next : ℕ) (w : Line-at out used i at ends next) where
     -- one item more
     module _ (l : i < count) (r : Step) (q : StepIs words count text i at r)
-        {out' : List ℕ} {used' ends' next' : ℕ}
+        {out' : List ℕ} {used' : ℕ} {ends' : Ends} {next' : ℕ}
         (y : ((r.item.kind ≡ 2 → ⊥) → Writes (part text at r.item.own) out used out' used' × (ends' ≡ ends) × (next' ≡ next))
         × (r.item.kind ≡ 2 → FieldIs (part text r.item.own r.item.to) trace ends next out used out' used' ends' next')
         × (used' ≤ used + length (part text at r.item.own) + 325)
@@ -207,35 +241,33 @@ module _ (words : List ℕ) (count : ℕ) (text trace : List ℕ) (out₀ : List
             fields_are = sym (ap (λ o. length x.done + field_count o) e) ∙ x.counts
 
             -- the column refuses the row
-            column_refuses : ends' ≡ 0 → check_of (field_count ps₀) (row_of (drop row trace)) ≡ 0 → ⊥
+            column_refuses : ends' ≡ Nothing → check_of (field_count ps₀) (row_of (drop row trace)) ≡ 0 → ⊥
             unfolding ended_with
             column_refuses z h =
-                cases (eqb ends 1)
-                (λ a.
-                let d = eqb-true ends 1 a in
+                by_comma ends
+                (λ d.
                 let o = x.open_so d in
                 refused_cell (field_count ps₀) x.done o.fuel (drop next trace)
-                (sym (ap (λ c. ended_with v (if c then other else if eqb ends' 1 then comma (drop next' trace) else Trace.ends (drop next' trace))) (eq-eqb ends' 0 z)) ∙ put.cell d)
+                (sym (ap (λ c. ended_with v (says_behind trace c next')) z) ∙ put.cell d)
                 (ap (check_of (field_count ps₀)) (sym o.same) ∙ h))
-                (λ a.
-                let k = (zero_taken (field_count ps₀) x.done (drop next trace) (ap (check_of (field_count ps₀)) (sym (x.shut_so (eqb-false ends 1 a))) ∙ h)).0 in
+                (λ d.
+                let k = (zero_taken (field_count ps₀) x.done (drop next trace) (ap (check_of (field_count ps₀)) (sym (x.shut_so d)) ∙ h)).0 in
                 let c = fields_are in
                 absurd (omega arith))
 
             -- or it is one more
-            module _ (n : ends' ≡ 0 → ⊥) where
-              opened : ends ≡ 1
-              opened = cases (eqb ends 1) (λ a. eqb-true ends 1 a) (λ a. absurd (n (put.shut (eqb-false ends 1 a))))
+            module _ (n : ends' ≡ Nothing → ⊥) where
+              opened : ends ≡ Comma
+              opened = by_comma ends (λ d. d) (λ d. absurd (n (put.shut d)))
 
               abbrev o : Open-at x.done next
               o = x.open_so opened
 
-              cell_is : (c : Bool) → eqb ends' 1 ≡ c → ended_with v (if c then comma (drop next' trace) else Trace.ends (drop next' trace)) ≡ fit_cell (cell_of (drop next trace))
-              unfolding ended_with
-              cell_is c a = sym (λ j. ended_with v (if ne_eqb ends' 0 n j then other else if a j then comma (drop next' trace) else Trace.ends (drop next' trace))) ∙ put.cell opened
+              cell_is : (e : Ends) → ends' ≡ e → ended_with v (says_behind trace e next') ≡ fit_cell (cell_of (drop next trace))
+              cell_is e a = sym (ap (λ c. ended_with v (says_behind trace c next')) a) ∙ put.cell opened
 
               abbrev Columns : Type 0
-              Columns = (in_range v ≡ true) × (ends' ≡ 1 → Open-at (x.done ++ (v ∷ [])) next') × ((ends' ≡ 1 → ⊥) → row_of (drop row trace) ≡ taken (x.done ++ (v ∷ [])) (drop next' trace))
+              Columns = (in_range v ≡ true) × (ends' ≡ Comma → Open-at (x.done ++ (v ∷ [])) next') × ((ends' ≡ Comma → ⊥) → row_of (drop row trace) ≡ taken (x.done ++ (v ∷ [])) (drop next' trace))
 
               more_fuel : (n' : ℕ) → o.fuel ≡ n' → cell_of (drop next trace) ≡ more v (drop next' trace) → Open-at (x.done ++ (v ∷ [])) next'
               more_fuel zero a c = let u = o.enough in let t = put.goes n in let s = y.3 in absurd (omega arith)
@@ -253,14 +285,14 @@ module _ (words : List ℕ) (count : ℕ) (text trace : List ℕ) (out₀ : List
               columns : Columns
               unfolding ended_with
               columns =
-                  cases (eqb ends' 1)
+                  by_comma ends'
                   (λ a.
-                  let c = fit_more (cell_of (drop next trace)) v (drop next' trace) (cell_is true a) in
-                  (c.1, (λ d. more_fuel o.fuel refl c.0), (λ d. absurd (d (eqb-true ends' 1 a)))))
+                  let c = fit_more (cell_of (drop next trace)) v (drop next' trace) (cell_is Comma a) in
+                  (c.1, (λ d. more_fuel o.fuel refl c.0), (λ d. absurd (d a))))
                   (λ a.
-                  let c = fit_last (cell_of (drop next trace)) v (drop next' trace) (cell_is false a) in (
+                  let c = fit_last (cell_of (drop next trace)) v (drop next' trace) (cell_is Row (row_left ends' n a)) in (
                     c.1,
-                    (λ d. absurd (eqb-false ends' 1 a d)),
+                    (λ d. absurd (a d)),
                     (λ d. o.same ∙ ap (onto x.done) (numbers_last o.fuel (drop next trace) v (drop next' trace) c.0) ∙ onto_last x.done v (drop next' trace)),
                   ))
 
@@ -289,7 +321,7 @@ module _ (words : List ℕ) (count : ℕ) (text trace : List ℕ) (out₀ : List
           not_made : {P : Type 0} (m : ℕ) → part_at text at p x.k ≡ stopped m x.k → P
           not_made m f = let z : ◌≡◌ {A = Made Part} (made both.one) (stopped m x.k) = sym both.is_one ∙ f in let c : ◌≡◌ {A = ℕ} 0 1 = cc in absurd (omega arith)
 
-          one_more_lem : (ends' ≡ 0 → ⊥) → Line-to ps₀ out' used' p.next p.to ends' next'
+          one_more_lem : (ends' ≡ Nothing → ⊥) → Line-to ps₀ out' used' p.next p.to ends' next'
           one_more_lem n = go (view_at text at p)
             where
               go : View text at p → Line-to ps₀ out' used' p.next p.to ends' next'
@@ -297,7 +329,7 @@ module _ (words : List ℕ) (count : ℕ) (text trace : List ℕ) (out₀ : List
               go (is_field_lem b g d f) = by_field g b d (part_is (f x.k)) n
               go (is_refused b m h f) = not_made m (f x.k)
 
-          no_more : ends' ≡ 0 → check_of (field_count ps₀) (row_of (drop row trace)) ≡ 0 → ⊥
+          no_more : ends' ≡ Nothing → check_of (field_count ps₀) (row_of (drop row trace)) ≡ 0 → ⊥
           no_more z h = go (view_at text at p)
             where
               go : View text at p → ⊥
@@ -305,10 +337,10 @@ module _ (words : List ℕ) (count : ℕ) (text trace : List ℕ) (out₀ : List
               go (is_field_lem b g d f) = column_refuses g b d (part_is (f x.k)) z h
               go (is_refused b m k f) = not_made m (f x.k)
 
-        pub line_refused : ends' ≡ 0 → Refused
+        pub line_refused : ends' ≡ Nothing → Refused
         line_refused z rs ps s e = no_more ps (w.goes rs ps s e) z
 
-        pub line_next : (ends' ≡ 0 → ⊥) → Line-at out' used' p.next p.to ends' next'
+        pub line_next : (ends' ≡ Nothing → ⊥) → Line-at out' used' p.next p.to ends' next'
         line_next n =
             let f = w.few in
             let g = y.2 in
@@ -327,7 +359,7 @@ module _ (words : List ℕ) (count : ℕ) (text trace : List ℕ) (out₀ : List
               few = omega arith;
             }
           where
-            moves : ((ends' ≡ 1 → ⊥) → row < next') × (row ≤ next')
+            moves : ((ends' ≡ Comma → ⊥) → row < next') × (row ≤ next')
             moves =
                 cases (eqb p.kind 2) (λ b. let d = (y.1 (eqb-true p.kind 2 b)).goes n in let m = w.begun in ((λ f. omega arith), omega arith))
                 (λ b.
@@ -348,7 +380,7 @@ module _ (words : List ℕ) (count : ℕ) (text trace : List ℕ) (out₀ : List
               cc
           by-rest (q ∷ l) d = let m = x.stand.whole in let n = ap length d in absurd (omega arith)
 
-      line_open : ends ≡ 1 → Refused
+      line_open : ends ≡ Comma → Refused
       unfolding field_count
       line_open z rs ps s e c =
           let x = w.goes rs ps s e in
@@ -356,7 +388,7 @@ module _ (words : List ℕ) (count : ℕ) (text trace : List ℕ) (out₀ : List
           let n : length x.done ≡ field_count ps = (let k : length x.done + 0 ≡ field_count ps = sym (ap (λ q. length x.done + field_count q) (none_left ps x)) ∙ x.counts in omega arith) in
           too_many x.done o.fuel (drop next trace) (ap₂ check_of n (sym o.same) ∙ c)
 
-      line_fine : {out' : List ℕ} → out' ≡ over out used (10 ∷ []) → (ends ≡ 1 → ⊥) → (rs : List Record) (ps : List Part) → Stand words count (length text) 0 0 rs
+      line_fine : {out' : List ℕ} → out' ≡ over out used (10 ∷ []) → (ends ≡ Comma → ⊥) → (rs : List Record) (ps : List Part) → Stand words count (length text) 0 0 rs
           → parts_from text 0 (items_from 0 rs) ≡ made ps → RowIs ps trace row out₀ from out' (used + 1) next
       unfolding row_line field_count
       line_fine f z rs ps s e =
@@ -373,9 +405,8 @@ module _ (words : List ℕ) (count : ℕ) (text trace : List ℕ) (out₀ : List
             writes = (a, f ∙ b);
           }
 
-      pub line_end_lem : {out' : List ℕ} → out' ≡ over out used (10 ∷ [])
-          → LineIs words count text trace row out₀ from out' (used + 1) next (not (eqb ends 1)) × (not (eqb ends 1) ≡ true → row < next) × (next ≤ length trace)
-      line_end_lem f =
-          cases (eqb ends 1)
-          (λ a. rw a ((λ rs ps s e. ((λ z. no z), (λ z. line_open (eqb-true ends 1 a) rs ps s e))), (λ z. no z), w.inside))
-          (λ a. rw a ((λ rs ps s e. ((λ z. line_fine f (eqb-false ends 1 a) rs ps s e), (λ z. no (sym z)))), (λ z. w.moved (eqb-false ends 1 a)), w.inside))
+      pub line_none : ends ≡ Comma → (out' : List ℕ) → LineIs words count text trace row out₀ from out' None
+      line_none z out' = line_open z
+
+      pub line_some : {out' : List ℕ} → out' ≡ over out used (10 ∷ []) → (ends ≡ Comma → ⊥) → LineIs words count text trace row out₀ from out' (Some (record { used = used + 1; next = next }))
+      line_some f z = (line_fine f z, w.moved z, w.inside)

@@ -1,5 +1,5 @@
 -- What is written of an item, of a row and of all rows, and what is told of a trace.
-use Rattle.std.specs.Prelude.{ℕ, ◌+◌, ◌≤◌, ◌<◌, min, ◌≡◌, Bool, true, false, List, ltb, length, drop, if◌then◌else◌}
+use Rattle.std.specs.Prelude.{ℕ, ◌+◌, ◌≤◌, ◌<◌, min, ◌≡◌, true, List, ltb, length, drop, if◌then◌else◌, Option, Some, None, Result, Ok, Err}
 use Rattle.definition.specs.Numbers.{too_little_line_room}
 use Rattle.definition.specs.Records.{Record}
 use Rattle.definition.specs.Reading.{in_front, zeros}
@@ -10,19 +10,23 @@ use Rattle.traces.specs.Cells.{says_behind, ended_with, cell_of, fit_cell, check
 use Rattle.formats.specs.Parts.{written_by}
 use Rattle.buffers.specs.Over.{over}
 use Rattle.templates.specs.Walk.{Stand}
-use Rattle.trace_lines.specs.declared.Told.{Told}
+use Rattle.traces.specs.declared.Ends.{Ends}
+use Rattle.traces.specs.declared.Ends.TheVariants.{Nothing, Comma}
+use Rattle.trace_lines.specs.declared.Line.{Line}
+use Rattle.trace_lines.specs.declared.Written.{Written}
+use Rattle.trace_lines.specs.declared.Stopped.{Stopped}
 
 -- some bytes written from an index on: where they end, and the buffer afterwards
 abbrev pub Writes : (bytes out : List ℕ) (used : ℕ) (out' : List ℕ) (used' : ℕ) → Type 0
 Writes bytes out used out' used' = (used' ≡ used + length bytes) × (out' ≡ over out used bytes)
 
 -- a field: the column is read and written by the spec, if a row's column may stand there
-pub record FieldIs (spec trace : List ℕ) (ends at : ℕ) (out : List ℕ) (used : ℕ) (out' : List ℕ) (used' ends' next : ℕ) : Type 0 where
+pub record FieldIs (spec trace : List ℕ) (ends : Ends) (at : ℕ) (out : List ℕ) (used : ℕ) (out' : List ℕ) (used' : ℕ) (ends' : Ends) (next : ℕ) : Type 0 where
   pub value : Integer
-  pub cell : ends ≡ 1 → ended_with value (says_behind trace ends' next) ≡ fit_cell (cell_of (drop at trace))
-  pub writes : ends ≡ 1 → Writes (written_by spec value) out used out' used'
-  pub shut : (ends ≡ 1 → ⊥) → ends' ≡ 0
-  pub goes : (ends' ≡ 0 → ⊥) → at < next
+  pub cell : ends ≡ Comma → ended_with value (says_behind trace ends' next) ≡ fit_cell (cell_of (drop at trace))
+  pub writes : ends ≡ Comma → Writes (written_by spec value) out used out' used'
+  pub shut : (ends ≡ Comma → ⊥) → ends' ≡ Nothing
+  pub goes : (ends' ≡ Nothing → ⊥) → at < next
 
 -- a row that is not refused, and its line
 pub record RowIs (ps : List Part) (trace : List ℕ) (row : ℕ) (out : List ℕ) (used : ℕ) (out' : List ℕ) (used' next : ℕ) : Type 0 where
@@ -33,10 +37,13 @@ pub record RowIs (ps : List Part) (trace : List ℕ) (row : ℕ) (out : List ℕ
   pub writes : Writes (row_line ps values) out used out' used'
 
 -- a row's line by the template's parts, or none as it is refused
-abbrev pub LineIs : (words : List ℕ) (count : ℕ) (text trace : List ℕ) (row : ℕ) (out : List ℕ) (used : ℕ) (out' : List ℕ) (used' next : ℕ) (fine : Bool) → Type 0
-LineIs words count text trace row out used out' used' next fine =
-    (rs : List Record) (ps : List Part) → Stand words count (length text) 0 0 rs → parts_from text 0 (items_from 0 rs) ≡ made ps
-    → (fine ≡ true → RowIs ps trace row out used out' used' next) × (fine ≡ false → check_of (field_count ps) (row_of (drop row trace)) ≡ 0 → ⊥)
+abbrev pub LineIs : (words : List ℕ) (count : ℕ) (text trace : List ℕ) (row : ℕ) (out : List ℕ) (used : ℕ) (out' : List ℕ) → Option Line → Type 0
+LineIs words count text trace row out used out' (Some l) =
+    ((rs : List Record) (ps : List Part) → Stand words count (length text) 0 0 rs → parts_from text 0 (items_from 0 rs) ≡ made ps → RowIs ps trace row out used out' l.used l.next)
+    × (row < l.next)
+    × (l.next ≤ length trace)
+LineIs words count text trace row out used out' None =
+    (rs : List Record) (ps : List Part) → Stand words count (length text) 0 0 rs → parts_from text 0 (items_from 0 rs) ≡ made ps → check_of (field_count ps) (row_of (drop row trace)) ≡ 0 → ⊥
 
 -- lines that were written, unless they are more than numbers tell
 abbrev pub Wrote : (ls : List (List ℕ)) (out out' : List ℕ) (used : ℕ) → Type 0
@@ -63,22 +70,19 @@ lines_in room (made ls) =
     if ltb (min room most_bytes) n then stopped too_little_line_room (min n most_bytes) else made ls
 
 -- lines that were written
-pub record WroteAll (o : Made (List (List ℕ))) (out out' : List ℕ) (r : Told) : Type 0 where
+pub record WroteAll (o : Made (List (List ℕ))) (out out' : List ℕ) (r : Written) : Type 0 where
   pub lines : List (List ℕ)
   pub are : lines_in (length out) o ≡ made lines
-  pub none_told : r.told ≡ 0
   pub rows : r.rows ≡ length lines
   pub bytes : r.bytes ≡ length (concat lines)
   pub output : out' ≡ in_front (concat lines) out
 
 -- a refusal, which leaves zeros
-pub record Refused (o : Made (List (List ℕ))) (out out' : List ℕ) (r : Told) : Type 0 where
+pub record Refused (o : Made (List (List ℕ))) (out out' : List ℕ) (r : Stopped) : Type 0 where
   pub are : lines_in (length out) o ≡ stopped r.number r.told
-  pub rows : r.rows ≡ 0
-  pub bytes : r.bytes ≡ 0
   pub output : out' ≡ zeros out
 
--- one of the two, by the number
-pub record ToldIs (o : Made (List (List ℕ))) (out out' : List ℕ) (r : Told) : Type 0 where
-  pub fine : r.number ≡ 0 → WroteAll o out out' r
-  pub refused : (r.number ≡ 0 → ⊥) → Refused o out out' r
+-- one of the two
+abbrev pub ToldIs : (o : Made (List (List ℕ))) (out out' : List ℕ) → Result Written Stopped → Type 0
+ToldIs o out out' (Ok r) = WroteAll o out out' r
+ToldIs o out out' (Err r) = Refused o out out' r

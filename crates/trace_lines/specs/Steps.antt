@@ -1,8 +1,9 @@
 -- The steps of a line: an item and the form of its spec, in sixteen numbers and back.
-use Rattle.std.specs.Prelude.{ℕ, ◌+◌, ◌*◌, ◌%◌, ◌≤◌, ◌<◌, ◌≡◌, not, List, [], ◌∷◌, eqb, length, if◌then◌else◌}
+use Rattle.std.specs.Prelude.{ℕ, ◌+◌, ◌*◌, ◌%◌, ◌≤◌, ◌<◌, ◌≡◌, not, List, [], ◌∷◌, eqb, length, if◌then◌else◌, Ok}
 use Rattle.definition.specs.Chars.{part}
 use Rattle.definition.specs.Records.{Record}
 use Rattle.definition.specs.Words.{word}
+use Rattle.formats.specs.declared.Form.{Form}
 use Rattle.formats.specs.Parts.{FormIs}
 use Rattle.templates.specs.Walk.{Stand, PlaceIs}
 use Rattle.trace_lines.specs.declared.Step.{Step}
@@ -20,12 +21,12 @@ pub record StepIs (words : List ℕ) (count : ℕ) (text : List ℕ) (i at : ℕ
   pub form : FormIs (part text r.item.own r.item.to) r.form
 
 -- A STEP IN SIXTEEN NUMBERS, and back
-abbrev pub step_numbers : Step → List ℕ
-step_numbers r =
+abbrev pub step_numbers : Step → Form → List ℕ
+step_numbers r f =
     r.first ∷ r.at
     ∷ r.item.kind ∷ r.item.mode ∷ r.item.own ∷ (if r.item.nested then 1 else 0) ∷ r.item.to ∷ r.item.next
-    ∷ r.form.fill ∷ r.form.pad
-    ∷ r.form.shape.align ∷ r.form.shape.sign ∷ (if r.form.shape.alternate then 1 else 0) ∷ r.form.shape.width ∷ r.form.shape.grouping ∷ r.form.shape.kind ∷ []
+    ∷ f.fill ∷ f.pad
+    ∷ f.shape.align ∷ f.shape.sign ∷ (if f.shape.alternate then 1 else 0) ∷ f.shape.width ∷ f.shape.grouping ∷ f.shape.kind ∷ []
 
 abbrev pub held_step : List ℕ → Step
 held_step w =
@@ -33,8 +34,7 @@ held_step w =
       first = word w 0;
       at = word w 1;
       item = record { kind = word w 2; mode = word w 3; own = word w 4; nested = not (eqb (word w 5) 0); to = word w 6; next = word w 7 };
-      form = record {
-        number = 0;
+      form = Ok (record {
         fill = word w 8;
         pad = word w 9 % 256;
         shape = record {
@@ -45,7 +45,7 @@ held_step w =
           grouping = word w 14 % 256;
           kind = word w 15 % 256;
         };
-      };
+      });
     }
 
 -- so many steps are held, each by itself a step at its record's number

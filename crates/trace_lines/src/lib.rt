@@ -1,39 +1,34 @@
 // The lines of a trace's rows by a template that lies in words and text: what is written of each row, then byte 10, and what refuses a row.
 #![tactic(auto)]
 
-ghost use Rattle.std.specs.Prelude.{◌≡◌, true, ◌+◌, ◌*◌, ◌<◌, ◌≤◌, min, length, take, replicate, if◌then◌else◌};
+ghost use Rattle.std.specs.Prelude.{◌≡◌, ◌+◌, ◌*◌, ◌<◌, ◌≤◌, min, Ok, length, take, replicate};
 ghost use Rattle.definition_replay.specs.Replay.{lines_of};
-ghost use Rattle.formats.specs.Parts.{FormIs};
+ghost use Rattle.formats.specs.Parts.{FormIs, written_by};
+ghost use Rattle.integers.specs.Written.{integer};
 ghost use Rattle.buffers.specs.Over.{over};
 ghost use Rattle.templates.specs.Walk.{parts_laid, Sized};
+ghost use Rattle.traces.specs.Cells.{told_of_row};
 ghost use Rattle.trace_lines.specs.Steps.{StepIs, step_numbers, held_step, Held};
 ghost use Rattle.trace_lines.specs.Lines.{Writes, FieldIs, LineIs, LinesAre, ToldIs};
 
+use formats::{Form, FormError};
+use numbering::{Number, RecordKind};
 use templates::Place;
-use traces::number_of;
+use traces::{Ends, RowError, number_of};
 
-const FIELD: u32 = 2;
-
-const TOO_LITTLE_LINE_ROOM: u32 = 73;
+const FIELD: u32 = RecordKind::Field as u32;
 
 const MOST_BYTES: usize = 0xFFFFFFFF;
 
 const HELD_STEPS: usize = 32;
 
-// The lesser of two numbers.
-fn least(a: usize, b: usize) -> usize
-    ensures { result ≡ min a b }
-{
-    if a <= b { a } else { b }
-}
-
-// A step of a line: its record's number and where its text begins, the item, and the form of its spec.
+// A step of a line: its record's number and where its text begins, the item, and the form of its spec, if it has one.
 #[derive(Clone, Copy)]
 pub(crate) struct Step {
     first: usize,
     at: usize,
     item: Place,
-    form: formats::Form,
+    form: Result<Form, FormError>,
 }
 
 // The step at a record's number, whose text begins at a place.
@@ -41,70 +36,48 @@ fn find_step(words: &[u32], count: usize, text: &[u8], i: usize, at: usize) -> S
     requires { Sized words.now count × (i < count) × (at ≤ length text.now) }
     ensures { StepIs words.now count text.now i at result }
 {
-    let item = templates::find_place(words, count as u32, text, i, at);
-    let own = item.own;
-    let to = item.to;
-    let form = formats::read_form(&text[own..to]);
+    let Some(item) = templates::find_place(words, count as u32, text, i, at) else {
+        unreachable!();
+    };
     Step {
         first: i,
-        at: at,
-        item: item,
-        form: form,
+        at,
+        item,
+        form: formats::read_form(&text[item.own..item.to]),
     }
 }
 
-// 1 for what holds.
-fn flag(b: bool) -> u32
-    ensures { result ≡ (if b then 1 else 0) }
+// Writes a step that has a form into its sixteen numbers.
+fn hold_step(held: &mut [u32], k: usize, step: Step, form: Form)
+    requires { (k < 32) × (step.form ≡ Ok form) × (step.first ≤ 0xFFFFFFFF) × (step.at ≤ 0xFFFFFFFF) × (step.item.own ≤ 0xFFFFFFFF) × (step.item.to ≤ 0xFFFFFFFF) × (step.item.next ≤ 0xFFFFFFFF) × (form.fill ≤ 4) × (form.shape.width ≤ 64) }
+    ensures { (held.new ≡ over held.old (k * 16) (step_numbers step form)) × (held_step (step_numbers step form) ≡ step) }
 {
-    if b {
-        return 1;
-    }
-    0
-}
-
-// Writes numbers from an index on.
-fn put_numbers(held: &mut [u32], from: usize, numbers: &[u32])
-    requires { from + length numbers.now ≤ 0x1000 }
-    ensures { held.new ≡ over held.old from numbers.now }
-{
-    let mut k: usize = 0;
-    while k < numbers.len() {
-        let number = numbers[k];
-        buffers::put_word(held, from + k, number);
-        k = k + 1;
-    }
-}
-
-// Writes a step that is not refused into its sixteen numbers.
-fn hold_step(held: &mut [u32], k: usize, step: Step)
-    requires { (k < 32) × (step.form.number ≡ 0) × (step.first ≤ 0xFFFFFFFF) × (step.at ≤ 0xFFFFFFFF) × (step.item.own ≤ 0xFFFFFFFF) × (step.item.to ≤ 0xFFFFFFFF) × (step.item.next ≤ 0xFFFFFFFF) × (step.form.fill ≤ 4) × (step.form.shape.width ≤ 64) }
-    ensures { (held.new ≡ over held.old (k * 16) (step_numbers step)) × (held_step (step_numbers step) ≡ step) }
-{
-    let item = step.item;
-    let form = step.form;
+    let Step {
+        first,
+        at,
+        item,
+        ..
+    } = step;
     let shape = form.shape;
-    let nested = flag(item.nested);
-    let alternate = flag(shape.alternate);
     let numbers = [
-        step.first as u32,
-        step.at as u32,
+        first as u32,
+        at as u32,
         item.kind,
         item.mode,
         item.own as u32,
-        nested,
+        u32::from(item.nested),
         item.to as u32,
         item.next as u32,
         form.fill as u32,
-        form.pad as u32,
-        shape.align as u32,
-        shape.sign as u32,
-        alternate,
+        u32::from(form.pad),
+        u32::from(shape.align),
+        u32::from(shape.sign),
+        u32::from(shape.alternate),
         shape.width as u32,
-        shape.grouping as u32,
-        shape.kind as u32,
+        u32::from(shape.grouping),
+        u32::from(shape.kind),
     ];
-    put_numbers(held, k * 16, &numbers);
+    buffers::put_group(held, k, numbers);
 }
 
 // The step of sixteen numbers.
@@ -128,17 +101,16 @@ fn held_step(numbers: &[u32]) -> Step
         grouping: (numbers[14] % 256) as u8,
         kind: (numbers[15] % 256) as u8,
     };
-    let form = formats::Form {
-        number: 0,
+    let form = Form {
         fill: numbers[8] as usize,
         pad: (numbers[9] % 256) as u8,
-        shape: shape,
+        shape,
     };
     Step {
         first: numbers[0] as usize,
         at: numbers[1] as usize,
-        item: item,
-        form: form,
+        item,
+        form: Ok(form),
     }
 }
 
@@ -150,16 +122,17 @@ fn hold_steps(held: &mut [u32], words: &[u32], count: usize, text: &[u8]) -> usi
     let mut k: usize = 0;
     let mut i: usize = 0;
     let mut at: usize = 0;
+    // A step is an item of some records.
     while i < count {
         if HELD_STEPS <= k {
             return k;
         }
         let step = find_step(words, count, text, i, at);
-        if step.form.number != 0 {
+        let Ok(form) = step.form else {
             return k;
-        }
-        hold_step(held, k, step);
-        k = k + 1;
+        };
+        hold_step(held, k, step, form);
+        k += 1;
         i = step.item.next;
         at = step.item.to;
     }
@@ -186,22 +159,32 @@ fn step_at(
     let from = k * 16;
     let to = from + 16;
     let step = held_step(&held[from..to]);
-    if step.first != i {
-        return find_step(words, count, text, i, at);
-    }
-    if step.at != at {
+    if step.first != i || step.at != at {
         return find_step(words, count, text, i, at);
     }
     step
 }
 
-// What was written: where it ends; what stands behind the row's columns so far, 0 if one is refused, 1 for a comma, else the row's end; and where
-// the next column or row begins.
+// What was written: where it ends; what stands behind the row's columns so far, nothing if one is refused; and where the next column or row begins.
 #[derive(Clone, Copy)]
 pub(crate) struct Put {
     used: usize,
-    ends: u8,
+    ends: Ends,
     next: usize,
+}
+
+// Writes an integer by a spec's form from the front on, nothing where it has none; says how many bytes it has, at most 325.
+fn write_formed(
+    out: &mut [u8],
+    spec: &[u8],
+    form: Result<Form, FormError>,
+    negative: bool,
+    size: u32,
+) -> usize
+    requires { FormIs spec.now form }
+    ensures { Writes (written_by spec.now (integer negative size)) out.old 0 out.new result × (result ≤ 325) }
+{
+    formats::write_by(out, spec, form, negative, size)
 }
 
 // Writes an item of a row from the used length on: text as it stands; of a field the column at a place, if a comma or nothing stands before it, by
@@ -212,9 +195,9 @@ fn put_item(
     kind: u32,
     own: &[u8],
     spec: &[u8],
-    form: formats::Form,
+    form: Result<Form, FormError>,
     trace: &[u8],
-    ends: u8,
+    ends: Ends,
     at: usize,
 ) -> Put
     requires { (used ≤ 0x100000000000) × (length own.now ≤ 0xFFFFFFFF) × (at ≤ length trace.now) × FormIs spec.now form }
@@ -224,20 +207,20 @@ fn put_item(
         buffers::add_run(out, used, own);
         return Put {
             used: used + own.len(),
-            ends: ends,
+            ends,
             next: at,
         };
     }
-    if ends != 1 {
+    let Ends::Comma = ends else {
         return Put {
-            used: used,
-            ends: 0,
+            used,
+            ends: Ends::Nothing,
             next: at,
         };
-    }
+    };
     let column = traces::read_column(trace, at);
-    let from = least(used, out.len());
-    let size = formats::write_by(&mut out[from..], spec, form, column.negative, column.size);
+    let from = used.min(out.len());
+    let size = write_formed(&mut out[from..], spec, form, column.negative, column.size);
     Put {
         used: used + size,
         ends: column.ends,
@@ -245,15 +228,14 @@ fn put_item(
     }
 }
 
-// A row's line: whether the row is not refused; where the line ends, and where the next row begins.
+// A row's line: where it ends, and where the next row begins.
 #[derive(Clone, Copy)]
 pub(crate) struct Line {
-    fine: bool,
     used: usize,
     next: usize,
 }
 
-// Writes the line of the row at a place from the used length on, up to the first column that refuses it.
+// Writes the line of the row at a place from the used length on, up to the first column that refuses it; none then.
 fn write_line(
     out: &mut [u8],
     from: usize,
@@ -264,60 +246,68 @@ fn write_line(
     text: &[u8],
     trace: &[u8],
     row: usize,
-) -> Line
+) -> Option<Line>
     requires { Held held.now words.now count text.now steps × Sized words.now count × (length text.now ≤ 0xFFFFFFFF) × (from ≤ 0x100000000) × (row ≤ length trace.now) }
-    ensures { LineIs words.now count text.now trace.now row out.old from out.new result.used result.next result.fine × (result.fine ≡ true → row < result.next) × (result.next ≤ length trace.now) }
+    ensures { LineIs words.now count text.now trace.now row out.old from out.new result }
 {
     let mut used = from;
     let mut k: usize = 0;
     let mut i: usize = 0;
     let mut at: usize = 0;
-    let mut ends: u8 = 1;
+    let mut ends = Ends::Comma;
     let mut next = row;
+    // A step is an item of some records.
     while i < count {
         let step = step_at(held, steps, k, words, count, text, i, at);
         let item = step.item;
-        let own = item.own;
-        let to = item.to;
         let put = put_item(
             out,
             used,
             item.kind,
-            &text[at..own],
-            &text[own..to],
+            &text[at..item.own],
+            &text[item.own..item.to],
             step.form,
             trace,
             ends,
             next,
         );
-        if put.ends == 0 {
-            return Line {
-                fine: false,
-                used: used,
-                next: next,
-            };
+        if let Ends::Nothing = put.ends {
+            return None;
         }
         used = put.used;
         ends = put.ends;
         next = put.next;
-        k = k + 1;
+        k += 1;
         i = item.next;
-        at = to;
+        at = item.to;
     }
-    buffers::put(out, used, 10);
-    Line {
-        fine: ends != 1,
-        used: used + 1,
-        next: next,
+    buffers::put(out, used, b'\n');
+    match ends {
+        Ends::Comma => None,
+        _ => Some(Line {
+            used: used + 1,
+            next,
+        }),
     }
 }
 
-// The lines of rows: 0, how many there are and where they end; or the number of a refusal and the row that is refused, from 0.
+// The lines of rows: 0, how many there are and where they end; or the number of a refusal and the row that is refused, from 0. A number and no
+// `Result`, since of words that hold no template a row without a line may have no refusal.
 #[derive(Clone, Copy)]
 pub(crate) struct Rows {
     number: u32,
     row: usize,
     used: usize,
+}
+
+// The number of a row's refusal; 0 for none.
+fn row_number(refusal: Result<(), RowError>) -> u32
+    ensures { result ≡ told_of_row refusal }
+{
+    match refusal {
+        Ok(()) => 0,
+        Err(e) => u32::from(e),
+    }
 }
 
 // Writes the lines of a trace's rows from the front on, up to the first row that is refused. Where they end is told up to all numbers and one more.
@@ -337,25 +327,24 @@ fn write_lines(
     let mut used: usize = 0;
     let mut next: usize = 0;
     let mut row: usize = 0;
+    // A step is a row.
     while next < trace.len() {
-        let from = least(used, MOST_BYTES + 1);
-        let line = write_line(out, from, held, steps, words, count, text, trace, next);
-        if !line.fine {
-            let number = traces::check_row(trace, next, fields);
+        let from = used.min(MOST_BYTES + 1);
+        let Some(line) = write_line(out, from, held, steps, words, count, text, trace, next) else {
             return Rows {
-                number: number,
-                row: row,
+                number: row_number(traces::check_row(trace, next, fields)),
+                row,
                 used: 0,
             };
-        }
+        };
         used = line.used;
         next = line.next;
-        row = row + 1;
+        row += 1;
     }
     Rows {
         number: 0,
-        row: row,
-        used: used,
+        row,
+        used,
     }
 }
 
@@ -371,59 +360,64 @@ fn write_rows(
     requires { Sized words.now count × (length text.now ≤ 0xFFFFFFFF) }
     ensures { LinesAre words.now count text.now trace.now fields out.old out.new result.number result.row result.used }
 {
+    // Fixed memory, since nothing is allocated; numbers, since an array of structs is copied for each row.
     let mut held = [0u32; 512];
     let steps = hold_steps(&mut held, words, count, text);
     write_lines(out, &held, steps, words, count, text, trace, fields)
 }
 
-// What is told of a trace: 0, how many rows it has, and how many bytes their lines; or a refusal of 68 to 73, and the field or the row, from 0, or the
-// bytes that are needed; at most 4,294,967,295.
+// What is told of lines that were written: how many rows there are, and how many bytes their lines have; at most 4,294,967,295.
 #[derive(Clone, Copy)]
-pub struct Told {
-    pub number: u32,
-    pub told: u32,
+pub struct Written {
     pub rows: u32,
     pub bytes: u32,
 }
 
+// A refusal of 68 to 73, and the field or the row, from 0, or the bytes that are needed; at most 4,294,967,295.
+#[derive(Clone, Copy)]
+pub struct Stopped {
+    pub number: u32,
+    pub told: u32,
+}
+
 // A refusal, which leaves zeros.
-fn refuse(out: &mut [u8], number: u32, told: usize) -> Told
-    ensures { (result ≡ record { number = number; told = min told 0xFFFFFFFF; rows = 0; bytes = 0 }) × (out.new ≡ replicate (length out.old) 0) }
+fn refuse(out: &mut [u8], number: u32, told: usize) -> Stopped
+    ensures { (result ≡ record { number = number; told = min told 0xFFFFFFFF }) × (out.new ≡ replicate (length out.old) 0) }
 {
     buffers::fill(out, 0);
-    Told {
-        number: number,
+    Stopped {
+        number,
         told: number_of(told),
-        rows: 0,
-        bytes: 0,
     }
 }
 
 // Writes the lines of a trace's rows by a template of so many records, or refuses it or a row.
-fn write_checked(out: &mut [u8], words: &[u32], count: usize, text: &[u8], trace: &[u8]) -> Told
+fn write_checked(
+    out: &mut [u8],
+    words: &[u32],
+    count: usize,
+    text: &[u8],
+    trace: &[u8],
+) -> Result<Written, Stopped>
     requires { Sized words.now count × (length text.now ≤ 0xFFFFFFFF) }
     ensures { ToldIs (lines_of (parts_laid words.now count text.now) trace.now) out.old out.new result }
 {
-    let template = templates::check_template(words, count as u32, text);
-    if template.number != 0 {
-        return refuse(out, template.number, template.told);
-    }
-    let lines = write_rows(out, words, count, text, trace, template.told);
+    let fields = match templates::check_template(words, count as u32, text) {
+        Ok(fields) => fields,
+        Err(refused) => return Err(refuse(out, u32::from(refused.why), refused.field)),
+    };
+    let lines = write_rows(out, words, count, text, trace, fields);
     if lines.number != 0 {
-        return refuse(out, lines.number, lines.row);
+        return Err(refuse(out, lines.number, lines.row));
     }
     let room = number_of(out.len()) as usize;
     if room < lines.used {
-        return refuse(out, TOO_LITTLE_LINE_ROOM, lines.used);
+        return Err(refuse(out, Number::TooLittleLineRoom as u32, lines.used));
     }
-    let rows = number_of(lines.row);
-    let bytes = number_of(lines.used);
-    Told {
-        number: 0,
-        told: 0,
-        rows: rows,
-        bytes: bytes,
-    }
+    Ok(Written {
+        rows: number_of(lines.row),
+        bytes: number_of(lines.used),
+    })
 }
 
 // Writes a line for each row of a trace by the template that lies in words and text, at most so many records and text bytes.
@@ -434,10 +428,10 @@ pub fn write_trace(
     text: &[u8],
     size: u32,
     trace: &[u8],
-) -> Told
+) -> Result<Written, Stopped>
     ensures { ToldIs (lines_of (parts_laid words.now count (take size text.now)) trace.now) out.old out.new result }
 {
     let most = templates::records_in(words, count);
-    let end = least(size as usize, text.len());
+    let end = (size as usize).min(text.len());
     write_checked(out, words, most, &text[..end], trace)
 }

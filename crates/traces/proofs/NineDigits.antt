@@ -1,5 +1,4 @@
 -- A column of nine digits at most. Assumes nothing.
-use Rattle.std.specs.Prelude.{if◌then◌else◌}
 use mathlib.Core.Path.{◌≡◌, refl, sym, ◌∙◌, ap}
 use mathlib.Core.Bool.{Bool, true, false, ◌&&◌, not}
 use mathlib.Core.List.{List}
@@ -7,16 +6,18 @@ use Prim.Native.Nat.{ℕ, zero, suc, ◌+◌, ◌-◌, ◌*◌, ◌^◌, ◌≤�
 use native.Mathlib.Omega.{arith}
 use lib.Dec.{eqb, leb, ltb}
 use lib.ListN.{length, get_or, drop}
-use borrow.Author.Tests.{ne_eqb, eqb-true, eqb-false, le-leb, leb-true, leb-false, ltb-true, ltb-false}
-use Rattle.definition_replay.specs.Spec.{is_digit, first, past, front, behind}
+use borrow.Author.Tests.{eqb-true, eqb-false, le-leb, leb-true, leb-false, ltb-true, ltb-false}
+use Rattle.definition_replay.specs.Spec.{is_digit, front, behind}
 use Rattle.definition_replay.specs.SpecNumbers.{told_of}
 use Rattle.definition_replay.specs.Replay.{in_range}
-use Rattle.definition_replay.specs.Trace.{comma, ends, other, behind_column}
-use Rattle.definition.proofs.Moves.CharLaws.{cases, no}
+use Rattle.definition_replay.specs.Trace.{behind_column}
+use Rattle.definition.proofs.Moves.CharLaws.{cases}
 use Rattle.digits.specs.Told.{more_value}
 use Rattle.digits.proofs.Digits.{Valued, told_some, valued_low, valued_high, valued_end}
-use Rattle.traces.specs.Cells.{Cell, wrong, more, last, ended_with, cell_of, fit_cell, integer, ended_by, says_cell}
-use Rattle.traces.proofs.Reading.{skip_not, column_bare, behind_other}
+use Rattle.traces.specs.declared.Ends.{Ends}
+use Rattle.traces.specs.declared.Ends.TheVariants.{Nothing, Comma, Row}
+use Rattle.traces.specs.Cells.{Skips, wrong, ended_with, cell_of, fit_cell, integer, ended_by, says_cell}
+use Rattle.traces.proofs.Reading.{is_quote, skip_not, column_bare, behind_other}
 use Rattle.traces.proofs.Scanning.{fit_clip, fit_ended}
 
 -- THE VALUE of so many digits is below their power of ten
@@ -43,23 +44,14 @@ unfolding more_value
 value_more value b h k = omega arith
 
 -- WHERE A COLUMN ENDS there is no digit
-says_not : (s : List ℕ) (e : ℕ) (negative : Bool) (size next : ℕ) → says_cell s e negative size next ≡ wrong → (e ≡ 0 → ⊥) → ⊥
+says_not : (s : List ℕ) (e : Ends) (negative : Bool) (size next : ℕ) → says_cell s e negative size next ≡ wrong → (e ≡ Nothing → ⊥) → ⊥
 unfolding ended_with
-says_not s e negative size next q n =
-    cases (eqb e 1)
-    (λ f. unlike (more (integer negative size) (drop next s)) (sym (λ j. ended_with (integer negative size) (if ne_eqb e 0 n j then other else if f j then comma (drop next s) else ends (drop next s))) ∙ q) refl)
-    (λ f. unlike (last (integer negative size) (drop next s)) (sym (λ j. ended_with (integer negative size) (if ne_eqb e 0 n j then other else if f j then comma (drop next s) else ends (drop next s))) ∙ q) refl)
-  where
-    good : Cell → Bool
-    good wrong = false
-    good (more v u) = true
-    good (last v u) = true
+says_not s Nothing negative size next q n = n refl
+says_not s Comma negative size next q n = cc
+says_not s Row negative size next q n = cc
 
-    unlike : (x : Cell) → x ≡ wrong → good x ≡ true → ⊥
-    unlike x p g = no (sym (ap good p) ∙ g)
-
-module _ (s : List ℕ) (at value i : ℕ) (v : Valued s at value i) (h : i ≤ length s) (e : ℕ) (negative : Bool) (size to : ℕ) (minus : Bool)
-    (x : says_cell s e negative size to ≡ ended_by minus value (behind_column (drop i s))) (n : e ≡ 0 → ⊥) (m : i ≡ at → ⊥)
+module _ (s : List ℕ) (at value i : ℕ) (v : Valued s at value i) (h : i ≤ length s) (e : Ends) (negative : Bool) (size to : ℕ) (minus : Bool)
+    (x : says_cell s e negative size to ≡ ended_by minus value (behind_column (drop i s))) (n : e ≡ Nothing → ⊥) (m : i ≡ at → ⊥)
   where
     no_digit : i < length s → 48 ≤ get_or s i 0 → get_or s i 0 ≤ 57 → ⊥
     unfolding ended_with
@@ -85,19 +77,19 @@ range_small true size h = le-leb size 0x80000000 (omega arith)
 range_small false size h = le-leb size 0x7FFFFFFF (omega arith)
 
 -- THE COLUMN
-abbrev Column : (s : List ℕ) (at ends : ℕ) (negative : Bool) (size next : ℕ) → Type 0
-Column s at e negative size next = (says_cell s e negative size next ≡ fit_cell (cell_of (drop at s))) × ((e ≡ 0 → ⊥) → at < next) × (next ≤ length s)
+abbrev Column : (s : List ℕ) (at : ℕ) → Ends → (negative : Bool) (size next : ℕ) → Type 0
+Column s at e negative size next = (says_cell s e negative size next ≡ fit_cell (cell_of (drop at s))) × ((e ≡ Nothing → ⊥) → at < next) × (next ≤ length s)
 
 pub column_short : (s : List ℕ) (at : ℕ) {start : ℕ} (value next : ℕ) → at < length s → (get_or s at 0 ≡ 34 → ⊥)
-    → (drop start s ≡ past "-" (drop at s)) × (eqb (first "-" (drop at s)) 0 ≡ eqb start at) × (at ≤ start) × (start ≤ length s)
+    → Skips "-" s at start
     → Valued s start value next → value < 1000000000 → next ≤ length s → (next ≡ start → ⊥)
-    → (negative : Bool) (size : ℕ) {e to : ℕ} → (says_cell s e negative size to ≡ ended_by (not (eqb start at) && not (eqb value 0)) value (behind_column (drop next s))) × (next ≤ to) × (to ≤ length s)
-    → (e ≡ 0 → ⊥) → Column s at e negative size to
+    → (negative : Bool) (size : ℕ) {e : Ends} {to : ℕ} → (says_cell s e negative size to ≡ ended_by (not (eqb start at) && not (eqb value 0)) value (behind_column (drop next s))) × (next ≤ to) × (to ≤ length s)
+    → (e ≡ Nothing → ⊥) → Column s at e negative size to
 column_short s at {start} value next h b m v small l n negative size {e} {to} x z =
     let k : value + 1 - 1 ≡ value = omega arith in
     let y : says_cell s e negative size to ≡ ended_by (not (eqb start at) && not (eqb (value + 1 - 1) 0)) (value + 1 - 1) (behind_column (drop next s))
     = x.0 ∙ (λ i. ended_by (not (eqb start at) && not (eqb (sym k i) 0)) (sym k i) (behind_column (drop next s))) in
     let d = short_number s start value next v l e negative size to (not (eqb start at) && not (eqb value 0)) x.0 z n in
-    let c = column_bare s at (skip_not "\"" 34 (λ q. refl) refl s at h b) m d (λ q. omega arith) refl negative size (y, x.1, x.2) in
+    let c = column_bare s at (skip_not is_quote s at h b) m d (λ q. omega arith) refl negative size (y, x.1, x.2) in
     let f = fit_ended (integer (not (eqb start at) && not (eqb value 0)) value) (behind_column (drop next s)) (range_small (not (eqb start at) && not (eqb value 0)) value small) in
     (x.0 ∙ sym f ∙ ap fit_cell (sym x.0 ∙ c.0) ∙ fit_clip (cell_of (drop at s)), c.1, c.2)

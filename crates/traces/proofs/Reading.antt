@@ -19,7 +19,9 @@ use Rattle.definition_replay_laws.proofs.Spec.SpecLaws.{is_some, front_behind}
 use Rattle.definition_replay_laws.proofs.Spec.SpecSteps.{first_there, first_not, first_end_lem}
 use Rattle.definition_replay_laws.proofs.Trace.TraceByNumber.{integer as made, number_of}
 use Rattle.definition_replay.specs.SpecNumbers.{told_of}
-use Rattle.traces.specs.Cells.{says_behind, wrong, ended_with, cell_of, clip, clip_cell, fit_cell, integer, ended_by, says_cell}
+use Rattle.traces.specs.declared.Ends.{Ends}
+use Rattle.traces.specs.declared.Ends.TheVariants.{Nothing}
+use Rattle.traces.specs.Cells.{IsOne, Skips, says_behind, wrong, ended_with, cell_of, clip, clip_cell, fit_cell, integer, ended_by, says_cell}
 
 -- WHAT STANDS BEHIND
 module _ (s : List ℕ) (at : ℕ) where
@@ -73,6 +75,9 @@ module _ (s : List ℕ) (at : ℕ) where
       behind_alone l = return_alone here uncomma ∙ ap (λ t. behind_column (here ∷ t)) (sym (drop_of_length-le s l)) ∙ ap behind_column (sym opened)
 
       module _ (g : at + 1 < length s) where
+        two : at + 2 ≡ at + 1 + 1
+        two = omega arith
+
         again : drop (at + 1) s ≡ byte s (at + 1) ∷ drop (at + 1 + 1) s
         again = drop-cons s (at + 1) 256 g ∙ ap (λ k. byte s (at + 1) ∷ drop k s) (sym (add-one (at + 1)))
 
@@ -82,42 +87,38 @@ module _ (s : List ℕ) (at : ℕ) where
             ∙ ap (λ t. behind_column (here ∷ t)) (sym again)
             ∙ ap behind_column (sym opened)
 
-        pub behind_line : get_or s at 0 ≡ 13 → get_or s (at + 1) 0 ≡ 10 → ends (drop (at + 1 + 1) s) ≡ behind_column (drop at s)
+        pub behind_line : get_or s at 0 ≡ 13 → get_or s (at + 1) 0 ≡ 10 → ends (drop (at + 2) s) ≡ behind_column (drop at s)
         behind_line e f =
-            return_line here (byte s (at + 1)) (drop (at + 1 + 1) s) uncomma (sym read ∙ e) (sym (byte_is s (at + 1) g) ∙ f)
+            ap (λ k. ends (drop k s)) two
+            ∙ return_line here (byte s (at + 1)) (drop (at + 1 + 1) s) uncomma (sym read ∙ e) (sym (byte_is s (at + 1) g) ∙ f)
             ∙ ap (λ t. behind_column (here ∷ t)) (sym again)
             ∙ ap behind_column (sym opened)
 
 -- A QUOTE OR A MINUS
-module _ (set : String) (n : ℕ) (one : (x : ℕ) → (x is set) ≡ eqb x n) (some : eqb n 0 ≡ false) (s : List ℕ) (at : ℕ) where
-  abbrev Skipped : ℕ → Type 0
-  Skipped r = (drop r s ≡ past set (drop at s)) × (eqb (first set (drop at s)) 0 ≡ eqb r at) × (at ≤ r) × (r ≤ length s)
-
-  pub skip_end : length s ≤ at → at ≤ length s → Skipped at
+module _ {set : String} {n : ℕ} (o : IsOne set n) (s : List ℕ) (at : ℕ) where
+  pub skip_end : length s ≤ at → at ≤ length s → Skips set s at at
   skip_end h k = let e = first_end_lem s at set h in (sym e.1, ap (λ x. eqb x 0) e.0 ∙ sym (eq-eqb at at refl), omega arith, k)
 
-  pub skip_not : at < length s → (get_or s at 0 ≡ n → ⊥) → Skipped at
+  pub skip_not : at < length s → (get_or s at 0 ≡ n → ⊥) → Skips set s at at
   skip_not h m =
       let b = byte_is s at h in
-      let e = first_not s at set h (one (byte s at) ∙ ne_eqb (byte s at) n (λ f. m (b ∙ f))) in
+      let e = first_not s at set h (o.one (byte s at) ∙ ne_eqb (byte s at) n (λ f. m (b ∙ f))) in
       (sym e.1, ap (λ x. eqb x 0) e.0 ∙ sym (eq-eqb at at refl), omega arith, omega arith)
 
-  pub skip_there : at < length s → get_or s at 0 ≡ n → Skipped (at + 1)
+  pub skip_there : at < length s → get_or s at 0 ≡ n → Skips set s at (at + 1)
   skip_there h m =
       let b = byte_is s at h in
       let f : byte s at ≡ n = sym b ∙ m in
-      let e = first_there s at set h (one (byte s at) ∙ eq-eqb (byte s at) n f) in
-      (sym e.1, ap (λ x. eqb x 0) (e.0 ∙ f) ∙ some ∙ sym (ne_eqb (at + 1) at (λ z. omega arith)), omega arith, omega arith)
+      let e = first_there s at set h (o.one (byte s at) ∙ eq-eqb (byte s at) n f) in
+      (sym e.1, ap (λ x. eqb x 0) (e.0 ∙ f) ∙ o.some ∙ sym (ne_eqb (at + 1) at (λ z. omega arith)), omega arith, omega arith)
 
-pub negative_not : (minus : Bool) (size : ℕ) → not minus ≡ true → false ≡ (minus && not (eqb size 0))
-negative_not true size e = cc
-negative_not false size e = refl
+pub is_quote : IsOne "\"" 34
+is_quote = record { one = λ x. refl; some = refl }
 
-pub negative_is : (minus : Bool) (size : ℕ) → not minus ≡ false → not (eqb size 0) ≡ (minus && not (eqb size 0))
-negative_is true size e = refl
-negative_is false size e = cc
+pub is_minus : IsOne "-" 45
+is_minus = record { one = λ x. refl; some = refl }
 
-pub column_ends : (s : List ℕ) (at : ℕ) (minus : Bool) (size kind next : ℕ) {negative : Bool} → negative ≡ (minus && not (eqb size 0)) → says_behind s kind next ≡ behind_column (drop at s)
+pub column_ends : (s : List ℕ) (at : ℕ) (minus : Bool) (size : ℕ) (kind : Ends) (next : ℕ) {negative : Bool} → negative ≡ (minus && not (eqb size 0)) → says_behind s kind next ≡ behind_column (drop at s)
     → says_cell s kind negative size next ≡ ended_by (minus && not (eqb size 0)) size (behind_column (drop at s))
 column_ends s at minus size kind next n b = λ i. ended_with (integer (n i) size) (b i)
 
@@ -128,7 +129,7 @@ clip_ended v (comma u) = refl
 clip_ended v (ends u) = refl
 clip_ended v other = refl
 
-wrong_says : (s : List ℕ) (negative : Bool) (size next : ℕ) → says_cell s 0 negative size next ≡ wrong
+wrong_says : (s : List ℕ) (negative : Bool) (size next : ℕ) → says_cell s Nothing negative size next ≡ wrong
 unfolding ended_with
 wrong_says s negative size next = refl
 
@@ -169,8 +170,8 @@ front_short t e n = go (front is_digit t) refl n
         absurd (omega arith)
 
 module _ (s : List ℕ) (at : ℕ) {from start told next : ℕ}
-    (q : (drop from s ≡ past "\"" (drop at s)) × (eqb (first "\"" (drop at s)) 0 ≡ eqb from at) × (at ≤ from) × (from ≤ length s))
-    (m : (drop start s ≡ past "-" (drop from s)) × (eqb (first "-" (drop from s)) 0 ≡ eqb start from) × (from ≤ start) × (start ≤ length s))
+    (q : Skips "\"" s at from)
+    (m : Skips "-" s from start)
     (d : (told ≡ told_of (front is_digit (drop start s))) × (drop next s ≡ behind is_digit (drop start s)) × (start ≤ next) × (start ≤ length s → next ≤ length s))
   where
     abbrev t : List ℕ
@@ -199,16 +200,16 @@ module _ (s : List ℕ) (at : ℕ) {from start told next : ℕ}
     unfolding cell_of
     cell_taken v u e = rw (e, cell_of)
 
-    abbrev Column : (ends : ℕ) (negative : Bool) (size next : ℕ) → Type 0
-    Column e negative size to = (says_cell s e negative size to ≡ clip_cell (cell_of (drop at s))) × ((e ≡ 0 → ⊥) → at < to) × (to ≤ length s)
+    abbrev Column : Ends → (negative : Bool) (size next : ℕ) → Type 0
+    Column e negative size to = (says_cell s e negative size to ≡ clip_cell (cell_of (drop at s))) × ((e ≡ Nothing → ⊥) → at < to) × (to ≤ length s)
 
-    none_read : number_of (drop at s) ≡ broken → Column 0 false 0 at
+    none_read : number_of (drop at s) ≡ broken → Column Nothing false 0 at
     none_read e =
         let k = q.2 in
         let l = q.3 in
         (wrong_says s false 0 at ∙ sym (ap clip_cell (cell_broken e) ∙ clip_wrong), (λ n. absurd (n refl)), omega arith)
 
-    pub column_none : told ≡ 0 → Column 0 false 0 at
+    pub column_none : told ≡ 0 → Column Nothing false 0 at
     unfolding number_of
     column_none e = none_read (rw (told_nothing ds told_is e))
 
@@ -239,7 +240,7 @@ module _ (s : List ℕ) (at : ℕ) {from start told next : ℕ}
         unfolding number_of
         bare = rw (sized.1, q.1 ∙ eq-eqb from at r)
 
-        pub column_bare : (negative : Bool) (size : ℕ) {e to : ℕ}
+        pub column_bare : (negative : Bool) (size : ℕ) {e : Ends} {to : ℕ}
             → (says_cell s e negative size to ≡ ended_by (not (eqb start from) && not (eqb (told - 1) 0)) (told - 1) (behind_column (drop next s))) × (next ≤ to) × (to ≤ length s)
             → Column e negative size to
         column_bare negative size x =
@@ -250,12 +251,12 @@ module _ (s : List ℕ) (at : ℕ) {from start told next : ℕ}
             (x.0 ∙ ap (λ u. ended_by (not (eqb start from) && not (eqb (told - 1) 0)) (told - 1) (behind_column u)) rest_is ∙ column_taken rest bare, (λ f. omega arith), x.2)
 
       module _ (r : from ≡ at → ⊥) {past' : ℕ}
-          (z : (drop past' s ≡ past "\"" (drop next s)) × (eqb (first "\"" (drop next s)) 0 ≡ eqb past' next) × (next ≤ past') × (past' ≤ length s))
+          (z : Skips "\"" s next past')
         where
           quote_is : (byte rest 0 is "\"") ≡ not (eqb past' next)
           quote_is = quote_there rest ∙ ap (λ x. not (eqb (first "\"" x) 0)) (sym rest_is) ∙ ap not z.1
 
-          pub column_unclosed : past' ≡ next → Column 0 false 0 at
+          pub column_unclosed : past' ≡ next → Column Nothing false 0 at
           unfolding number_of
           column_unclosed e = none_read (rw (sized.1, q.1 ∙ ne_eqb from at r, quote_is ∙ ap not (eq-eqb past' next e)))
 
@@ -264,7 +265,7 @@ module _ (s : List ℕ) (at : ℕ) {from start told next : ℕ}
             unfolding number_of
             quoted = rw (sized.1, q.1 ∙ ne_eqb from at r, quote_is ∙ ap not (ne_eqb past' next c))
 
-            pub column_quoted : (negative : Bool) (size : ℕ) {e to : ℕ}
+            pub column_quoted : (negative : Bool) (size : ℕ) {e : Ends} {to : ℕ}
                 → (says_cell s e negative size to ≡ ended_by (not (eqb start from) && not (eqb (told - 1) 0)) (told - 1) (behind_column (drop past' s))) × (past' ≤ to) × (to ≤ length s)
                 → Column e negative size to
             column_quoted negative size x =
@@ -285,6 +286,6 @@ pub cell_past : (s : List ℕ) (at : ℕ) → length s < at → cell_of (drop at
 unfolding cell_of number_of nothing front past
 cell_past s at h = let l : length s ≤ at = omega arith in rw (drop_of_length-le s l)
 
-pub column_past : (s : List ℕ) (at : ℕ) → length s < at → (says_cell s 0 false 0 (length s) ≡ fit_cell (cell_of (drop at s))) × ((◌≡◌ {A = ℕ} 0 0 → ⊥) → at < length s) × (length s ≤ length s)
+pub column_past : (s : List ℕ) (at : ℕ) → length s < at → (says_cell s Nothing false 0 (length s) ≡ fit_cell (cell_of (drop at s))) × ((◌≡◌ {A = Ends} Nothing Nothing → ⊥) → at < length s) × (length s ≤ length s)
 unfolding ended_with fit_cell
 column_past s at h = (rw (cell_past s at h), (λ n. absurd (n refl)), omega arith)

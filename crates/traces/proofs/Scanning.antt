@@ -1,11 +1,10 @@
 -- A row checked column by column. Assumes nothing.
-use Rattle.std.specs.Prelude.{if◌then◌else◌}
 use mathlib.Core.Path.{◌≡◌, refl, sym, ◌∙◌, ap, subst}
 use mathlib.Core.Bool.{Bool, true, false, ◌&&◌, not}
 use mathlib.Core.List.{List, [], ◌∷◌}
-use Prim.Native.Nat.{ℕ, zero, suc, ◌+◌, ◌-◌, ◌≤◌, ◌<◌, min}
+use Prim.Native.Nat.{ℕ, zero, suc, ◌+◌, ◌≤◌, ◌<◌, min}
 use native.Mathlib.Omega.{arith}
-use lib.Dec.{eqb, leb}
+use lib.Dec.{leb}
 use lib.ListN.{length, drop, length-drop}
 use borrow.Author.Tests.{ne_eqb, eq-eqb, le-leb, lt-leb, leb-true, leb-false, not-true, not-false}
 use Rattle.definition_replay.specs.Integers.{Integer}
@@ -13,6 +12,8 @@ use Rattle.definition_replay.specs.Trace.{Taken, taken, broken, more_of, Behind,
 use Rattle.definition_replay.specs.Replay.{in_range, all_in_range}
 use Rattle.definition.proofs.Moves.CharLaws.{cases}
 use Rattle.definition_replay_laws.proofs.Trace.TraceByNumber.{number_of, numbers_n, row_by_number}
+use Rattle.traces.specs.declared.Ends.{Ends}
+use Rattle.traces.specs.declared.Ends.TheVariants.{Nothing, Comma, Row}
 use Rattle.traces.specs.Cells.{says_behind, Cell, wrong, more, last, ended_with, cell_of, clip, clip_cell, fit_cell, integer, says_cell, verdict_of, check_of, scan_n}
 use Rattle.traces.proofs.Reading.{cell_past}
 
@@ -28,7 +29,7 @@ range_above size e = rw e
 pub both_yes : {a : Bool} (b : Bool) → a ≡ true → b ≡ (a && b)
 both_yes b e = rw e
 
-pub both_no : {a : Bool} (b : Bool) → a ≡ false → false ≡ (a && b)
+pub both_no : {a : Bool} (b : Bool) → a ≡ false → a ≡ (a && b)
 both_no b e = rw e
 
 module _ (fields count : ℕ) where
@@ -172,16 +173,20 @@ unfit_ended v (ends u) e = rw e
 unfit_ended v other e = refl
 
 -- what was read at an index
-abbrev Column : (Cell → Cell) → (s : List ℕ) (at ends : ℕ) (negative : Bool) (size next : ℕ) → Type 0
-Column f s at e negative size next = (says_cell s e negative size next ≡ f (cell_of (drop at s))) × ((e ≡ 0 → ⊥) → at < next) × (next ≤ length s)
+abbrev Column : (Cell → Cell) → (s : List ℕ) (at : ℕ) → Ends → (negative : Bool) (size next : ℕ) → Type 0
+Column f s at e negative size next = (says_cell s e negative size next ≡ f (cell_of (drop at s))) × ((e ≡ Nothing → ⊥) → at < next) × (next ≤ length s)
 
-module _ (s : List ℕ) (at e : ℕ) (negative : Bool) (size next : ℕ) (c : Column clip_cell s at e negative size next) {fits : Bool} (g : fits ≡ in_range (integer negative size)) where
+module _ (s : List ℕ) (at : ℕ) (e : Ends) (negative : Bool) (size next : ℕ) (c : Column clip_cell s at e negative size next) {fits : Bool} (g : fits ≡ in_range (integer negative size)) where
   pub column_fits : not fits ≡ false → Column fit_cell s at e negative size next
   column_fits f = (sym (fit_ended (integer negative size) (says_behind s e next) (sym g ∙ not-false fits f)) ∙ ap fit_cell c.0 ∙ fit_clip (cell_of (drop at s)), c.1, c.2)
 
-  pub column_misfits : at ≤ length s → not fits ≡ true → Column fit_cell s at 0 false 0 at
+  pub column_misfits : at ≤ length s → not fits ≡ true → Column fit_cell s at Nothing false 0 at
   unfolding ended_with
   column_misfits h f = (sym (unfit_ended (integer negative size) (says_behind s e next) (sym g ∙ not-true fits f)) ∙ ap fit_cell c.0 ∙ fit_clip (cell_of (drop at s)), (λ n. absurd (n refl)), h)
+
+-- what is one thing is not another
+some_there : {e x : Ends} → e ≡ x → (x ≡ Nothing → ⊥) → e ≡ Nothing → ⊥
+some_there y n z = n (sym y ∙ z)
 
 -- THE LOOP
 pub record Scanning (s : List ℕ) (at fields i count : ℕ) (fits : Bool) : Type 0 where
@@ -199,29 +204,29 @@ module _ (s : List ℕ) (at fields i count : ℕ) (fits : Bool) (r : Scanning s 
   pub scan_out : length s < i → 70 ≡ check_of fields (row_of (drop at s))
   scan_out h = sym (scan_wrong fields r.fuel count fits (drop i s) (cell_past s i h)) ∙ r.same
 
-  module _ (e : ℕ) (negative : Bool) (size next : ℕ) (c : Column clip_cell s i e negative size next) where
-    pub scan_bad : e ≡ 0 → 70 ≡ check_of fields (row_of (drop at s))
+  module _ (e : Ends) (negative : Bool) (size next : ℕ) (c : Column clip_cell s i e negative size next) where
+    pub scan_bad : e ≡ Nothing → 70 ≡ check_of fields (row_of (drop at s))
     unfolding ended_with
     scan_bad z =
-        let k : cell_of (drop i s) ≡ wrong = known wrong (cell_of (drop i s)) (sym (ap (λ x. ended_with (integer negative size) (if x then other else if eqb e 1 then comma (drop next s) else ends (drop next s))) (eq-eqb e 0 z)) ∙ c.0) in
+        let k : cell_of (drop i s) ≡ wrong = known wrong (cell_of (drop i s)) (sym (ap (λ x. ended_with (integer negative size) (says_behind s x next)) z) ∙ c.0) in
         sym (scan_wrong fields r.fuel count fits (drop i s) k) ∙ r.same
 
-    module _ (z : e ≡ 0 → ⊥) {fit all : Bool} (g : fit ≡ in_range (integer negative size)) (a : all ≡ (fits && fit)) where
+    module _ {all : Bool} (a : all ≡ (fits && in_range (integer negative size))) where
       all_is : (v : Integer) → in_range (integer negative size) ≡ in_range v → all ≡ (fits && in_range v)
-      all_is v q = a ∙ ap (λ x. fits && x) (g ∙ q)
+      all_is v q = a ∙ ap (λ x. fits && x) q
 
-      pub scan_next : e ≡ 1 → Scanning s at fields next (count + 1) all
+      pub scan_next : e ≡ Comma → Scanning s at fields next (count + 1) all
       unfolding ended_with
       scan_next y =
           by-fuel r.fuel refl
           (known (more (integer negative size) (drop next s)) (cell_of (drop i s))
-          (sym (λ j. ended_with (integer negative size) (if ne_eqb e 0 z j then other else if eq-eqb e 1 y j then comma (drop next s) else ends (drop next s))) ∙ c.0))
+          (sym (ap (λ x. ended_with (integer negative size) (says_behind s x next)) y) ∙ c.0))
         where
           by-fuel : (n : ℕ) → r.fuel ≡ n → (v : Integer) × (cell_of (drop i s) ≡ more v (drop next s)) × (in_range (integer negative size) ≡ in_range v) → Scanning s at fields next (count + 1) all
-          by-fuel zero q k = let w = r.enough in let o = c.1 z in let l = c.2 in absurd (omega arith)
+          by-fuel zero q k = let w = r.enough in let o = c.1 (some_there y (λ q. cc)) in let l = c.2 in absurd (omega arith)
           by-fuel (suc n) q k =
               let w = r.enough in
-              let o = c.1 z in
+              let o = c.1 (some_there y (λ q. cc)) in
               let m = r.counted in
               record {
                 fuel = n;
@@ -233,11 +238,11 @@ module _ (s : List ℕ) (at fields i count : ℕ) (fits : Bool) (r : Scanning s 
                 counted = omega arith;
               }
 
-      pub scan_ends : {number : ℕ} → (e ≡ 1 → ⊥) → number ≡ verdict_of fields (count + 1) all → number ≡ check_of fields (row_of (drop at s))
+      pub scan_ends : {number : ℕ} → e ≡ Row → number ≡ verdict_of fields (count + 1) all → number ≡ check_of fields (row_of (drop at s))
       unfolding ended_with
       scan_ends y v =
           let k = known (last (integer negative size) (drop next s)) (cell_of (drop i s))
-          (sym (λ j. ended_with (integer negative size) (if ne_eqb e 0 z j then other else if ne_eqb e 1 y j then comma (drop next s) else ends (drop next s))) ∙ c.0) in
+          (sym (ap (λ x. ended_with (integer negative size) (says_behind s x next)) y) ∙ c.0) in
           v
           ∙ ap (verdict_of fields (count + 1)) (all_is k.0 k.2)
           ∙ sym (scan_last fields r.fuel count fits (drop i s) k.0 (drop next s) k.1)

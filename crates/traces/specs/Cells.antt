@@ -1,14 +1,36 @@
 -- Columns one at a time, in the definition's terms.
-use Rattle.std.specs.Prelude.{ℕ, zero, suc, ◌+◌, ◌-◌, min, Bool, true, false, ◌&&◌, not, List, [], ◌∷◌, eqb, length, drop, if◌then◌else◌}
+use Rattle.std.specs.Prelude.{◌≡◌, ℕ, zero, suc, ◌+◌, ◌≤◌, min, Bool, false, ◌&&◌, not, List, eqb, length, drop, if◌then◌else◌, Result, Ok, Err}
+use Prim.Native.String.{String}
+use Rattle.definition.specs.Chars.{◌is◌}
+use Rattle.definition_replay.specs.Spec.{first, past}
 use Rattle.definition.specs.Numbers.{row_malformed, wrong_columns, out_of_range}
 use Rattle.definition_replay.specs.Integers.{Integer}
 use Rattle.definition_replay.specs.Trace.{Taken, taken, broken, Behind, comma, ends, other, behind_column}
 use Rattle.definition_replay.specs.Replay.{in_range, all_in_range}
 use Rattle.definition_replay_laws.proofs.Trace.TraceByNumber.{number_of}
+use Rattle.traces.specs.declared.Ends.{Ends}
+use Rattle.traces.specs.declared.Ends.TheVariants.{Nothing, Comma, Row}
+use Rattle.traces.specs.declared.RowError.{RowError}
+use Rattle.traces.specs.declared.RowError.TheVariants.{RowMalformed, WrongColumns, OutOfRange}
 
 -- what the code says of what stands behind a column
-abbrev pub says_behind : List ℕ → (kind next : ℕ) → Behind
-says_behind s kind next = if eqb kind 0 then other else if eqb kind 1 then comma (drop next s) else ends (drop next s)
+abbrev pub says_behind : List ℕ → Ends → (next : ℕ) → Behind
+says_behind s Nothing next = other
+says_behind s Comma next = comma (drop next s)
+says_behind s Row next = ends (drop next s)
+
+-- a set of one character, by its code
+pub record IsOne (set : String) (b : ℕ) : Type 0 where
+  pub one : (x : ℕ) → (x is set) ≡ eqb x b
+  pub some : eqb b 0 ≡ false
+
+-- behind a character of a set, or there
+abbrev pub Skips : String → List ℕ → (at next : ℕ) → Type 0
+Skips set s at next = (drop next s ≡ past set (drop at s)) × (eqb (first set (drop at s)) 0 ≡ eqb next at) × (at ≤ next) × (next ≤ length s)
+
+-- behind a byte, or there: for each set that it alone is in
+abbrev pub SkipsByte : ℕ → List ℕ → (at next : ℕ) → Type 0
+SkipsByte b s at next = (set : String) → IsOne set b → Skips set s at next
 
 -- A COLUMN and what follows it: malformed, one more column, or the row's last one
 pub data Cell : Type 0 where
@@ -40,7 +62,7 @@ abbrev pub ended_by : (negative : Bool) (size : ℕ) → Behind → Cell
 ended_by negative size b = ended_with (integer negative size) b
 
 -- what the code says of a column
-abbrev pub says_cell : List ℕ → (ends : ℕ) (negative : Bool) (size next : ℕ) → Cell
+abbrev pub says_cell : List ℕ → Ends → (negative : Bool) (size next : ℕ) → Cell
 says_cell s e negative size next = ended_with (integer negative size) (says_behind s e next)
 
 -- a column whose number is not one of 32 bits is none
@@ -48,6 +70,16 @@ unfoldable pub fit_cell : Cell → Cell
 fit_cell wrong = wrong
 fit_cell (more v u) = if in_range v then more v u else wrong
 fit_cell (last v u) = if in_range v then last v u else wrong
+
+-- what refuses a row, as a number; 0 for nothing
+abbrev pub reason_of : RowError → ℕ
+reason_of RowMalformed = row_malformed
+reason_of WrongColumns = wrong_columns
+reason_of OutOfRange = out_of_range
+
+abbrev pub told_of_row : Result (Unit {0}) RowError → ℕ
+told_of_row (Ok u) = 0
+told_of_row (Err e) = reason_of e
 
 -- WHAT REFUSES A ROW with so many fields; 0 for nothing
 unfoldable pub verdict_of : (fields count : ℕ) (fits : Bool) → ℕ

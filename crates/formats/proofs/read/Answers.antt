@@ -1,4 +1,3 @@
-use borrow.Author.Rules.{rules}
 use Rattle.formats.proofs.Sets.{parts_are}
 use Rattle.formats.proofs.read.Goals as goal
 

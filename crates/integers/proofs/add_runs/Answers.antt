@@ -1,41 +1,25 @@
-use borrow.Author.Rules.{rules}
 use native.Mathlib.Omega.{arith}
-use mathlib.Core.Path.{◌≡◌, refl, ◌∙◌}
-use Prim.Native.Nat.{◌+◌, ◌-◌, ◌≤◌, ◌<◌}
+use mathlib.Core.Path.{◌∙◌}
+use Prim.Native.Nat.{◌+◌, ◌-◌, ◌<◌}
 use lib.ListN.{length}
-use Rattle.definition_replay.specs.Integers.{copies}
-use Rattle.buffers.specs.Over.{over}
 use Rattle.integers.proofs.Placed.{copies_next, copies_count, copies_none}
 use Rattle.integers.proofs.add_runs.Goals as goal
 
-pub loop-left-init : goal.loop-left-init
-loop-left-init c = (refl, refl, refl)
-
 pub overflow_add-at : goal.overflow_add-at
 overflow_add-at c =
-    let fill = c.args.fill.now in
-    let at = c.loop-left.at in
-    let left = c.loop-left.left in
-    let out = c.loop-left.out in
-    let h : 0 < left = search rules in
-    let e = copies_count out at fill left (left - 1) (at + length fill) h refl refl in
-    let v = c.loop-left.invariant.2 in
-    let m : at + length fill ≤ 0x4000000000000000 = omega arith in
-    search rules
+    let fill = c.args.fill.now in let at = c.loop.at in let left = c.args.count - c.loop.counter in
+    let h : 0 < left = omega arith in
+    let e = copies_count c.loop.out at fill left (left - 1) (at + length fill) h (omega arith) (omega arith) in
+    let v = c.loop.invariant.1 in
+    omega arith
 
-pub loop-left-preserved : goal.loop-left-preserved
-loop-left-preserved c =
-    let fill = c.args.fill.now in
-    let at = c.loop-left.at in
-    let left = c.loop-left.left in
-    let out = c.loop-left.out in
-    let h : 0 < left = search rules in
-    let e = copies_count out at fill left (left - 1) (at + length fill) h refl refl in
-    let v = c.loop-left.invariant.2 in
-    (search rules, copies_next out at fill left (left - 1) (at + length fill) h refl refl c.add_run.ensures ∙ c.loop-left.invariant.1, e ∙ v)
+pub loop-preserved : goal.loop-preserved
+loop-preserved c =
+    let fill = c.args.fill.now in let at = c.loop.at in let left = c.args.count - c.loop.counter in let less = c.args.count - (c.loop.counter + 1) in
+    let h : 0 < left = omega arith in
+    (copies_next c.loop.out at fill left less (at + length fill) h (omega arith) (omega arith) c.add_run.ensures ∙ c.loop.invariant.0, copies_count c.loop.out at fill left less (at + length fill) h (omega arith) (omega arith) ∙ c.loop.invariant.1)
 
 pub returns : goal.returns
 returns c =
-    let h : c.loop-left.left ≤ 0 = search rules in
-    let e = copies_none c.loop-left.out c.loop-left.at c.args.fill.now c.loop-left.left h in
-    (e.0 ∙ c.loop-left.invariant.2, e.1 ∙ c.loop-left.invariant.1)
+    let e = copies_none c.loop.out c.loop.at c.args.fill.now (c.args.count - c.loop.counter) (omega arith) in
+    (e.0 ∙ c.loop.invariant.1, e.1 ∙ c.loop.invariant.0)

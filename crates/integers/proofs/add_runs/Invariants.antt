@@ -1,15 +1,9 @@
-use borrow.Author.Rules.{rules}
-use native.Mathlib.Omega.{arith}
-use mathlib.Core.Path.{◌≡◌, refl, ◌∙◌}
-use Prim.Native.Nat.{◌+◌, ◌-◌, ◌≤◌, ◌<◌}
+use mathlib.Core.Path.{◌≡◌}
+use Prim.Native.Nat.{◌+◌, ◌-◌}
 use lib.ListN.{length}
 use Rattle.definition_replay.specs.Integers.{copies}
 use Rattle.buffers.specs.Over.{over}
-use Rattle.integers.proofs.Placed.{copies_next, copies_count, copies_none}
 use Rattle.integers.proofs.add_runs.Given as goal
 
-abbrev pub invariant-loop-left : goal.invariant-loop-left
-invariant-loop-left l = (length l.out ≡ length l.initial.out) × (over l.out l.at (copies l.left l.fill) ≡ over l.initial.out l.used (copies l.count l.fill)) × (l.at + length (copies l.left l.fill) ≡ l.used + length (copies l.count l.fill))
-
-abbrev pub decreases-loop-left : goal.decreases-loop-left
-decreases-loop-left l = l.left
+abbrev pub invariant-loop : goal.invariant-loop
+invariant-loop l = (over l.out l.at (copies (l.count - l.counter) l.fill) ≡ over l.initial.out l.used (copies l.count l.fill)) × (l.at + length (copies (l.count - l.counter) l.fill) ≡ l.used + length (copies l.count l.fill))

@@ -1,11 +1,7 @@
-use borrow.Author.Rules.{rules}
-use native.Mathlib.Omega.{arith}
-use mathlib.Core.Path.{◌≡◌, refl, sym, ◌∙◌, ap}
+use mathlib.Core.Path.{◌≡◌}
 use Prim.Native.Nat.{◌+◌, ◌≤◌}
 use lib.ListN.{length}
 use Rattle.definition_replay.specs.Integers.{digits}
-use Rattle.integers.proofs.Placed.{less}
-use Rattle.integers.proofs.Plain.{count_more, count_last}
 use Rattle.integers.proofs.count_figures.Given as goal
 
 abbrev pub invariant-loop-n : goal.invariant-loop-n

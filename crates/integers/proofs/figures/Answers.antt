@@ -1,11 +1,8 @@
 use borrow.Author.Rules.{rules}
 use native.Mathlib.Omega.{arith}
-use mathlib.Core.Path.{◌≡◌, refl, ◌∙◌, ap}
-use Prim.Native.Nat.{◌+◌, ◌*◌, ◌≤◌, ◌<◌}
-use lib.ListN.{length}
-use Rattle.definition_replay.specs.Integers.{digits, figure}
-use Rattle.buffers.specs.Over.{over}
-use Rattle.integers.specs.Written.{rest_of, comes_after}
+use mathlib.Core.Path.{refl, ◌∙◌, ap}
+use Prim.Native.Nat.{◌<◌}
+use Rattle.definition_replay.specs.Integers.{figure}
 use Rattle.integers.proofs.Placed.{more_two, less, digit, loop_step, loop_count, loop_end, come_step, come_end}
 use Rattle.integers.proofs.figures.Goals as goal
 
@@ -44,7 +41,7 @@ returns c =
     let p : 1 < base = search rules in
     let h : n < base = search rules in
     let m : number < 0x100000000 = search rules in
-    let put = c.put_figure-bytes.ensures in
+    let put = c.put_figure.ensures in
     let two = more_two c.args.grouping c.loop-n.come c.figure_of-fig-2.result in
     let e = loop_end base n p c.args.grouping c.args.size c.loop-n.come c.args.kind c.loop-n.out c.loop-n.at h c.figure_of-fig-2.ensures put.0 put.1 in
-    (e.0 ∙ c.loop-n.invariant.3, come_end base n p c.args.size c.loop-n.come h c.come_after-next.ensures ∙ c.loop-n.invariant.4, omega arith, e.1 ∙ c.loop-n.invariant.2)
+    (e.0 ∙ c.loop-n.invariant.3, come_end base n p c.args.size c.loop-n.come h c.come_after.ensures ∙ c.loop-n.invariant.4, omega arith, e.1 ∙ c.loop-n.invariant.2)

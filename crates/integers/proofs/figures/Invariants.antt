@@ -1,12 +1,9 @@
-use borrow.Author.Rules.{rules}
-use native.Mathlib.Omega.{arith}
-use mathlib.Core.Path.{◌≡◌, refl, ◌∙◌, ap}
-use Prim.Native.Nat.{◌+◌, ◌*◌, ◌≤◌, ◌<◌}
+use mathlib.Core.Path.{◌≡◌}
+use Prim.Native.Nat.{◌+◌, ◌*◌, ◌≤◌}
 use lib.ListN.{length}
-use Rattle.definition_replay.specs.Integers.{digits, figure}
+use Rattle.definition_replay.specs.Integers.{digits}
 use Rattle.buffers.specs.Over.{over}
 use Rattle.integers.specs.Written.{rest_of, comes_after}
-use Rattle.integers.proofs.Placed.{more_two, less, digit, loop_step, loop_count, loop_end, come_step, come_end}
 use Rattle.integers.proofs.figures.Given as goal
 
 abbrev pub invariant-loop-n : goal.invariant-loop-n

@@ -1,10 +1,9 @@
-use borrow.Author.Rules.{rules}
 use mathlib.Core.Path.{◌∙◌}
-use Rattle.integers.proofs.Joined.{not_true, not_false, least_none, least_some}
+use Rattle.integers.proofs.Joined.{least_none, least_some}
 use Rattle.integers.proofs.least_of.Goals as goal
 
-pub returns-then-not-pads : goal.returns-then-not-pads
-returns-then-not-pads c = least_none _ c.args.align c.args.width c.args.head c.zero_pads-pads.ensures (c.if-not-pads.true)
+pub returns-then-zero_pads : goal.returns-then-zero_pads
+returns-then-zero_pads c = c.saturating_sub.ensures ∙ least_some _ _ _ _ c.zero_pads.ensures c.if-zero_pads.true
 
-pub returns : goal.returns
-returns c = c.rest_of.ensures ∙ least_some _ c.args.align c.args.width c.args.head c.zero_pads-pads.ensures (c.if-not-pads.false)
+pub returns-else-zero_pads : goal.returns-else-zero_pads
+returns-else-zero_pads c = least_none _ _ _ _ c.zero_pads.ensures c.if-zero_pads.false

@@ -1,14 +1,12 @@
-use Rattle.integers.proofs.Joined.{left_less, left_inner, left_all, left_half}
+use native.Mathlib.Omega.{arith}
+use Rattle.integers.proofs.Joined.{left_low, left_all, left_half}
 use Rattle.integers.proofs.left_of.Goals as goal
 
-pub returns-then-align-eq60 : goal.returns-then-align-eq60
-returns-then-align-eq60 c = left_less c.args.align c.args.pad c.if-align-eq60.true
+pub returns-in-62 : goal.returns-in-62
+returns-in-62 c = left_all _ _ (λ e. omega arith) (λ e. omega arith) c.in-62.is
 
-pub returns-then-align-eq61 : goal.returns-then-align-eq61
-returns-then-align-eq61 c = left_inner c.args.align c.args.pad c.if-align-eq60.false c.if-align-eq61.true
+pub returns-in-60 : goal.returns-in-60
+returns-in-60 c = left_low _ _ (omega arith) (omega arith)
 
-pub returns-then-align-eq62 : goal.returns-then-align-eq62
-returns-then-align-eq62 c = left_all c.args.align c.args.pad c.if-align-eq60.false c.if-align-eq61.false c.if-align-eq62.true
-
-pub returns : goal.returns
-returns c = left_half c.args.align c.args.pad c.if-align-eq60.false c.if-align-eq61.false c.if-align-eq62.false
+pub returns-in_default : goal.returns-in_default
+returns-in_default c = left_half _ _ (λ e. omega arith) (λ e. omega arith) (λ e. omega arith)

@@ -1,11 +1,7 @@
 use borrow.Author.Rules.{rules}
 use native.Mathlib.Omega.{arith}
-use mathlib.Core.Path.{◌≡◌, refl, ◌∙◌, ap}
-use Prim.Native.Nat.{◌+◌, ◌*◌, ◌≤◌, ◌<◌}
-use lib.ListN.{length}
-use Rattle.definition_replay.specs.Integers.{digits, figure}
-use Rattle.buffers.specs.Over.{over}
-use Rattle.integers.specs.Written.{rest_of}
+use mathlib.Core.Path.{refl, ◌∙◌, ap}
+use Rattle.definition_replay.specs.Integers.{figure}
 use Rattle.integers.proofs.Placed.{less, digit, plain_step, plain_count, plain_end_lem}
 use Rattle.integers.proofs.plain_figures.Goals as goal
 

@@ -1,12 +1,9 @@
-use borrow.Author.Rules.{rules}
-use native.Mathlib.Omega.{arith}
-use mathlib.Core.Path.{◌≡◌, refl, ◌∙◌, ap}
-use Prim.Native.Nat.{◌+◌, ◌*◌, ◌≤◌, ◌<◌}
+use mathlib.Core.Path.{◌≡◌}
+use Prim.Native.Nat.{◌+◌, ◌≤◌}
 use lib.ListN.{length}
-use Rattle.definition_replay.specs.Integers.{digits, figure}
+use Rattle.definition_replay.specs.Integers.{digits}
 use Rattle.buffers.specs.Over.{over}
 use Rattle.integers.specs.Written.{rest_of}
-use Rattle.integers.proofs.Placed.{less, digit, plain_step, plain_count, plain_end_lem}
 use Rattle.integers.proofs.plain_figures.Given as goal
 
 abbrev pub invariant-loop-n : goal.invariant-loop-n

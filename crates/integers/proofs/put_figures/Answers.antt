@@ -1,12 +1,8 @@
 use borrow.Author.Rules.{rules}
 use native.Mathlib.Omega.{arith}
-use mathlib.Core.Path.{◌≡◌, refl, sym, ◌∙◌, ap}
-use Prim.Native.Nat.{◌+◌, ◌≤◌}
-use lib.ListN.{length}
-use Rattle.definition_replay.specs.Integers.{digits, figure}
-use Rattle.buffers.specs.Over.{over}
+use mathlib.Core.Path.{refl, sym, ◌∙◌, ap}
+use Rattle.definition_replay.specs.Integers.{figure}
 use Rattle.buffers.proofs.Over.{over_one}
-use Rattle.integers.specs.Written.{figures_of}
 use Rattle.integers.proofs.Placed.{less, digit}
 use Rattle.integers.proofs.Plain.{count_more, figures_some, figures_back, figures_first}
 use Rattle.integers.proofs.put_figures.Goals as goal
@@ -44,4 +40,4 @@ pub bounds-out-from : goal.bounds-out-from
 bounds-out-from c = let i = c.loop-n.invariant in let p = c.requires.3 in let s = figures_some c.args.base c.loop-n.n c.requires.0 in omega arith
 
 pub returns : goal.returns
-returns c = (refl, figures_first c.args.base c.loop-n.n c.requires.0 c.args.kind c.loop-n.out c.args.from c.loop-n-test.false c.figure_of-fig-2.ensures (sym (over_one _ _ _)) ∙ c.loop-n.invariant.2)
+returns c = (refl, figures_first c.args.base c.loop-n.n c.requires.0 c.args.kind c.loop-n.out c.args.from c.loop-n-test.false c.figure_of.ensures (sym (over_one _ _ _)) ∙ c.loop-n.invariant.2)

@@ -1,14 +1,9 @@
-use borrow.Author.Rules.{rules}
-use native.Mathlib.Omega.{arith}
-use mathlib.Core.Path.{◌≡◌, refl, sym, ◌∙◌, ap}
+use mathlib.Core.Path.{◌≡◌}
 use Prim.Native.Nat.{◌+◌, ◌≤◌}
 use lib.ListN.{length}
-use Rattle.definition_replay.specs.Integers.{digits, figure}
+use Rattle.definition_replay.specs.Integers.{digits}
 use Rattle.buffers.specs.Over.{over}
-use Rattle.buffers.proofs.Over.{over_one}
 use Rattle.integers.specs.Written.{figures_of}
-use Rattle.integers.proofs.Placed.{less, digit}
-use Rattle.integers.proofs.Plain.{count_more, figures_some, figures_back, figures_first}
 use Rattle.integers.proofs.put_figures.Given as goal
 
 abbrev pub invariant-loop-n : goal.invariant-loop-n

@@ -1,4 +1,3 @@
-use borrow.Author.Rules.{rules}
 use native.Mathlib.Omega.{arith}
 use Rattle.integers.proofs.Joined.{sign_short, head_of_lem}
 use Rattle.integers.proofs.put_head.Goals as goal

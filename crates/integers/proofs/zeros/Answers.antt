@@ -1,10 +1,7 @@
 use borrow.Author.Rules.{rules}
 use native.Mathlib.Omega.{arith}
-use mathlib.Core.Path.{◌≡◌, refl, ◌∙◌}
-use Prim.Native.Nat.{◌+◌, ◌-◌, ◌≤◌, ◌<◌}
-use lib.ListN.{length}
-use Rattle.buffers.specs.Over.{over}
-use Rattle.integers.specs.Written.{zeros_n}
+use mathlib.Core.Path.{refl, ◌∙◌}
+use Prim.Native.Nat.{◌≤◌, ◌<◌}
 use Rattle.integers.proofs.Placed.{more_some, more_two, zeros_step, zeros_count, zeros_end}
 use Rattle.integers.proofs.zeros.Goals as goal
 

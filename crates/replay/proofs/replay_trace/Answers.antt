@@ -1,4 +1,3 @@
-use borrow.Author.Rules.{rules}
 use Rattle.definition.specs.Escapes.{held_names}
 use Rattle.replay.proofs.Calls.{trace_refused, trace_room, trace_accepted}
 use Rattle.replay.proofs.replay_trace.Goals as goal

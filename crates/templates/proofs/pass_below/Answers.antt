@@ -1,7 +1,12 @@
 use native.Mathlib.Omega.{arith}
+use mathlib.Core.Path.{◌≡◌, ◌∙◌}
+use mathlib.Core.Bool.{◌||◌}
+use lib.Dec.{eqb}
+use Rattle.definition.specs.Words.{word}
 use Prim.Native.Nat.{◌+◌, ◌*◌}
-use Rattle.templates.proofs.Walking.{below_start, below_done, below_out, below_next}
+use Rattle.templates.proofs.Walking.{or_yes, or_no, below_start, below_done, below_out, below_next}
 use Rattle.templates.proofs.pass_below.Goals as goal
+use Rattle.templates.proofs.pass_below.Goals.{then-nested, else-nested}
 
 pub loop-next-init : goal.loop-next-init
 loop-next-init c = below_start _ _ _ _ _ _ c.requires.2 c.requires.3 (omega arith)
@@ -33,11 +38,14 @@ text_end-to-requires c = c.loop-next.invariant.within
 pub overflow_add-owed : goal.overflow_add-owed
 overflow_add-owed c = let k = c.loop-next.invariant.few in let l = c.loop-next-test.true in let s = c.requires.0.1 in let f = c.requires.1 in let w = c.type_inv.words (c.loop-next.next * 8 + 6) in omega arith
 
-pub loop-next-smaller : goal.loop-next-smaller
-loop-next-smaller c = let l = c.loop-next-test.true in omega arith
-
 pub loop-next-preserved : goal.loop-next-preserved
-loop-next-preserved c = below_next _ _ _ _ _ _ _ _ _ _ c.loop-next.invariant c.loop-next-test.true c.if-owed-eq0.false c.either-nested.ensures c.text_end-to.ensures (omega (arith, c.type_inv.words (c.loop-next.next * 8 + 6)))
+loop-next-preserved c =
+    let f : c.if-nested.nested ≡ (c.loop-next.nested || eqb (word c.args.words.now (c.loop-next.next * 8)) 2) =
+    elim c.if-nested.branch [ then-nested w ↦ w.nested-is ∙ or_yes _ w.if-nested.true | else-nested w ↦ w.nested-is ∙ or_no _ w.if-nested.false ] in
+    below_next _ _ _ _ _ _ _ _ _ _ c.loop-next.invariant c.loop-next-test.true c.if-owed-eq0.false f c.text_end-to.ensures (omega (arith, c.type_inv.words (c.loop-next.next * 8 + 6)))
 
 pub returns : goal.returns
-returns c = below_out _ _ _ _ _ _ _ _ _ _ c.loop-next.invariant c.loop-next-test.false
+returns c =
+    let b = c.loop-next.invariant.before_end in
+    let e : c.loop-next.next ≡ c.args.count = omega arith in
+    rw e at (below_out _ _ _ _ _ _ _ _ _ _ c.loop-next.invariant c.loop-next-test.false)

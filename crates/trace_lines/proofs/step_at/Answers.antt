@@ -36,11 +36,5 @@ find_step-requires-then-step-i c = (c.requires.1, c.requires.2, c.requires.3)
 pub returns-then-step-i : goal.returns-then-step-i
 returns-then-step-i c = c.find_step-then-step-i.ensures
 
-pub find_step-requires-then-step-at : goal.find_step-requires-then-step-at
-find_step-requires-then-step-at c = (c.requires.1, c.requires.2, c.requires.3)
-
-pub returns-then-step-at : goal.returns-then-step-at
-returns-then-step-at c = c.find_step-then-step-at.ensures
-
 pub returns : goal.returns
-returns c = held_is _ _ _ _ _ c.args.k (c.requires.0) (let l = c.if-steps-k.false in omega arith) c.held_step-step.ensures _ _ (search rules) (search rules)
+returns c = held_is _ _ _ _ _ c.args.k (c.requires.0) (let l = c.if-steps-k.false in omega arith) c.held_step-step.ensures _ _ c.if-step-i.false c.if-step-at.false

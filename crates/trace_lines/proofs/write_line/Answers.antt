@@ -1,8 +1,7 @@
 use borrow.Author.Rules.{rules}
 use native.Mathlib.Omega.{arith}
 use mathlib.Core.Path.{refl}
-use Rattle.definition.proofs.Moves.CharLaws.{no}
-use Rattle.trace_lines.proofs.Lining.{length_part, line_start, line_refused, line_next, line_end_lem}
+use Rattle.trace_lines.proofs.Lining.{length_part, line_start, line_refused, line_next, line_none, line_some}
 use Rattle.trace_lines.proofs.write_line.Goals as goal
 
 pub loop-i-init : goal.loop-i-init
@@ -34,11 +33,8 @@ put_item-put-requires c =
     let q = c.step_at-step.ensures.place in let a = q.4 in let b = q.5 in let f = c.loop-i.invariant.1.few in let e = c.loop-i.invariant.1.before_end in let w = c.loop-i.invariant.1.within in let s = c.requires.1.1 in let t = c.requires.2 in let r = c.requires.3 in
     (omega arith, (let l = length_part c.args.text.now c.loop-i.at c.step_at-step.result.item.own in omega arith), c.loop-i.invariant.1.inside, c.step_at-step.ensures.form)
 
-pub shape_of-out-then-put-eq0 : goal.shape_of-out-then-put-eq0
-shape_of-out-then-put-eq0 c = let l = c.loop-i.invariant.0 in search rules
-
-pub returns-then-put-eq0 : goal.returns-then-put-eq0
-returns-then-put-eq0 c = ((λ rs ps s e. ((λ z. no z), (λ z. line_refused _ _ _ _ _ _ _ _ _ _ _ _ _ (c.loop-i.invariant.1) c.loop-i-test.true _ c.step_at-step.ensures c.put_item-put.ensures c.if-put-eq0.true rs ps s e))), (λ z. no z), c.loop-i.invariant.1.inside)
+pub returns-in-Nothing : goal.returns-in-Nothing
+returns-in-Nothing c = line_refused _ _ _ _ _ _ _ _ _ _ _ _ _ (c.loop-i.invariant.1) c.loop-i-test.true _ c.step_at-step.ensures c.put_item-put.ensures c.in-Nothing.is
 
 pub overflow_add-k : goal.overflow_add-k
 overflow_add-k c = let b = c.loop-i.invariant.2 in let l = c.loop-i-test.true in let s = c.requires.1.1 in omega arith
@@ -47,13 +43,13 @@ pub loop-i-smaller : goal.loop-i-smaller
 loop-i-smaller c = let q = c.step_at-step.ensures.place in let a = q.1 in let b = q.2 in omega arith
 
 pub loop-i-preserved : goal.loop-i-preserved
-loop-i-preserved c = ((let l = c.loop-i.invariant.0 in search rules), line_next _ _ _ _ _ _ _ _ _ _ _ _ _ (c.loop-i.invariant.1) c.loop-i-test.true _ c.step_at-step.ensures c.put_item-put.ensures c.if-put-eq0.false, (let q = c.step_at-step.ensures.place in let a = q.1 in let b = c.loop-i.invariant.2 in omega arith))
+loop-i-preserved c = ((let l = c.loop-i.invariant.0 in search rules), line_next _ _ _ _ _ _ _ _ _ _ _ _ _ (c.loop-i.invariant.1) c.loop-i-test.true _ c.step_at-step.ensures c.put_item-put.ensures c.in_default.not-Nothing, (let q = c.step_at-step.ensures.place in let a = q.1 in let b = c.loop-i.invariant.2 in omega arith))
 
 pub overflow_add-result : goal.overflow_add-result
 overflow_add-result c = let f = c.loop-i.invariant.1.few in let e = c.loop-i.invariant.1.before_end in let w = c.loop-i.invariant.1.within in let s = c.requires.1.1 in let t = c.requires.2 in let r = c.requires.3 in omega arith
 
-pub shape_of-out : goal.shape_of-out
-shape_of-out c = let l = c.loop-i.invariant.0 in search rules
+pub returns-in-Comma : goal.returns-in-Comma
+returns-in-Comma c = line_none _ _ _ _ _ _ _ _ _ _ _ _ _ (c.loop-i.invariant.1) c.loop-i-test.false c.in-Comma.is c.args.out.now
 
-pub returns : goal.returns
-returns c = line_end_lem _ _ _ _ _ _ _ _ _ _ _ _ _ (c.loop-i.invariant.1) c.loop-i-test.false c.put.ensures
+pub returns-in_default-ends : goal.returns-in_default-ends
+returns-in_default-ends c = line_some _ _ _ _ _ _ _ _ _ _ _ _ _ (c.loop-i.invariant.1) c.loop-i-test.false c.put.ensures c.in_default-ends.not-Comma
