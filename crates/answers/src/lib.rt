@@ -1,16 +1,11 @@
 // What the calls answer that read literals, list fields, replay a trace, write a body back or plan cuts; and each answer in the twelve numbers of the C interface.
-#![tactic(auto)]
+#![tactic(auto, unfolding(crate::specs::Twelve::twelve))]
 
 ghost use Rattle.std.specs.Prelude.{◌≡◌};
 ghost use Rattle.answers.specs.Twelve.{twelve, reading_says, fields_says, replay_says, writing_says, plan_says};
 
 use entry::Refusal;
-
-const SCRIPT_TOO_LONG: u32 = 49;
-
-const TOO_LITTLE_LIST_ROOM: u32 = 53;
-
-const TOO_LITTLE_CUT_ROOM: u32 = 74;
+use numbering::Number;
 
 // An acceptance: its sort (0 plain, 1 joined, 2 bytes), u mark, first start, last end, how many records and text bytes it has, and how many
 // characters were read.
@@ -26,6 +21,7 @@ pub struct Answer {
 }
 
 // An acceptance, or the first refusal.
+// An answer of our own, as docs/DECISIONS.md, "Forms", has it.
 #[derive(Clone, Copy)]
 pub enum Outcome {
     Accepted(Answer),
@@ -41,10 +37,9 @@ pub struct List {
     pub to: u32,
 }
 
-// A list; or that the script is too long, the number of what is wrong with a file of names or its index, or how many rows a buffer does not hold.
+// Why there is no list: the script is too long, the number of what is wrong with a file of names or its index, or how many rows a buffer does not hold.
 #[derive(Clone, Copy)]
-pub enum Fields {
-    Listed(List),
+pub enum Unlisted {
     TooLong,
     WrongNames(u32),
     Short(u32),
@@ -65,10 +60,9 @@ pub struct Stop {
     pub told: u32,
 }
 
-// A replay: the lines; the template's own refusal; or one of 68 to 73.
+// Why nothing is replayed: the template's own refusal, or one of 68 to 73.
 #[derive(Clone, Copy)]
-pub enum Replay {
-    Replayed(Lines),
+pub enum Unreplayed {
     Unread(Refusal),
     Stopped(Stop),
 }
@@ -80,20 +74,13 @@ pub struct Unwritten {
     pub needed: u32,
 }
 
-// How many bytes were written, or a refusal.
+// A list of cuts that is too short: how many there are.
 #[derive(Clone, Copy)]
-pub enum Writing {
-    Wrote(u32),
-    Stopped(Unwritten),
+pub struct NoRoom {
+    pub needed: u32,
 }
 
-// A plan: how many cuts it has; there is none; or the list is short, and how many there are.
-#[derive(Clone, Copy)]
-pub enum Planned {
-    Cuts(u32),
-    Nothing,
-    Short(u32),
-}
+// Functions, and no `From`: a `Result` and an array are both std's, so no crate of ours may convert one to the other.
 
 // An outcome's numbers, and zeros up to twelve.
 pub fn of_reading(o: Outcome) -> [u32; 12]
@@ -110,23 +97,49 @@ pub fn of_reading(o: Outcome) -> [u32; 12]
 }
 
 // The numbers of a script's list, and zeros up to twelve.
-pub fn of_fields(x: Fields) -> [u32; 12]
+pub fn of_fields(x: Result<List, Unlisted>) -> [u32; 12]
     ensures { result ≡ twelve (fields_says x) }
 {
     match x {
-        Fields::Listed(l) => [0, l.rows, l.refusals, l.literals, l.to, 0, 0, 0, 0, 0, 0, 0],
-        Fields::TooLong => [SCRIPT_TOO_LONG, 0, 0, 0, 0, 0, 0, 0, 0, 0, 0, 0],
-        Fields::WrongNames(number) => [number, 0, 0, 0, 0, 0, 0, 0, 0, 0, 0, 0],
-        Fields::Short(count) => [TOO_LITTLE_LIST_ROOM, 0, 0, 0, 0, 0, 0, 0, 0, count, 0, 0],
+        Ok(l) => [0, l.rows, l.refusals, l.literals, l.to, 0, 0, 0, 0, 0, 0, 0],
+        Err(Unlisted::TooLong) => [
+            Number::ScriptTooLong as u32,
+            0,
+            0,
+            0,
+            0,
+            0,
+            0,
+            0,
+            0,
+            0,
+            0,
+            0,
+        ],
+        Err(Unlisted::WrongNames(number)) => [number, 0, 0, 0, 0, 0, 0, 0, 0, 0, 0, 0],
+        Err(Unlisted::Short(count)) => [
+            Number::TooLittleListRoom as u32,
+            0,
+            0,
+            0,
+            0,
+            0,
+            0,
+            0,
+            0,
+            count,
+            0,
+            0,
+        ],
     }
 }
 
 // A replay's numbers, and zeros up to twelve.
-pub fn of_replay(x: Replay) -> [u32; 12]
+pub fn of_replay(x: Result<Lines, Unreplayed>) -> [u32; 12]
     ensures { result ≡ twelve (replay_says x) }
 {
     match x {
-        Replay::Replayed(l) => [
+        Ok(l) => [
             0,
             l.reading.sort,
             l.reading.mark,
@@ -140,28 +153,41 @@ pub fn of_replay(x: Replay) -> [u32; 12]
             l.bytes,
             0,
         ],
-        Replay::Unread(r) => of_reading(Outcome::Refused(r)),
-        Replay::Stopped(s) => [s.number, 0, 0, 0, 0, 0, 0, 0, 0, s.told, 0, 0],
+        Err(Unreplayed::Unread(r)) => of_reading(Outcome::Refused(r)),
+        Err(Unreplayed::Stopped(s)) => [s.number, 0, 0, 0, 0, 0, 0, 0, 0, s.told, 0, 0],
     }
 }
 
-// A writing's numbers, and zeros up to twelve.
-pub fn of_writing(x: Writing) -> [u32; 12]
+// A writing's numbers, and zeros up to twelve: how many bytes were written, or a refusal.
+pub fn of_writing(x: Result<u32, Unwritten>) -> [u32; 12]
     ensures { result ≡ twelve (writing_says x) }
 {
     match x {
-        Writing::Wrote(bytes) => [0, bytes, 0, 0, 0, 0, 0, 0, 0, 0, 0, 0],
-        Writing::Stopped(s) => [s.number, 0, 0, 0, 0, 0, 0, 0, 0, s.needed, 0, 0],
+        Ok(bytes) => [0, bytes, 0, 0, 0, 0, 0, 0, 0, 0, 0, 0],
+        Err(s) => [s.number, 0, 0, 0, 0, 0, 0, 0, 0, s.needed, 0, 0],
     }
 }
 
-// A plan's numbers, and zeros up to twelve.
-pub fn of_plan(x: Planned) -> [u32; 12]
+// A plan's numbers, and zeros up to twelve: how many cuts it has, or that there is none.
+pub fn of_plan(x: Result<Option<u32>, NoRoom>) -> [u32; 12]
     ensures { result ≡ twelve (plan_says x) }
 {
     match x {
-        Planned::Cuts(count) => [0, 1, count, 0, 0, 0, 0, 0, 0, 0, 0, 0],
-        Planned::Nothing => [0, 0, 0, 0, 0, 0, 0, 0, 0, 0, 0, 0],
-        Planned::Short(count) => [TOO_LITTLE_CUT_ROOM, 0, 0, 0, 0, 0, 0, 0, 0, count, 0, 0],
+        Ok(Some(count)) => [0, 1, count, 0, 0, 0, 0, 0, 0, 0, 0, 0],
+        Ok(None) => [0, 0, 0, 0, 0, 0, 0, 0, 0, 0, 0, 0],
+        Err(NoRoom { needed }) => [
+            Number::TooLittleCutRoom as u32,
+            0,
+            0,
+            0,
+            0,
+            0,
+            0,
+            0,
+            0,
+            needed,
+            0,
+            0,
+        ],
     }
 }

@@ -1,20 +1,20 @@
 -- Cuts checked, token by token. Assumes nothing.
-use Rattle.std.specs.Prelude.{if◌then◌else◌}
+use Rattle.std.specs.Prelude.{Some, None}
 use mathlib.Core.Path.{◌≡◌, refl, sym, ap, ◌∙◌}
-use mathlib.Core.Bool.{Bool, true, false, ◌&&◌, not}
-use mathlib.Core.List.{List, [], ◌∷◌}
-use mathlib.Core.Option.{Option, none, some}
-use Prim.Native.Nat.{ℕ, suc, ◌+◌, ◌≤◌, ◌<◌, zero-le}
+use mathlib.Core.Bool.{Bool, true, false}
+use mathlib.Core.List.{List, ◌∷◌}
+use mathlib.Core.Option.{none, some}
+use Prim.Native.Nat.{ℕ, ◌+◌, ◌≤◌, ◌<◌, zero-le}
+use native.Mathlib.Nat.{le_refl}
 use native.Mathlib.Numerals.{add-one}
 use native.Mathlib.Omega.{arith}
 use borrow.Author.Tests.{lt-ltb, le-ltb, lt-leb, le-leb, eq-eqb, ne_eqb}
-use lib.Dec.{ltb, leb, eqb}
 use lib.ListN.{length, drop, get_or, drop_of_length-le}
 use lib.Seq.{drop-cons}
 use Rattle.definition.specs.Chars.{byte, ◌to◌, inside, well_formed}
 use Rattle.definition_cuts.specs.Tokens.{token_end}
 use Rattle.definition_cuts_laws.specs.Standing.{octal_at}
-use Rattle.cuts.specs.OnePass.{Cursor, in_token, check_at}
+use Rattle.cuts.specs.OnePass.{in_token, check_at}
 use Rattle.cuts.proofs.OnePassSteps.{check_end, check_refused, check_within, check_on}
 use Rattle.definition.proofs.Moves.CharLaws.{next_past}
 use Rattle.definition_cuts_laws.proofs.Tokens.FormedPaths.{Formed, Head, formed_front, formed_head, formed_at, all_formed}
@@ -22,8 +22,6 @@ use Rattle.definition_cuts_laws.proofs.Tokens.TokenMarks.{token_formed}
 use Rattle.plain.specs.Plain.{plain_end}
 use Rattle.tokens.proofs.PlainTokens.{Run, no_run, run_found, run_later}
 use Rattle.cuts.proofs.PlainRuns.{Clear, check_run, check_cut, check_not, check_tail}
-use Rattle.cuts.specs.declared.Passing.TheVariants.{At, Inside}
-use Rattle.cuts.specs.declared.Verdict.TheVariants.{Passed, Refused}
 use Rattle.cuts.specs.Answers.{PassIs, VerdictIs}
 
 -- the cuts of a token passed up to number k
@@ -37,15 +35,15 @@ module _ (s : List ℕ) (i j : ℕ) (cuts : List ℕ) (from : ℕ) (flag : Bool)
   passing h = record { is = refl; on = omega arith; inside = h }
 
   module _ (k : ℕ) (d : Bool) (g : Passing s i j cuts from flag k d) where
-    pub passed_all : length cuts ≤ k → PassIs (in_token s i j (drop from cuts) flag) cuts from (At k d)
+    pub passed_all : length cuts ≤ k → PassIs (in_token s i j (drop from cuts) flag) cuts from (Some (record { next = length cuts; differs = d }))
     unfolding in_token
-    passed_all h = (g.is ∙ rw (drop_of_length-le cuts h) refl, g.on, g.inside)
+    passed_all h = let o = g.on in let z = g.inside in (g.is ∙ rw (drop_of_length-le cuts h, drop_of_length-le cuts (le_refl (length cuts))) refl, omega arith, le_refl (length cuts))
 
     module _ (h : k < length cuts) where
       c : ℕ
       c = get_or cuts k 0
 
-      pub passed : j ≤ get_or cuts k 0 → PassIs (in_token s i j (drop from cuts) flag) cuts from (At k d)
+      pub passed : j ≤ get_or cuts k 0 → PassIs (in_token s i j (drop from cuts) flag) cuts from (Some (record { next = k; differs = d }))
       unfolding in_token
       passed l = (g.is ∙ rw (drop-cons cuts k 0 h, le-ltb (get_or cuts k 0) j l, in_token) refl, g.on, g.inside)
 
@@ -59,11 +57,11 @@ module _ (s : List ℕ) (i j : ℕ) (cuts : List ℕ) (from : ℕ) (flag : Bool)
           unfolding in_token
           among o m = record { is = g.is ∙ rw (drop-cons cuts k 0 h, lt-ltb (get_or cuts k 0) j l, ne_eqb i (get_or cuts k 0) (λ e. n (sym e)), o, le-leb (i + 2) (get_or cuts k 0) m, in_token) (ap (λ n. in_token s i j (drop n cuts) true) (sym (add-one k))); on = let f = g.on in omega arith; inside = omega arith }
 
-          pub not_octal : octal_at s i ≡ false → PassIs (in_token s i j (drop from cuts) flag) cuts from Inside
+          pub not_octal : octal_at s i ≡ false → PassIs (in_token s i j (drop from cuts) flag) cuts from None
           unfolding in_token
           not_octal o = g.is ∙ rw (drop-cons cuts k 0 h, lt-ltb (get_or cuts k 0) j l, ne_eqb i (get_or cuts k 0) (λ e. n (sym e)), o, in_token) refl
 
-          pub too_early : octal_at s i ≡ true → get_or cuts k 0 < i + 2 → PassIs (in_token s i j (drop from cuts) flag) cuts from Inside
+          pub too_early : octal_at s i ≡ true → get_or cuts k 0 < i + 2 → PassIs (in_token s i j (drop from cuts) flag) cuts from None
           unfolding in_token
           too_early o m = g.is ∙ rw (drop-cons cuts k 0 h, lt-ltb (get_or cuts k 0) j l, ne_eqb i (get_or cuts k 0) (λ e. n (sym e)), o, lt-leb (i + 2) (get_or cuts k 0) m, in_token) refl
 
@@ -79,7 +77,7 @@ pub checking : (s cuts : List ℕ) → length s ≤ well_formed s → Checking s
 checking s cuts f = record { is = refl; inside = zero-le; few = zero-le; formed = all_formed s f; run = no_run s 0 zero-le (formed_head s 0 (length s) (all_formed s f) refl) }
 
 module _ (s cuts : List ℕ) (i k : ℕ) (d : Bool) (plain : ℕ) (g : Checking s cuts i k d plain) where
-  pub check_done : length s ≤ i → VerdictIs (check_at s 0 cuts false) (Passed d)
+  pub check_done : length s ≤ i → VerdictIs (check_at s 0 cuts false) (Some d)
   check_done h = g.is ∙ check_end s i (drop k cuts) d h
 
   pub run_starts : (e : ℕ) → e ≡ plain_end 1 s i → Checking s cuts i k d e
@@ -113,7 +111,7 @@ module _ (s cuts : List ℕ) (i k : ℕ) (d : Bool) (plain : ℕ) (g : Checking 
       pub next_behind : plain ≤ c → Checking s cuts plain k d plain
       next_behind l = past (rw next_is l)
 
-      pub next_before : c < i → VerdictIs (check_at s 0 cuts false) Refused
+      pub next_before : c < i → VerdictIs (check_at s 0 cuts false) None
       next_before a =
           let w = g.run.within in
           let l : i < length s = omega arith in
@@ -126,17 +124,17 @@ module _ (s cuts : List ℕ) (i k : ℕ) (d : Bool) (plain : ℕ) (g : Checking 
             onward c (k + 1) (c ∷ drop (k + 1) cuts) a (omega arith) y (omega arith)
             (check_cut s d c (drop (k + 1) cuts) (omega (arith, g.run.within)) (g.run.bytes c a b)) next_is (omega arith)
 
-        pub next_within : inside (0x80 to 0xBF) (byte s c) ≡ true → VerdictIs (check_at s 0 cuts false) Refused
+        pub next_within : inside (0x80 to 0xBF) (byte s c) ≡ true → VerdictIs (check_at s 0 cuts false) None
         next_within t =
             g.is ∙ ap (λ cs. check_at s i cs d) next_is
             ∙ check_tail s d c (drop (k + 1) cuts) i (length s) g.formed refl a (omega (arith, g.run.within)) (λ n x y. g.run.bytes n x (omega arith)) t
 
   module _ (h : i < length s) where
-    pub token_refused : token_end s i ≡ none → VerdictIs (check_at s 0 cuts false) Refused
+    pub token_refused : token_end s i ≡ none → VerdictIs (check_at s 0 cuts false) None
     token_refused e = g.is ∙ check_refused s i (drop k cuts) d h e
 
     module _ (j : ℕ) (e : token_end s i ≡ some j) (b : i < j) (l : j ≤ length s) where
-      pub cut_inside : in_token s i j (drop k cuts) d ≡ none → VerdictIs (check_at s 0 cuts false) Refused
+      pub cut_inside : in_token s i j (drop k cuts) d ≡ none → VerdictIs (check_at s 0 cuts false) None
       cut_inside w = g.is ∙ check_within s i (drop k cuts) d h j e w
 
       pub next_token : (k' : ℕ) (d' : Bool) → (in_token s i j (drop k cuts) d ≡ some (record { left = drop k' cuts; differs = d' })) × (k ≤ k') × (k' ≤ length cuts) → Checking s cuts j k' d' plain

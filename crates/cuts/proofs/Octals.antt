@@ -1,13 +1,13 @@
 -- An octal escape is told by two bytes. Assumes nothing.
 use mathlib.Core.Path.{◌≡◌, refl, sym, ◌∙◌}
-use mathlib.Core.Bool.{Bool, true, false, ◌&&◌}
+use mathlib.Core.Bool.{true, false}
 use mathlib.Core.List.{List}
 use Prim.Native.Nat.{ℕ, ◌+◌, ◌≤◌, ◌<◌}
 use native.Mathlib.Omega.{arith}
-use borrow.Author.Tests.{eqb-true, eqb-false, eq-eqb, ne_eqb}
+use borrow.Author.Tests.{eqb-false, eq-eqb, ne_eqb}
 use lib.Dec.{eqb}
 use lib.ListN.{length, get_or, get_or-eq_default}
-use Rattle.definition.specs.Chars.{◌is◌, byte, code, next}
+use Rattle.definition.specs.Chars.{◌is◌, byte, code}
 use Rattle.definition_cuts_laws.specs.Standing.{octal_at}
 use Rattle.definition.proofs.Moves.CharLaws.{cases, byte_is, code_is, next_ascii}
 
@@ -46,27 +46,25 @@ a_digit b h k =
         out : (b ≡ 48 → ⊥) → (b ≡ 49 → ⊥) → (b ≡ 50 → ⊥) → (b ≡ 51 → ⊥) → (b ≡ 52 → ⊥) → (b ≡ 53 → ⊥) → (b ≡ 54 → ⊥) → (b ≡ 55 → ⊥) → ⊥
         out a0 a1 a2 a3 a4 a5 a6 a7 = over_all (up 55 (up 54 (up 53 (up 52 (up 51 (up 50 (up 49 (up 48 h a0) a1) a2) a3) a4) a5) a6) a7)
 
+-- a digit at an index, or none
+module _ (s : List ℕ) (x : ℕ) where
+  pub none_here : length s ≤ x → false ≡ (byte s x is "01234567")
+  none_here l = let z : byte s x ≡ 256 = get_or-eq_default s 256 l in sym (no_digit (byte s x) (λ a b. omega arith))
+
+  pub digit_here : x < length s → 48 ≤ get_or s x 0 → get_or s x 0 ≤ 55 → true ≡ (byte s x is "01234567")
+  digit_here l k m = let z = byte_is s x l in sym (a_digit (byte s x) (omega arith) (omega arith))
+
+  pub other_here : x < length s → (48 ≤ get_or s x 0 → get_or s x 0 ≤ 55 → ⊥) → false ≡ (byte s x is "01234567")
+  other_here l n = let z = byte_is s x l in sym (no_digit (byte s x) (λ a b. n (omega arith) (omega arith)))
+
 module _ (s : List ℕ) (i : ℕ) (h : i < length s) where
   pub no_backslash : (get_or s i 0 ≡ 92 → ⊥) → false ≡ octal_at s i
   unfolding octal_at
   no_backslash n = rw (code_is s i 92 (omega arith), ne_eqb (byte s i) 92 (λ e. n (byte_is s i h ∙ e))) refl
 
   module _ (e : get_or s i 0 ≡ 92) where
-    by_second : octal_at s i ≡ (byte s (i + 1) is "01234567")
+    pub by_second : octal_at s i ≡ (byte s (i + 1) is "01234567")
     unfolding octal_at
     by_second =
         let b : byte s i ≡ 92 = sym (byte_is s i h) ∙ e in
         rw (code_is s i 92 (omega arith), eq-eqb (byte s i) 92 b, next_ascii s i (omega arith)) (digits_by_byte s (i + 1))
-
-    pub ended : length s ≤ i + 1 → false ≡ octal_at s i
-    ended l = let z : byte s (i + 1) ≡ 256 = get_or-eq_default s 256 l in sym (by_second ∙ no_digit (byte s (i + 1)) (λ a b. omega arith))
-
-    module _ (l : i + 1 < length s) where
-      pub low : get_or s (i + 1) 0 < 48 → false ≡ octal_at s i
-      low k = let z = byte_is s (i + 1) l in sym (by_second ∙ no_digit (byte s (i + 1)) (λ a b. omega arith))
-
-      pub high : 56 ≤ get_or s (i + 1) 0 → false ≡ octal_at s i
-      high k = let z = byte_is s (i + 1) l in sym (by_second ∙ no_digit (byte s (i + 1)) (λ a b. omega arith))
-
-      pub digit : 48 ≤ get_or s (i + 1) 0 → get_or s (i + 1) 0 < 56 → true ≡ octal_at s i
-      digit k m = let z = byte_is s (i + 1) l in sym (by_second ∙ a_digit (byte s (i + 1)) (omega arith) (omega arith))

@@ -1,10 +1,11 @@
 -- A body's pieces, cut by cut; and which number the check gives. Assumes nothing.
-use Rattle.std.specs.Prelude.{if◌then◌else◌}
+use Rattle.std.specs.Prelude.{if◌then◌else◌, Some, None, is_some}
+use Rattle.std.specs.Prelude.{Option as Given}
 use mathlib.Core.Path.{◌≡◌, refl, sym, ap, ◌∙◌}
-use mathlib.Core.Bool.{Bool, true, false, ◌&&◌, ◌||◌, not}
+use mathlib.Core.Bool.{Bool, true, false, ◌&&◌, ◌||◌}
 use mathlib.Core.List.{List, [], ◌∷◌}
 use mathlib.Core.Option.{Option, none, some}
-use Prim.Native.Nat.{ℕ, suc, ◌+◌, ◌-◌, ◌≤◌, ◌<◌, zero-le}
+use Prim.Native.Nat.{ℕ, ◌+◌, ◌-◌, ◌≤◌, ◌<◌, zero-le}
 use native.Mathlib.Numerals.{add-one}
 use native.Mathlib.Omega.{arith}
 use borrow.Author.Tests.{le-ltb, lt-leb, le-leb, ltb-true, leb-false}
@@ -15,12 +16,13 @@ use Rattle.definition.specs.Chars.{part, well_formed}
 use Rattle.definition.specs.Reading.{read_alone}
 use Rattle.definition.specs.Escapes.{held_names}
 use Rattle.definition_cuts.specs.Cuts.{rise, pieces, all_short, all_read, is_read, join_all, equal, checked}
-use Rattle.cuts.specs.OnePass.{check_loop, number_of, checked_once, check_at}
+use Rattle.cuts.specs.OnePass.{number_of, checked_once, check_at}
 use Rattle.definition.proofs.Moves.CharLaws.{cases}
 use Rattle.definition_cuts_laws.proofs.Tokens.PieceLaws.{piece_length}
 use Rattle.definition_cuts_laws.proofs.Cuts.AloneLaws.{accepted_fit}
 use Rattle.definition_cuts_laws.proofs.Cuts.CutsLaw.{last_piece, all_short_lem}
 use Rattle.definition_cuts_laws.proofs.Cuts.NumberLaw.{longer_differs}
+use Rattle.cuts.specs.Answers.{VerdictIs}
 use Rattle.cuts.proofs.OnePassLaw.{checked_once_lem}
 
 both : (a b : Bool) → (a && b) ≡ true → (a ≡ true) × (b ≡ true)
@@ -154,6 +156,11 @@ module _ (s : List ℕ) where
       no : (d : Bool) → ◌≡◌ {A = ℕ} (if d then 67 else 0) 66 → ⊥
       no true e = omega arith
       no false e = omega arith
+
+  -- by what is told of it
+  pub told_alone : length s ≤ 1048576 → leb (length s) (well_formed s) ≡ true → (o : Given Bool) → VerdictIs (check_at s 0 [] false) o → is_some o ≡ is_read (read_alone held_names s)
+  told_alone l f None e = refused_alone e
+  told_alone l f (Some d) e = passed_alone l f d e
 
 -- THE NUMBER
 module _ (s : List ℕ) (limit : ℕ) (cuts : List ℕ) where

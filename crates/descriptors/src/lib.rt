@@ -1,7 +1,7 @@
 // An entry over a lent list of descriptors: it gives what the entry over their numbers gives.
 #![tactic(auto)]
 
-ghost use Rattle.std.specs.Prelude.{◌≡◌, map, ◌*◌, ◌<◌, ◌≤◌, min, take};
+ghost use Rattle.std.specs.Prelude.{◌≡◌, map, ◌*◌, ◌<◌, ◌≤◌, take};
 ghost use Rattle.definition.specs.Escapes.{held_names};
 ghost use Rattle.definition.specs.Reading.{read_into, read_numbers};
 ghost use Rattle.buffers.specs.Over.{over};
@@ -13,12 +13,8 @@ use answers::Outcome;
 use entry::Descriptor;
 use strings::parse_strings;
 
-// How many of n descriptors are copied: one more than a list may have is refused as any more are.
-fn taken(n: usize) -> usize
-    ensures { result ≡ min n 1025 }
-{
-    if n < 1025 { n } else { 1025 }
-}
+// So many descriptors are copied at most: one more than a list may have is refused as any more are.
+const MOST_COPIED: usize = 1025;
 
 // Room for the numbers of all that are copied.
 fn zeros() -> [u32; 6150] {
@@ -31,12 +27,7 @@ fn put(numbers: &mut [u32; 6150], i: usize, d: Descriptor)
     ensures { numbers.new ≡ over numbers.old (i * 6) (six d) }
 {
     let at = i * 6;
-    numbers[at] = d.kind;
-    numbers[at + 1] = d.triple;
-    numbers[at + 2] = d.offset;
-    numbers[at + 3] = d.size;
-    numbers[at + 4] = d.start;
-    numbers[at + 5] = d.end;
+    numbers[at..at + 6].copy_from_slice(&[d.kind, d.triple, d.offset, d.size, d.start, d.end]);
 }
 
 // Reads the first literals of those whose numbers are stored.
@@ -56,6 +47,7 @@ fn read_first(
 }
 
 // Reads the literals of a list of descriptors from a script into both buffers.
+// Numbers of a fixed length, since nothing is allocated.
 pub fn parse_descriptors(
     script: &[u8],
     descriptors: &[Descriptor],
@@ -64,12 +56,10 @@ pub fn parse_descriptors(
 ) -> Outcome
     ensures { CallIs (read_into held_names script.now (map described descriptors.now) words.old text.old) words.new text.new result }
 {
-    let count = taken(descriptors.len());
+    let count = descriptors.len().min(MOST_COPIED);
     let mut numbers = zeros();
-    let mut i: usize = 0;
-    while i < count {
+    for i in 0..count {
         put(&mut numbers, i, descriptors[i]);
-        i += 1;
     }
     read_first(script, &numbers, count, words, text)
 }

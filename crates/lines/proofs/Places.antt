@@ -1,5 +1,4 @@
 -- Lines of records that lie in words are the lines of the records, and their lengths. Assumes nothing.
-use Rattle.std.specs.Prelude.{if◌then◌else◌}
 use mathlib.Core.Path.{◌≡◌, refl, sym, ◌∙◌, ap, ap₂}
 use mathlib.Core.Bool.{Bool, true, false}
 use mathlib.Core.List.{List, [], ◌∷◌, ◌++◌, append_assoc, append-nil}
@@ -11,12 +10,12 @@ use borrow.Author.Tests.{eqb-true, eqb-false}
 use lib.Dec.{eqb}
 use lib.ListN.{length, get_or, length-append}
 use lib.Seq.{get_or-append-add}
-use Rattle.definition.specs.Chars.{ascii, part}
+use Rattle.definition.specs.Chars.{part}
 use Rattle.definition.specs.Records.{Record, words_of}
 use Rattle.definition.specs.Reading.{all_words}
 use Rattle.definition_laws.proofs.Moves.Moves.{part_short}
 use Rattle.definition_laws.proofs.Outcomes.Outcomes.{Gapless, sizes, gapless_sum}
-use Rattle.definition_lines.specs.Lines.{literal_line, field_line, spec_line, refusal_line, line_of, record_line, record_lines}
+use Rattle.definition_lines.specs.Lines.{line_of, record_line, record_lines}
 use Rattle.buffers.proofs.Over.{over_tail}
 use Rattle.objects.specs.Written.{Adds, Fits, Puts, of_text}
 use Rattle.objects.proofs.Short.{Small, line_short, short_text}

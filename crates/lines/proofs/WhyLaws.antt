@@ -1,6 +1,5 @@
 -- Lines of fields that lie in words and rows are the definition's, and their lengths; what a call over one body leaves are the body's. Assumes nothing.
-use Rattle.std.specs.Prelude.{if◌then◌else◌}
-use mathlib.Core.Path.{◌≡◌, refl, sym, ◌∙◌, ap, ap₂, subst}
+use mathlib.Core.Path.{◌≡◌, refl, sym, ◌∙◌, ap, subst}
 use mathlib.Core.Bool.{Bool, true, false}
 use mathlib.Core.List.{List, [], ◌∷◌, ◌++◌, map, append_assoc, append-nil}
 use mathlib.Core.Option.{none}
@@ -9,19 +8,19 @@ use native.Mathlib.Nat.{add-zero}
 use native.Mathlib.Numerals.{add-one}
 use native.Mathlib.Omega.{arith}
 use borrow.Rule.Slice.PartMut.{put_mid, mid_of}
-use borrow.Author.Tests.{eqb-true, eqb-false, eq-eqb, ne_eqb, lt-ltb, le-ltb}
-use lib.Dec.{ltb, eqb}
-use lib.ListN.{length, take, drop, get_or, length-append, length-drop}
+use borrow.Author.Tests.{eq-eqb, ne_eqb, lt-ltb, le-ltb}
+use lib.Dec.{eqb}
+use lib.ListN.{length, take, drop, get_or, length-append}
 use lib.Seq.{get_or-drop, drop-drop, drop-append_seam, take_at}
 use Rattle.definition.specs.Numbers.{bodies_too_long}
-use Rattle.definition.specs.Chars.{ascii, part}
+use Rattle.definition.specs.Chars.{part}
 use Rattle.definition.specs.Escapes.{held_names}
 use Rattle.definition.specs.Records.{Record, Answer, words_of}
 use Rattle.definition.specs.Entry.{Literal, sixes, one_more, total}
 use Rattle.definition.specs.Reading.{Outcome, accepts, refuses, outcome_of, room_for, all_words, read, numbers, words_after, text_after, called}
 use Rattle.definition.specs.Rows.{reason, Row, row_numbers, all_rows, all_numbers, rowed, roomed_rows, rows_after, called_rows, signs_into, signs_numbers, row_field, record_fields}
 use Rattle.definition_lines.specs.Lines.{refusal_line, one_literal}
-use Rattle.definition_lines.specs.Why.{written_end, reason_end, why_line, why_here, rows_left, why_lines, outcome_why, body_why}
+use Rattle.definition_lines.specs.Why.{why_line, why_here, rows_left, why_lines, outcome_why, body_why}
 use Rattle.definition.proofs.Moves.CharLaws.{cases}
 use Rattle.definition_laws.proofs.Rows.FieldRows.{list_fields}
 use Rattle.definition_laws.proofs.Moves.Moves.{part_short}
@@ -38,7 +37,7 @@ use Rattle.objects.proofs.Short.{Small, why_short, short_text}
 use Rattle.lines.specs.Written.{longest, Room}
 use Rattle.lines.specs.Whys.{is_field, fields_after, fields_in, why_place, why_places, Lies, Explains}
 use Rattle.lines.proofs.Places.{tail_adds, gapless_inside, places_inside}
-use Rattle.lines.proofs.Answers.{Called, there, refused_lines}
+use Rattle.lines.proofs.Answers.{Called, there}
 
 -- a list of blocks of a size, from a place on: what stands there, and behind it
 module _ (xs block rest : List ℕ) (at : ℕ) (e : drop at xs ≡ block ++ rest) where

@@ -1,5 +1,5 @@
 -- What the code writes of fields: the lines of those that lie in words, with their rows.
-use Rattle.std.specs.Prelude.{ℕ, zero, suc, ◌+◌, ◌*◌, ◌≤◌, ◌<◌, ◌≡◌, Bool, List, [], ◌++◌, eqb, length, get_or, if◌then◌else◌}
+use Rattle.std.specs.Prelude.{ℕ, zero, suc, ◌+◌, ◌*◌, ◌≤◌, ◌≡◌, Bool, List, [], ◌++◌, eqb, length, get_or, if◌then◌else◌}
 use Rattle.definition.specs.Chars.{part}
 use Rattle.definition_lines.specs.Why.{why_line, body_why}
 use Rattle.buffers.specs.Over.{over}

@@ -3,25 +3,23 @@
 
 pub mod why;
 
-ghost use Rattle.std.specs.Prelude.{◌≡◌, min, length};
+ghost use Rattle.std.specs.Prelude.{◌≡◌, length};
 ghost use Rattle.objects.specs.Written.{Adds, Fits};
 ghost use Rattle.lines.specs.Written.{place_lines, Lie, Lists, Room};
 
 use answers::Outcome;
+use numbering::Number;
 use objects::{put_line, put_refusal};
 use strings::parse_strings;
-
-pub(crate) const BODIES_TOO_LONG: u32 = 5;
 
 // The lines of a body are never longer: 70 bytes for each of 1,025 records, and six for each of 2,048 bytes of text.
 pub const LONGEST: usize = 84038;
 
-// The lesser of two numbers.
-pub(crate) fn least(a: usize, b: usize) -> usize
-    ensures { result ≡ min a b }
-{
-    if a <= b { a } else { b }
-}
+// A body has at most so many bytes.
+pub(crate) const LARGEST_BODY: usize = 1024;
+
+// A record has so many words.
+pub(crate) const RECORD_WORDS: usize = 8;
 
 // Writes the lines of so many records that lie in words.
 fn write_lines(out: &mut [u8], words: &[u32], text: &[u8], count: usize) -> usize
@@ -29,13 +27,12 @@ fn write_lines(out: &mut [u8], words: &[u32], text: &[u8], count: usize) -> usiz
     ensures { Adds (place_lines words.now text.now count) out.old 0 out.new result }
 {
     let mut used = 0;
-    let mut i = 0;
-    while i < count {
-        let at = i * 8;
+    for i in 0..count {
+        let at = i * RECORD_WORDS;
         let from = words[at + 1] as usize;
         let to = from + words[at + 2] as usize;
-        let lent = least(used, out.len());
-        let size = put_line(
+        let lent = used.min(out.len());
+        used += put_line(
             &mut out[lent..],
             words[at],
             &text[from..to],
@@ -43,8 +40,6 @@ fn write_lines(out: &mut [u8], words: &[u32], text: &[u8], count: usize) -> usiz
             words[at + 6],
             words[at + 7],
         );
-        used = used + size;
-        i += 1;
     }
     used
 }
@@ -83,8 +78,8 @@ pub(crate) fn text() -> [u8; 2048]
 pub fn body_lines(body: &[u8], out: &mut [u8]) -> usize
     ensures { Lists body.now out.old out.new result }
 {
-    if 1024 < body.len() {
-        return put_refusal(out, BODIES_TOO_LONG, 0, 0, 0);
+    if LARGEST_BODY < body.len() {
+        return put_refusal(out, Number::BodiesTooLong as u32, 0, 0, 0);
     }
     let mut words = words();
     let mut text = text();

@@ -4,11 +4,18 @@ ghost use Rattle.objects.specs.Written.{Adds, Fits};
 ghost use Rattle.lines.specs.Written.{Room};
 ghost use Rattle.lines.specs.Whys.{fields_after, fields_in, why_place, why_places, Lies, Explains};
 
-use crate::{BODIES_TOO_LONG, least, text, words};
+use crate::{LARGEST_BODY, RECORD_WORDS, text, words};
 use answers::Outcome;
+use numbering::{Number, RecordKind};
 use objects::put_refusal;
 use objects::why::put_why;
 use strings::{parse_signs, parse_strings};
+
+// The kind of a record that is a field.
+const FIELD: u32 = RecordKind::Field as u32;
+
+// A row has so many numbers.
+const ROW_NUMBERS: usize = 10;
 
 // How much is written: the used bytes, and of how many fields.
 #[derive(Clone, Copy)]
@@ -29,14 +36,14 @@ fn write_place(
     requires { Lies words.now text.now rows.now i so.fields × (i < 4294967296) × (so.fields < 4294967296) × Fits so.used (why_place words.now text.now rows.now i so.fields) }
     ensures { Adds (why_place words.now text.now rows.now i so.fields) out.old so.used out.new result.used × (result.fields ≡ fields_after words.now i so.fields) }
 {
-    let at = i * 8;
-    if words[at] != 2 {
+    let at = i * RECORD_WORDS;
+    if words[at] != FIELD {
         return so;
     }
-    let row = so.fields * 10;
+    let row = so.fields * ROW_NUMBERS;
     let from = words[at + 1] as usize;
     let to = from + words[at + 2] as usize;
-    let lent = least(so.used, out.len());
+    let lent = so.used.min(out.len());
     let size = put_why(
         &mut out[lent..],
         &text[from..to],
@@ -56,10 +63,8 @@ fn write_whys(out: &mut [u8], words: &[u32], text: &[u8], rows: &[u32], count: u
     ensures { Adds (why_places words.now text.now rows.now count) out.old 0 out.new result }
 {
     let mut so = Written { used: 0, fields: 0 };
-    let mut i = 0;
-    while i < count {
+    for i in 0..count {
         so = write_place(out, words, text, rows, i, so);
-        i += 1;
     }
     so.used
 }
@@ -98,8 +103,8 @@ fn rows() -> [u32; 10250]
 pub fn why_lines(body: &[u8], out: &mut [u8]) -> usize
     ensures { Explains body.now out.old out.new result }
 {
-    if 1024 < body.len() {
-        return put_refusal(out, BODIES_TOO_LONG, 0, 0, 0);
+    if LARGEST_BODY < body.len() {
+        return put_refusal(out, Number::BodiesTooLong as u32, 0, 0, 0);
     }
     let mut words = words();
     let mut text = text();

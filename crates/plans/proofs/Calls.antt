@@ -1,9 +1,9 @@
 -- Which plan there is, and what a call of the planner gives. Assumes nothing.
-use Rattle.std.specs.Prelude.{if◌then◌else◌}
+use Rattle.std.specs.Prelude.{if◌then◌else◌, Ok, Err, Some, None}
 use mathlib.Core.Path.{◌≡◌, refl, sym, ap, ◌∙◌}
 use mathlib.Core.Bool.{Bool, true, false, ◌||◌}
 use mathlib.Core.List.{List, [], ◌∷◌}
-use mathlib.Core.Option.{Option, none, some}
+use mathlib.Core.Option.{none, some}
 use Prim.Native.Nat.{ℕ, suc, ◌≤◌, ◌<◌}
 use native.Mathlib.Omega.{arith}
 use borrow.Author.Tests.{lt-ltb, le-ltb, leb-true, leb-false}
@@ -15,10 +15,7 @@ use Rattle.definition_cuts.specs.Plan.{plan, roomed_plan, plan_after, plan_into,
 use Rattle.plans.specs.OnePass.{plan_loop, planned, plan_at}
 use Rattle.definition_cuts_laws.proofs.Cuts.BoundaryLaw.{plan_room}
 use Rattle.plans.proofs.OnePassLaw.{planned_is}
-use Rattle.buffers.specs.Over.{over}
 use Rattle.buffers.proofs.Over.{over_front, length_over}
-use Rattle.plans.specs.declared.Made.TheVariants.{Cuts, Nothing}
-use Rattle.answers.specs.declared.Planned.TheVariants as made
 use Rattle.plans.specs.Answers.{PlanIs, PlannedIs}
 
 -- THE PLAN
@@ -41,15 +38,15 @@ module _ (s : List ℕ) (limit : ℕ) where
 
 -- A PLANNER'S CALL
 module _ (s : List ℕ) (limit : ℕ) (list : List ℕ) where
-  pub no_plan : plan s limit ≡ none → (list' : List ℕ) → list' ≡ zeros list → PlannedIs (plan_into s limit list) list' made.Nothing
+  pub no_plan : plan s limit ≡ none → (list' : List ℕ) → list' ≡ zeros list → PlannedIs (plan_into s limit list) list' (Ok None)
   unfolding plan_into roomed_plan plan_after plan_numbers
   no_plan e list' w = rw (e, plan_into, roomed_plan, plan_after) (refl, w)
 
   module _ (l : length s ≤ 1048576) (f : true ≡ leb (length s) (well_formed s)) (list' : List ℕ) where
-    pub none_made : PlanIs (plan_at s limit 0 0) list list' Nothing → (list'' : List ℕ) → list'' ≡ zeros list' → PlannedIs (plan_into s limit list) list'' made.Nothing
+    pub none_made : PlanIs (plan_at s limit 0 0) list list' None → (list'' : List ℕ) → list'' ≡ zeros list' → PlannedIs (plan_into s limit list) list'' (Ok None)
     none_made h list'' w = no_plan (plan_formed s limit l f ∙ h.0) list'' (w ∙ ap (λ n. replicate n 0) h.1)
 
-    module _ (n : ℕ) (h : PlanIs (plan_at s limit 0 0) list list' (Cuts n)) where
+    module _ (n : ℕ) (h : PlanIs (plan_at s limit 0 0) list list' (Some n)) where
       made_is : plan s limit ≡ some h.0
       made_is = plan_formed s limit l f ∙ h.1
 
@@ -60,13 +57,13 @@ module _ (s : List ℕ) (limit : ℕ) (list : List ℕ) where
       same : length list' ≡ length list
       same = ap length h.3 ∙ length_over list 0 h.0
 
-      pub short_made : length list' < n → (list'' : List ℕ) → list'' ≡ zeros list' → PlannedIs (plan_into s limit list) list'' (made.Short n)
+      pub short_made : length list' < n → (list'' : List ℕ) → list'' ≡ zeros list' → PlannedIs (plan_into s limit list) list'' (Err (record { needed = n }))
       unfolding plan_into roomed_plan plan_after plan_numbers
       short_made k list'' w =
           let g : length list < length h.0 = omega (arith, same, h.2) in
           rw (made_is, plan_into, roomed_plan, lt-ltb (length list) (length h.0) g, plan_after) (ap (λ m. 74 ∷ 0 ∷ 0 ∷ 0 ∷ 0 ∷ 0 ∷ 0 ∷ 0 ∷ 0 ∷ m ∷ []) h.2, w ∙ ap (λ n. replicate n 0) same)
 
-      pub cuts_made : n ≤ length list' → PlannedIs (plan_into s limit list) list' (made.Cuts n)
+      pub cuts_made : n ≤ length list' → PlannedIs (plan_into s limit list) list' (Ok (Some n))
       unfolding plan_into roomed_plan plan_after plan_numbers
       cuts_made k =
           let g : length h.0 ≤ length list = omega (arith, same, h.2) in

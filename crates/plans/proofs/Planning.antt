@@ -1,8 +1,9 @@
 -- Cuts planned and written, token by token. Assumes nothing.
+use Rattle.std.specs.Prelude.{Some, None}
 use mathlib.Core.Path.{◌≡◌, refl, sym, ap, ◌∙◌}
 use mathlib.Core.List.{List, [], ◌∷◌, ◌++◌, append_assoc, append-nil}
 use mathlib.Core.Option.{Option, none, some}
-use Prim.Native.Nat.{ℕ, suc, ◌+◌, ◌≤◌, ◌<◌, zero-le}
+use Prim.Native.Nat.{ℕ, ◌+◌, ◌≤◌, ◌<◌, zero-le}
 use native.Mathlib.Nat.{zero-add}
 use native.Mathlib.Omega.{arith}
 use lib.ListN.{length, length-append}
@@ -17,7 +18,6 @@ use Rattle.definition_cuts_laws.proofs.Tokens.TokenMarks.{token_formed}
 use Rattle.plain.specs.Plain.{plain_end}
 use Rattle.tokens.proofs.PlainTokens.{Run, no_run, run_found, run_later}
 use Rattle.plans.proofs.PlainRuns.{start_path, plan_run, plan_run_cut, plan_run_none}
-use Rattle.plans.specs.declared.Made.TheVariants.{Cuts, Nothing}
 use Rattle.plans.specs.Answers.{PlanIs, StartIs}
 
 -- a plan with cuts in front
@@ -65,7 +65,7 @@ module _ (s : List ℕ) (limit : ℕ) (list₀ list : List ℕ) (start i n plain
   pub same_list : length list ≡ length list₀
   same_list = ap length g.wrote ∙ length_over list₀ 0 g.cuts
 
-  nothing : plan_at s limit start i ≡ none → PlanIs (plan_at s limit 0 0) list₀ list Nothing
+  nothing : plan_at s limit start i ≡ none → PlanIs (plan_at s limit 0 0) list₀ list None
   nothing e = (g.is ∙ ap (onto g.cuts) e, same_list)
 
   -- on to j in the same piece
@@ -99,7 +99,7 @@ module _ (s : List ℕ) (limit : ℕ) (list₀ list : List ℕ) (start i n plain
     run = run_later s i j plain l g.run;
   }
 
-  pub done : length s ≤ i → PlanIs (plan_at s limit 0 0) list₀ list (Cuts n)
+  pub done : length s ≤ i → PlanIs (plan_at s limit 0 0) list₀ list (Some n)
   done h = (g.cuts, g.is ∙ ap (onto g.cuts) (plan_end s limit start i h) ∙ ap some (append-nil g.cuts), g.count, g.wrote)
 
   -- A RUN is found; it fits into the piece; it is cut; or a character of it is longer than the limit
@@ -120,18 +120,18 @@ module _ (s : List ℕ) (limit : ℕ) (list₀ list : List ℕ) (start i n plain
           let p = start_path s i (start + limit) c g.formed f (omega arith) in
           cut_at c c (plan_run_cut s limit start i plain g.run g.formed c f l) z f.on (omega arith) (omega arith) (omega arith) (formed_front s i c (length s) p g.formed refl) list' w
 
-      pub run_none : c ≤ start → PlanIs (plan_at s limit 0 0) list₀ list Nothing
+      pub run_none : c ≤ start → PlanIs (plan_at s limit 0 0) list₀ list None
       run_none z = nothing (plan_run_none s limit start i plain g.run g.formed c f l z)
 
   module _ (h : i < length s) where
-    pub refused : token_end s i ≡ none → PlanIs (plan_at s limit 0 0) list₀ list Nothing
+    pub refused : token_end s i ≡ none → PlanIs (plan_at s limit 0 0) list₀ list None
     refused e = nothing (plan_refused s limit start i h e)
 
     module _ (j : ℕ) (e : token_end s i ≡ some j) (l : i < j) (k : j ≤ length s) where
       pub on : j ≤ start + limit → Planning s limit list₀ list start j n plain
       on f = onward j (plan_on s limit start i h j e f) (omega arith) k f (token_formed s i j h e g.formed)
 
-      pub too_long_lem : start + limit < j → i + limit < j → PlanIs (plan_at s limit 0 0) list₀ list Nothing
+      pub too_long_lem : start + limit < j → i + limit < j → PlanIs (plan_at s limit 0 0) list₀ list None
       too_long_lem a b = nothing (plan_none s limit start i h j e a b)
 
       pub cut : start + limit < j → j ≤ i + limit → (list' : List ℕ) → list' ≡ over list n (i ∷ []) → Planning s limit list₀ list' i j (n + 1) plain

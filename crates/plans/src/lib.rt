@@ -7,43 +7,34 @@ ghost use Rattle.definition_cuts.specs.Plan.{plan_into};
 ghost use Rattle.plans.specs.OnePass.{plan_at};
 ghost use Rattle.plans.specs.Answers.{StartIs, PlanIs, PlannedIs};
 
-use answers::Planned;
-use buffers::{fill_words, put_word};
+use answers::NoRoom;
+use buffers::{fill, put};
+use numbering::Kind;
 use offsets::is_tail;
 use plain::{is_plain_at, plain_end};
-use tokens::{Token, is_formed, token_end};
+use tokens::{is_formed, token_end};
 
 const LARGEST_BODY: usize = 1048576;
 
 // The kind of an f-string: each character of what is plain there is a token.
-const F_STRING: u32 = 1;
-
-// How many cuts a plan has; or there is none.
-#[derive(Clone, Copy)]
-enum Made {
-    Cuts(usize),
-    Nothing,
-}
+const F_STRING: u32 = Kind::FString as u32;
 
 // The last index no later than one, and no earlier than another, where a character begins; else that other.
 fn start_at(s: &[u8], from: usize, at: usize) -> usize
     requires { (from ≤ at) × (at < length s.now) }
     ensures { StartIs s.now from at result }
 {
+    // Backwards, with one condition: a search by `rposition` would say no more.
     let mut i = at;
-    while from < i {
-        let b = s[i];
-        if is_tail(b) {
-            i -= 1;
-            continue;
-        }
-        return i;
+    // Backwards over the bytes within a character, so no `for` counts them.
+    while from < i && is_tail(s[i]) {
+        i -= 1;
     }
     i
 }
 
-// The plan's cuts, written from the front of a list as far as there is room.
-fn plan_into(s: &[u8], limit: u32, list: &mut [u32]) -> Made
+// The plan's cuts, written from the front of a list as far as there is room: how many there are, if there is a plan.
+fn plan_into(s: &[u8], limit: u32, list: &mut [u32]) -> Option<usize>
     requires { (length s.now ≤ 1048576) × (length s.now ≤ well_formed s.now) }
     ensures { PlanIs (plan_at s.now limit 0 0) list.old list.new result }
 {
@@ -52,6 +43,7 @@ fn plan_into(s: &[u8], limit: u32, list: &mut [u32]) -> Made
     let mut i = 0;
     let mut n = 0;
     let mut plain = 0;
+    // A step is a token, a run or a cut, so no `for` counts them.
     while i < s.len() {
         let end = start + room;
         if i < plain {
@@ -61,70 +53,49 @@ fn plan_into(s: &[u8], limit: u32, list: &mut [u32]) -> Made
             }
             let c = start_at(s, i, end);
             if c <= start {
-                return Made::Nothing;
+                return None;
             }
-            put_word(list, n, c as u32);
+            put(list, n, c as u32);
             n += 1;
             start = c;
             i = c;
-            continue;
-        }
-        if is_plain_at(s, i, F_STRING) {
+        } else if is_plain_at(s, i, F_STRING) {
             plain = plain_end(s, i, F_STRING);
-            continue;
-        }
-        let t = token_end(s, i);
-        match t {
-            Token::TooLong => {
-                return Made::Nothing;
-            }
-            Token::Refused => {
-                return Made::Nothing;
-            }
-            Token::Ends(j) => {
-                if j <= end {
-                    i = j;
-                    continue;
-                }
-                if i + room < j {
-                    return Made::Nothing;
-                }
-                put_word(list, n, i as u32);
-                n += 1;
-                start = i;
+        } else {
+            let j = token_end(s, i).ok()?;
+            if j <= end {
                 i = j;
                 continue;
             }
+            if i + room < j {
+                return None;
+            }
+            put(list, n, i as u32);
+            n += 1;
+            start = i;
+            i = j;
         }
     }
-    Made::Cuts(n)
+    Some(n)
 }
 
 // The plan of cuts for a body of kind 1, written from the front of a list; zeros throughout if there is none, or too little room.
-pub fn plan(s: &[u8], limit: u32, list: &mut [u32]) -> Planned
+pub fn plan(s: &[u8], limit: u32, list: &mut [u32]) -> Result<Option<u32>, NoRoom>
     ensures { PlannedIs (plan_into s.now limit list.old) list.new result }
 {
-    if LARGEST_BODY < s.len() {
-        fill_words(list, 0);
-        return Planned::Nothing;
+    if LARGEST_BODY < s.len() || !is_formed(s) {
+        fill(list, 0);
+        return Ok(None);
     }
-    if is_formed(s) {
-        match plan_into(s, limit, list) {
-            Made::Nothing => {
-                fill_words(list, 0);
-                Planned::Nothing
-            }
-            Made::Cuts(n) => {
-                let count = n as u32;
-                if list.len() < n {
-                    fill_words(list, 0);
-                    return Planned::Short(count);
-                }
-                Planned::Cuts(count)
-            }
+    match plan_into(s, limit, list) {
+        None => {
+            fill(list, 0);
+            Ok(None)
         }
-    } else {
-        fill_words(list, 0);
-        Planned::Nothing
+        Some(n) if list.len() < n => {
+            fill(list, 0);
+            Err(NoRoom { needed: n as u32 })
+        }
+        Some(n) => Ok(Some(n as u32)),
     }
 }

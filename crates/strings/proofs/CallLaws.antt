@@ -15,7 +15,7 @@ use Rattle.definition.specs.Escapes.{Naming}
 use Rattle.definition.specs.Reading.{accepts, refuses, sort_of, sort_number, u_mark, last_end, answered, outcome_of, room_for, roomed, Call, called, read_into, read_numbers, words_after, text_after, all_words, numbers, zeros, numbers_by}
 use Rattle.definition.specs.Reading as o
 use Rattle.buffers.proofs.Over.{length_over, over_front}
-use Rattle.entry.specs.Literals.{literal_at, literals}
+use Rattle.entry.specs.Literals.{literal_at}
 use Rattle.entry.specs.declared.Descriptor.{Descriptor}
 use Rattle.entry.specs.declared.Refusal.{Refusal}
 use Rattle.entry.specs.Answers.{described, six, refusal_of}

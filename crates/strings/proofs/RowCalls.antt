@@ -1,6 +1,6 @@
 -- What a call for the rows of a list answers and leaves, by what was read of it. Assumes nothing.
 use mathlib.Core.Path.{◌≡◌, refl, ◌∙◌, ap}
-use mathlib.Core.Bool.{true, false, true≢false, false≢true}
+use mathlib.Core.Bool.{true≢false, false≢true}
 use mathlib.Core.List.{List, [], ◌∷◌}
 use mathlib.Core.Option.{Option, none, some}
 use Prim.Native.Nat.{ℕ, ◌/◌, ◌≤◌}
@@ -9,14 +9,12 @@ use lib.ListN.{length, get_or, replicate}
 use lib.Seq.{take_all}
 use Rattle.definition.specs.Numbers.{not_sixes}
 use Rattle.definition.specs.Escapes.{Naming}
-use Rattle.definition.specs.Body.{enough}
 use Rattle.definition.specs.Records.{answer_of}
 use Rattle.definition.specs.Entry.{Literal, sixes, first_start, Refusal, refusal}
 use Rattle.definition.specs.Reading as lists
 use Rattle.definition.specs.Reading.{accepts, refuses, sort_of, sort_number, u_mark, last_end, answered, outcome_of, room_for, read, numbers, in_front, zeros}
 use Rattle.definition.specs.Rows as d
 use Rattle.definition.specs.Rows.{all_rows, all_numbers, rowed, roomed_rows, rows_after, SignsCall, called_rows, signs_into, signs_numbers, rowed_numbers}
-use Rattle.buffers.specs.Over.{over}
 use Rattle.entry.specs.Answers.{refusal_of}
 use Rattle.entry.specs.declared.Refusal as why
 use Rattle.entry.proofs.Checks.{room_enough}

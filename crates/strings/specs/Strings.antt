@@ -1,5 +1,5 @@
 -- What a call over a list of literals answers and leaves, by the definition's reading.
-use Rattle.std.specs.Prelude.{ℕ, ◌/◌, ◌≤◌, ◌≡◌, Bool, true, false, List, [], ◌∷◌, length}
+use Rattle.std.specs.Prelude.{ℕ, ◌/◌, ◌≤◌, ◌≡◌, Bool, true, false, List, length}
 use Rattle.definition.specs.Entry.{Literal, first_start}
 use Rattle.definition.specs.Reading.{accepts, refuses, sort_of, sort_number, u_mark, last_end, Call, numbers}
 use Rattle.definition.specs.Reading as lists

@@ -9,7 +9,8 @@ ghost use Rattle.definition.specs.Reading.{sort_of, sort_number, read_numbers, z
 ghost use Rattle.definition.specs.Rows.{signs_numbers};
 ghost use Rattle.definition_names.specs.Names.{searched};
 ghost use Rattle.definition_names.specs.NamedReading.{named_numbers};
-ghost use Rattle.escapes.specs.Answers.{names_by};
+ghost use Rattle.names.specs.Answers.{number_of};
+ghost use Rattle.escapes.specs.Answers.{naming};
 ghost use Rattle.entry.specs.Answers.{refusal_of};
 ghost use Rattle.bodies.specs.Lists.{DoneIs};
 ghost use Rattle.answers.specs.declared.Outcome.TheVariants.{Refused};
@@ -17,14 +18,15 @@ ghost use Rattle.strings.specs.Strings.{listed, Few, answer_of, CallIs, SignsIs}
 ghost use Rattle.strings.specs.Window.{window_numbers};
 
 use answers::{Answer, Outcome};
-use bodies::{Reading, Written};
-use entry::{Checked, Class};
+use bodies::Written;
+use entry::Class;
+use names::{HELD, IndexError, NO_NAMES, Names};
 
 // A refusal: both buffers are filled with zeros.
 fn refuse(words: &mut [u32], text: &mut [u8], r: entry::Refusal) -> Outcome
     ensures { (result ≡ Refused r) × (words.new ≡ zeros words.old) × (text.new ≡ zeros text.old) }
 {
-    buffers::fill_words(words, 0);
+    buffers::fill(words, 0);
     buffers::fill(text, 0);
     Outcome::Refused(r)
 }
@@ -35,12 +37,12 @@ fn sort_of(numbers: &[u32], kind: u32) -> u32
     ensures { result ≡ sort_number (sort_of (listed numbers.now)) }
 {
     if entry::any_of(Class::FStrings, numbers, (numbers.len() / 6) as u32) {
-        return 1;
+        1
+    } else if kind == 4 {
+        2
+    } else {
+        0
     }
-    if kind == 4 {
-        return 2;
-    }
-    0
 }
 
 // The answer of literals that were read, with so many records and text bytes.
@@ -65,8 +67,8 @@ fn finish(numbers: &[u32], w: Written, words: &mut [u32], text: &mut [u8]) -> Ou
     ensures { (look : Naming) (within skip : ℕ) (script words₀ text₀ rows rows' : List ℕ) → DoneIs look within skip script numbers.now words₀ text₀ rows words.old text.old rows' w → CallIs (read_numbers look script numbers.now words₀ text₀) words.new text.new result }
 {
     match entry::room(words.len() / 8, text.len(), w.records, w.text, w.chars) {
-        Checked::Refused(r) => refuse(words, text, r),
-        Checked::Passed(_) => Outcome::Accepted(answer_of(numbers, w, w.records, w.text)),
+        Err(r) => refuse(words, text, r),
+        Ok(_) => Outcome::Accepted(answer_of(numbers, w, w.records, w.text)),
     }
 }
 
@@ -74,17 +76,16 @@ fn finish(numbers: &[u32], w: Written, words: &mut [u32], text: &mut [u8]) -> Ou
 fn parse_by(
     script: &[u8],
     numbers: &[u32],
-    file: &[u8],
-    index: &[u32],
+    names: &Names,
     words: &mut [u32],
     text: &mut [u8],
 ) -> Outcome
-    ensures { CallIs (read_numbers (names_by file.now index.now) script.now numbers.now words.old text.old) words.new text.new result }
+    ensures { CallIs (read_numbers (naming names.now) script.now numbers.now words.old text.old) words.new text.new result }
 {
     let mut rows = [0u32; 0];
-    match bodies::read_all(script, numbers, 0, 0, words, text, &mut rows, file, index) {
-        Reading::Refused(r) => Outcome::Refused(r),
-        Reading::Done(w) => finish(numbers, w, words, text),
+    match bodies::read_all(script, numbers, 0, 0, words, text, &mut rows, names) {
+        Err(r) => Outcome::Refused(r),
+        Ok(w) => finish(numbers, w, words, text),
     }
 }
 
@@ -95,8 +96,8 @@ fn parse_one(script: &[u8], numbers: &[u32], words: &mut [u32], text: &mut [u8])
 {
     let l = entry::literal_at(numbers, 0);
     match bodies::read_one(script, l, words, text) {
-        Reading::Refused(r) => Outcome::Refused(r),
-        Reading::Done(w) => finish(numbers, w, words, text),
+        Err(r) => Outcome::Refused(r),
+        Ok(w) => finish(numbers, w, words, text),
     }
 }
 
@@ -107,8 +108,7 @@ pub fn parse_strings(script: &[u8], numbers: &[u32], words: &mut [u32], text: &m
     if numbers.len() == 6 {
         return parse_one(script, numbers, words, text);
     }
-    let file = [0u8; 0];
-    let index = [0u32; 0];
+    // Not through `parse_by`: tried, and short calls were slower (docs/DECISIONS.md).
     let mut rows = [0u32; 0];
     match bodies::read_all(
         &script[..],
@@ -118,15 +118,15 @@ pub fn parse_strings(script: &[u8], numbers: &[u32], words: &mut [u32], text: &m
         words,
         text,
         &mut rows,
-        &file,
-        &index,
+        &HELD,
     ) {
-        Reading::Refused(r) => Outcome::Refused(r),
-        Reading::Done(w) => finish(numbers, w, words, text),
+        Err(r) => Outcome::Refused(r),
+        Ok(w) => finish(numbers, w, words, text),
     }
 }
 
 // Reads them as `parse_strings` does, with names searched in a file by whatever index is lent.
+// File and index apart, as the C interface has them.
 pub fn parse_searched(
     script: &[u8],
     numbers: &[u32],
@@ -137,19 +137,19 @@ pub fn parse_searched(
 ) -> Outcome
     ensures { CallIs (read_numbers (searched file.now index.now) script.now numbers.now words.old text.old) words.new text.new result }
 {
-    if file.len() == 0 {
-        let none = names::NO_NAMES;
-        return parse_by(script, numbers, &none, index, words, text);
+    if file.is_empty() {
+        let file = &NO_NAMES;
+        return parse_by(script, numbers, &Names { file, index }, words, text);
     }
-    parse_by(script, numbers, file, index, words, text)
+    parse_by(script, numbers, &Names { file, index }, words, text)
 }
 
 // A refusal of a file or its index: its number alone.
-fn of_names(number: u32) -> entry::Refusal
-    ensures { refusal_of result ≡ a_refusal number 0 0 0 0 }
+fn of_names(e: IndexError) -> entry::Refusal
+    ensures { refusal_of result ≡ a_refusal (number_of e) 0 0 0 0 }
 {
     entry::Refusal {
-        number,
+        number: u32::from(e),
         literal: 0,
         place: 0,
         a: 0,
@@ -173,10 +173,10 @@ pub fn parse_named(
     ensures { CallIs (named_numbers file.now index.now script.now numbers.now words.old text.old) words.new text.new result }
 {
     match checks::check(script, numbers) {
-        Checked::Refused(r) => refuse(words, text, r),
-        Checked::Passed(_) => match names::check(file, index) {
-            names::Answer::Refused(number) => refuse(words, text, of_names(number)),
-            names::Answer::Entries(_) => parse_searched(script, numbers, file, index, words, text),
+        Err(r) => refuse(words, text, r),
+        Ok(_) => match names::check(file, index) {
+            Err(e) => refuse(words, text, of_names(e)),
+            Ok(_) => parse_searched(script, numbers, file, index, words, text),
         },
     }
 }
@@ -189,27 +189,18 @@ pub fn parse_window(
     within: u32,
     skip: u32,
     rows: &mut [u32],
-    file: &[u8],
-    index: &[u32],
+    names: &Names,
 ) -> Outcome
-    ensures { SignsIs (window_numbers (names_by file.now index.now) within skip script.now numbers.now rows.old) rows.new result }
+    ensures { SignsIs (window_numbers (naming names.now) within skip script.now numbers.now rows.old) rows.new result }
 {
     let mut words = [0u32; 0];
     let mut text = [0u8; 0];
     match bodies::read_all(
-        script, numbers, within, skip, &mut words, &mut text, rows, file, index,
+        script, numbers, within, skip, &mut words, &mut text, rows, names,
     ) {
-        Reading::Refused(r) => Outcome::Refused(r),
-        Reading::Done(w) => Outcome::Accepted(answer_of(numbers, w, w.fields, 0)),
+        Err(r) => Outcome::Refused(r),
+        Ok(w) => Outcome::Accepted(answer_of(numbers, w, w.fields, 0)),
     }
-}
-
-// A refusal: the row buffer is filled with zeros.
-fn refuse_rows(rows: &mut [u32], r: entry::Refusal) -> Outcome
-    ensures { (result ≡ Refused r) × (rows.new ≡ zeros rows.old) }
-{
-    buffers::fill_words(rows, 0);
-    Outcome::Refused(r)
 }
 
 // Reads the literals whose numbers are listed, as `parse_strings` does, and writes the row of each field, ten numbers for each. An answer's
@@ -217,13 +208,14 @@ fn refuse_rows(rows: &mut [u32], r: entry::Refusal) -> Outcome
 pub fn parse_signs(script: &[u8], numbers: &[u32], rows: &mut [u32]) -> Outcome
     ensures { SignsIs (signs_numbers held_names script.now numbers.now rows.old) rows.new result }
 {
-    let file = [0u8; 0];
-    let index = [0u32; 0];
-    match parse_window(script, numbers, 0, 0, rows, &file, &index) {
+    match parse_window(script, numbers, 0, 0, rows, &HELD) {
         Outcome::Refused(r) => Outcome::Refused(r),
         Outcome::Accepted(x) => match entry::room(rows.len() / 10, 0, x.records, 0, x.chars) {
-            Checked::Refused(r) => refuse_rows(rows, r),
-            Checked::Passed(_) => Outcome::Accepted(x),
+            Err(r) => {
+                buffers::fill(rows, 0);
+                Outcome::Refused(r)
+            }
+            Ok(_) => Outcome::Accepted(x),
         },
     }
 }

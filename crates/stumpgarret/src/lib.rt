@@ -18,10 +18,13 @@ ghost use Rattle.definition_written.specs.Written.{written_into};
 ghost use Rattle.definition_cuts.specs.Cuts.{checked};
 ghost use Rattle.definition_cuts.specs.Plan.{plan_into};
 ghost use Rattle.answers.specs.Twelve.{twelve};
+ghost use Rattle.twelve.specs.Index.{index_says};
+ghost use Rattle.stumpgarret.specs.Indexes.{in_numbers};
 ghost use Rattle.stumpgarret.specs.Calls.{CallIs, SignsIs, ListIs, FieldsIs, IndexIs, ReplayIs, CompareIs, WriteIs, PlanIs};
 
 use listing::{list_fields, list_named};
 use literals::{list_cut, list_literals};
+use names::IndexError;
 use replay::replay_trace;
 use revisions::compare;
 use strings::{parse_named, parse_searched, parse_signs, parse_strings};
@@ -80,18 +83,28 @@ pub fn stumpgarret_fields_named(
     *answer = answers::of_fields(list_named(script, file, index, rows));
 }
 
+// The twelve numbers of an index; of what is wrong with it, its number.
+fn of_index(x: Result<u32, IndexError>) -> [u32; 12]
+    ensures { result ≡ twelve (index_says (in_numbers x)) }
+{
+    match x {
+        Ok(count) => twelve::of_index(Ok(count)),
+        Err(e) => twelve::of_index(Err(u32::from(e))),
+    }
+}
+
 // Builds the index of a file of names at the front of a list, and answers in twelve numbers.
 pub fn stumpgarret_names_build(file: &[u8], index: &mut [u32], answer: &mut [u32; 12])
     ensures { IndexIs (build_into file.now index.old) answer.new index.new }
 {
-    *answer = twelve::of_index(names::build(file, index));
+    *answer = of_index(names::build(file, index));
 }
 
 // Checks that a list is the index of a file of names, and answers in twelve numbers.
 pub fn stumpgarret_names_check(file: &[u8], index: &[u32], answer: &mut [u32; 12])
     ensures { answer.new ≡ twelve (index_numbers (check file.now index.now)) }
 {
-    *answer = twelve::of_index(names::check(file, index));
+    *answer = of_index(names::check(file, index));
 }
 
 // Reads the literals as `stumpgarret_read` does, with the names of a file, which is checked with its index after the entry checks.

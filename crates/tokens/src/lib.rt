@@ -7,84 +7,85 @@ ghost use Rattle.definition_cuts.specs.Tokens.{move_end, staying};
 ghost use Rattle.utf8.proofs.Steps.{Stepped};
 ghost use Rattle.tokens.specs.Tokens.{EndIs, TokenIs};
 
-use bodies::{FieldEnd, field_end};
-use texts::{EscapeEnd, escape_end};
+use bodies::field_end;
+use texts::{NoEnd, escape_end};
 use utf8::{Cursor, Step};
 
-// Where a token ends; it is refused, or none stands there; or the body is over the size limit.
-#[derive(Clone, Copy)]
-pub enum Token {
-    Ends(usize),
+// Why no token ends: it is refused, or none stands there; or the body is over the size limit.
+#[derive(Clone, Copy, PartialEq, Eq)]
+pub enum NoToken {
     Refused,
     TooLong,
+}
+
+impl From<NoEnd> for NoToken {
+    ghost use Rattle.tokens.specs.Tokens.{of_end};
+
+    ghost from_gives = { λ e t. t ≡ of_end e };
+
+    fn from(e: NoEnd) -> NoToken {
+        match e {
+            NoEnd::Refused | NoEnd::Nowhere => NoToken::Refused,
+            NoEnd::TooLong => NoToken::TooLong,
+        }
+    }
 }
 
 const LARGEST_BODY: usize = 1048576;
 
 // At a `{`, which was just taken: doubled it is one; as the last character it is refused; else a field opens.
-fn left_end(s: &[u8], from: Cursor, after: Cursor) -> Token
+fn left_end(s: &[u8], from: Cursor, after: Cursor) -> Result<usize, NoToken>
     requires { Stepped s.now from.at 0x7B after × (length s.now ≤ 1048576) }
     ensures { EndIs (move_end s.now from.at) result }
 {
     let Step::Char(c, past) = after.next_char(s) else {
-        return Token::Refused;
+        return Err(NoToken::Refused);
     };
     if c == 0x7B {
-        return Token::Ends(past.at);
+        return Ok(past.at);
     }
-    match field_end(s, from.at) {
-        FieldEnd::At(end) => Token::Ends(end),
-        FieldEnd::Refused => Token::Refused,
-        FieldEnd::Nowhere => Token::Refused,
-        FieldEnd::TooLong => Token::TooLong,
-    }
+    Ok(field_end(s, from.at)?)
 }
 
 // At a `}`, which was just taken: doubled it is one; else it is refused.
-fn right_end(s: &[u8], from: Cursor, after: Cursor) -> Token
+fn right_end(s: &[u8], from: Cursor, after: Cursor) -> Result<usize, NoToken>
     requires { Stepped s.now from.at 0x7D after }
     ensures { EndIs (move_end s.now from.at) result }
 {
     let Step::Char(c, past) = after.next_char(s) else {
-        return Token::Refused;
+        return Err(NoToken::Refused);
     };
     if c == 0x7D {
-        return Token::Ends(past.at);
+        Ok(past.at)
+    } else {
+        Err(NoToken::Refused)
     }
-    Token::Refused
 }
 
 // At a backslash, which was just taken: it stays before a brace; else an escape.
-fn backslash_end(s: &[u8], from: Cursor, after: Cursor) -> Token
+fn backslash_end(s: &[u8], from: Cursor, after: Cursor) -> Result<usize, NoToken>
     requires { Stepped s.now from.at 0x5C after × (length s.now ≤ 1048576) }
     ensures { EndIs (move_end s.now from.at) result }
 {
     match after.peek(s) {
-        0x7B => return Token::Ends(after.at),
-        0x7D => return Token::Ends(after.at),
-        _ => {}
-    }
-    match escape_end(s, from.at) {
-        EscapeEnd::At(end) => Token::Ends(end),
-        EscapeEnd::Refused => Token::Refused,
-        EscapeEnd::Nowhere => Token::Refused,
-        EscapeEnd::TooLong => Token::TooLong,
+        0x7B | 0x7D => Ok(after.at),
+        _ => Ok(escape_end(s, from.at)?),
     }
 }
 
 // What is read at a cursor in one step.
-fn move_end(s: &[u8], from: Cursor) -> Token
+fn move_end(s: &[u8], from: Cursor) -> Result<usize, NoToken>
     requires { length s.now ≤ 1048576 }
     ensures { EndIs (move_end s.now from.at) result }
 {
     let Step::Char(c, after) = from.next_char(s) else {
-        return Token::Refused;
+        return Err(NoToken::Refused);
     };
     match c {
         0x7B => left_end(s, from, after),
         0x7D => right_end(s, from, after),
         0x5C => backslash_end(s, from, after),
-        _ => Token::Ends(after.at),
+        _ => Ok(after.at),
     }
 }
 
@@ -92,25 +93,21 @@ fn move_end(s: &[u8], from: Cursor) -> Token
 fn past_staying(s: &[u8], from: Cursor) -> Cursor
     ensures { result.at ≡ (if staying s.now from.at then next s.now from.at else from.at) }
 {
-    let Step::Char(c, after) = from.next_char(s) else {
-        return from;
-    };
-    if c != 0x5C {
-        return from;
-    }
-    match after.peek(s) {
-        0x7B => after,
-        0x7D => after,
+    match from.next_char(s) {
+        Step::Char(0x5C, after) => match after.peek(s) {
+            0x7B | 0x7D => after,
+            _ => from,
+        },
         _ => from,
     }
 }
 
 // Where the token at an index of a body of kind 1 ends.
-pub fn token_end(s: &[u8], at: usize) -> Token
+pub fn token_end(s: &[u8], at: usize) -> Result<usize, NoToken>
     ensures { TokenIs s.now at result }
 {
     if LARGEST_BODY < s.len() {
-        return Token::TooLong;
+        return Err(NoToken::TooLong);
     }
     let from = past_staying(s, Cursor { at });
     move_end(s, from)

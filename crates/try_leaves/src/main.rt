@@ -3,6 +3,7 @@
 
 use buffers::read_full;
 use escapes::Escaped;
+use names::HELD;
 use std::io;
 use utf8::{Cursor, Step};
 
@@ -19,8 +20,7 @@ fn put_number(rt: &impl Print, n: usize) -> io::Result<()> {
 // Each character by `peek` and by `next_char`, and where it ends; then `peek` at the end.
 fn put_chars(rt: &impl Print, s: &[u8]) -> io::Result<()> {
     let mut cursor = Cursor { at: 0 };
-    let mut left = s.len();
-    while left > 0 {
+    for _ in 0..s.len() {
         put_number(rt, cursor.peek(s) as usize)?;
         let Step::Char(c, next) = cursor.next_char(s) else {
             return Ok(());
@@ -28,7 +28,6 @@ fn put_chars(rt: &impl Print, s: &[u8]) -> io::Result<()> {
         put_number(rt, c as usize)?;
         put_number(rt, next.at)?;
         cursor = next;
-        left -= 1;
     }
     put_number(rt, cursor.peek(s) as usize)
 }
@@ -62,7 +61,7 @@ fn try_one(rt: &impl Print, sort: u8, kind: u8, at: usize, s: &[u8]) -> io::Resu
     match sort {
         b'b' => {
             put(rt, b"class")?;
-            if 0 < s.len() {
+            if !s.is_empty() {
                 put_number(rt, utf8::class(s[0]))?;
             }
         }
@@ -75,22 +74,16 @@ fn try_one(rt: &impl Print, sort: u8, kind: u8, at: usize, s: &[u8]) -> io::Resu
             put_chars(rt, s)?;
         }
         _ => {
-            let file = [0u8; 0];
-            let index = [0u32; 0];
-            let answer = escapes::parse_escaped_char(s, Cursor { at }, kind as u32, &file, &index);
+            let answer = escapes::parse_escaped_char(s, Cursor { at }, u32::from(kind), &HELD);
             put_escaped(rt, answer)?;
         }
     }
     put(rt, b"\n")
 }
 
-// A byte as a number.
-fn wide(b: u8) -> usize {
-    b as usize
-}
-
 // A vector is four bytes, its sort, kind, index and length, and so many bytes.
 fn try_all(rt: &impl Print, input: &[u8]) -> io::Result<()> {
+    // A step is a vector, of any length.
     let mut i = 0;
     while i < input.len() {
         let left = input.len() - i;
@@ -98,12 +91,12 @@ fn try_all(rt: &impl Print, input: &[u8]) -> io::Result<()> {
             return Ok(());
         }
         let from = i + 4;
-        let len = wide(input[i + 3]);
+        let len = usize::from(input[i + 3]);
         if left - 4 < len {
             return Ok(());
         }
         let to = from + len;
-        let at = wide(input[i + 2]);
+        let at = usize::from(input[i + 2]);
         try_one(rt, input[i], input[i + 1], at, &input[from..to])?;
         i = to;
     }

@@ -17,13 +17,6 @@ const FILL_WORD: u32 = 0xA5A5A5A5;
 
 const FILL_BYTE: u8 = 0xA5;
 
-// The lesser of two numbers.
-fn least(a: usize, b: usize) -> usize
-    ensures { (result ≤ a) × (result ≤ b) }
-{
-    if a < b { a } else { b }
-}
-
 // So many bytes further, and no further than the end.
 fn forward(bytes: &[u8], at: usize, count: usize) -> usize
     ensures { (result ≤ length bytes.now) × (at ≤ length bytes.now → at ≤ result) }
@@ -38,14 +31,13 @@ fn forward(bytes: &[u8], at: usize, count: usize) -> usize
     at + count
 }
 
-// A byte as a number.
-fn wide(byte: u8) -> u32 {
-    byte as u32
-}
-
-// A byte as a number; 0 where the bytes end.
+// A byte as a number; 0 where the bytes end, since a case that is cut off reads as zeros.
 fn byte_at(bytes: &[u8], at: usize) -> u32 {
-    if at < bytes.len() { wide(bytes[at]) } else { 0 }
+    if at < bytes.len() {
+        u32::from(bytes[at])
+    } else {
+        0
+    }
 }
 
 // The number that begins at an index.
@@ -58,13 +50,11 @@ fn number_at(bytes: &[u8], at: usize) -> u32 {
 
 // Takes so many numbers, as far as the list goes, and says where they end.
 fn take_list(input: &[u8], from: usize, count: u32, list: &mut [u32]) -> usize {
-    let n = least(count as usize, list.len());
+    let n = list.len().min(count as usize);
     let mut at = from;
-    let mut i = 0;
-    while i < n {
-        list[i] = number_at(input, at);
+    for number in &mut list[..n] {
+        *number = number_at(input, at);
         at = forward(input, at, 4);
-        i += 1;
     }
     at
 }
@@ -79,10 +69,8 @@ fn put_piece(script: &mut [u8], used: usize, piece: &[u8]) -> usize {
 // A piece, so many times.
 fn put_times(script: &mut [u8], from: usize, piece: &[u8], times: u32) -> usize {
     let mut used = from;
-    let mut i = 0;
-    while i < times {
+    for _ in 0..times {
         used = put_piece(script, used, piece);
-        i += 1;
     }
     used
 }
@@ -107,10 +95,8 @@ fn take_piece(input: &[u8], taken: Taken, script: &mut [u8]) -> Taken {
 // Takes so many pieces.
 fn take_script(input: &[u8], from: usize, count: u32, script: &mut [u8]) -> Taken {
     let mut taken = Taken { at: from, used: 0 };
-    let mut i = 0;
-    while i < count {
+    for _ in 0..count {
         taken = take_piece(input, taken, script);
-        i += 1;
     }
     taken
 }
@@ -129,8 +115,7 @@ struct Run {
 
 // Writes a run after a space; of none, nothing.
 fn put_run(rt: &impl Print, run: Run) -> io::Result<()> {
-    let count = run.count;
-    let element = run.element;
+    let Run { count, element } = run;
     match count {
         0 => Ok(()),
         1 => print!(rt; " {element}"),
@@ -140,13 +125,11 @@ fn put_run(rt: &impl Print, run: Run) -> io::Result<()> {
 
 // The run with one more element; if that is another one, the run is written and a new one begins.
 fn next(rt: &impl Print, run: Run, element: u32) -> io::Result<Run> {
-    if element == run.element {
-        if run.count < 0xFFFFFFFF {
-            return Ok(Run {
-                count: run.count + 1,
-                element,
-            });
-        }
+    if element == run.element && run.count < u32::MAX {
+        return Ok(Run {
+            count: run.count + 1,
+            element,
+        });
     }
     put_run(rt, run)?;
     Ok(Run { count: 1, element })
@@ -158,10 +141,8 @@ fn put_words(rt: &impl Print, words: &[u32]) -> io::Result<()> {
         count: 0,
         element: 0,
     };
-    let mut i = 0;
-    while i < words.len() {
-        run = next(rt, run, words[i])?;
-        i += 1;
+    for word in words {
+        run = next(rt, run, *word)?;
     }
     put_run(rt, run)?;
     put(rt, b"\n")
@@ -173,10 +154,8 @@ fn put_bytes(rt: &impl Print, bytes: &[u8]) -> io::Result<()> {
         count: 0,
         element: 0,
     };
-    let mut i = 0;
-    while i < bytes.len() {
-        run = next(rt, run, wide(bytes[i]))?;
-        i += 1;
+    for byte in bytes {
+        run = next(rt, run, u32::from(*byte))?;
     }
     put_run(rt, run)?;
     put(rt, b"\n")
@@ -197,7 +176,7 @@ fn read_case(
     text: &mut [u8],
 ) -> io::Result<()> {
     let mut answer = [FILL_WORD; 12];
-    buffers::fill_words(words, FILL_WORD);
+    buffers::fill(words, FILL_WORD);
     buffers::fill(text, FILL_BYTE);
     stumpgarret_read(script, list, words, text, &mut answer);
     put_answer(rt, &answer)?;
@@ -223,10 +202,10 @@ fn run_case(
     let lent_bytes = number_at(input, forward(input, at, 12)) as usize;
     let listed = take_list(input, forward(input, at, 16), numbers, list);
     let taken = take_script(input, listed, pieces, script);
-    let list_end = least(numbers as usize, list.len());
-    let script_end = least(taken.used, script.len());
-    let words_end = least(lent_words, words.len());
-    let text_end = least(lent_bytes, text.len());
+    let list_end = list.len().min(numbers as usize);
+    let script_end = script.len().min(taken.used);
+    let words_end = words.len().min(lent_words);
+    let text_end = text.len().min(lent_bytes);
     read_case(
         rt,
         &script[..script_end],
@@ -249,10 +228,8 @@ fn run_list(
 ) -> io::Result<usize> {
     let count = number_at(input, from);
     let mut at = forward(input, from, 4);
-    let mut i = 0;
-    while i < count {
+    for _ in 0..count {
         at = run_case(rt, input, at, list, script, words, text)?;
-        i += 1;
     }
     Ok(at)
 }

@@ -1,9 +1,7 @@
 -- The numbers of an index.
-use Rattle.std.specs.Prelude.{ℕ, List, [], ◌∷◌}
-use Rattle.names.specs.declared.Answer.{Answer}
-use Rattle.names.specs.declared.Answer.TheVariants.{Entries, Refused}
+use Rattle.std.specs.Prelude.{ℕ, List, [], ◌∷◌, Result, Ok, Err}
 
 -- the paper's numbers of an index
-abbrev pub index_says : Answer → List ℕ
-index_says (Entries n) = 0 ∷ n ∷ []
-index_says (Refused n) = n ∷ []
+abbrev pub index_says : Result ℕ ℕ → List ℕ
+index_says (Ok n) = 0 ∷ n ∷ []
+index_says (Err n) = n ∷ []

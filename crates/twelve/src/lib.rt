@@ -1,76 +1,86 @@
 // An index, literals, a comparison and a check in the twelve numbers of the C interface.
-#![tactic(auto)]
+#![tactic(auto, unfolding(answers::specs::Twelve::twelve))]
 
-ghost use Rattle.std.specs.Prelude.{◌≡◌, ◌-◌, [], ◌∷◌};
+ghost use Rattle.std.specs.Prelude.{◌≡◌, [], ◌∷◌};
 ghost use Rattle.definition_revisions.specs.Revisions.{compare_numbers};
 ghost use Rattle.literals.specs.Answers as listing;
 ghost use Rattle.revisions.specs.Answers as comparisons;
 ghost use Rattle.answers.specs.Twelve.{twelve};
 ghost use Rattle.twelve.specs.Index.{index_says};
 
-use literals::Listing;
-use names::Answer;
-
-const TOO_LITTLE_LIST_ROOM: u32 = 53;
-
-const NO_MIDDLE_ROOM: u32 = 59;
+use literals::{Listed, Unlisted};
+use numbering::Number;
+use revisions::{Comparison, Uncompared};
 
 // A listing's numbers, and zeros up to twelve.
-pub fn of_literals(l: Listing) -> [u32; 12]
-    ensures { result ≡ twelve (listing.says l) }
+// Functions and no `From`, as in `answers`.
+pub fn of_literals(x: Result<Listed, Unlisted>) -> [u32; 12]
+    ensures { result ≡ twelve (listing.says x) }
 {
-    match l {
-        Listing::Lists(x) => [0, x.count, x.to, x.more, 0, 0, 0, 0, 0, 0, 0, 0],
-        Listing::Refused(r) => [r.number, 0, r.place, 0, 0, 0, 0, 0, 0, 0, 0, 0],
-        Listing::Short(needed) => [TOO_LITTLE_LIST_ROOM, 0, 0, 0, 0, 0, 0, 0, 0, needed, 0, 0],
+    match x {
+        Ok(l) => [0, l.count, l.to, l.more, 0, 0, 0, 0, 0, 0, 0, 0],
+        Err(Unlisted::Refused(r)) => [r.number, 0, r.place, 0, 0, 0, 0, 0, 0, 0, 0, 0],
+        Err(Unlisted::Short(count)) => [
+            Number::TooLittleListRoom as u32,
+            0,
+            0,
+            0,
+            0,
+            0,
+            0,
+            0,
+            0,
+            count,
+            0,
+            0,
+        ],
     }
 }
 
-// The numbers of an index, and zeros up to twelve.
-pub fn of_index(x: Answer) -> [u32; 12]
+// The numbers of an index, and zeros up to twelve: how many entries it has, or the number of what is wrong.
+pub fn of_index(x: Result<u32, u32>) -> [u32; 12]
     ensures { result ≡ twelve (index_says x) }
 {
     match x {
-        Answer::Entries(count) => [0, count, 0, 0, 0, 0, 0, 0, 0, 0, 0, 0],
-        Answer::Refused(number) => [number, 0, 0, 0, 0, 0, 0, 0, 0, 0, 0, 0],
+        Ok(count) => [0, count, 0, 0, 0, 0, 0, 0, 0, 0, 0, 0],
+        Err(number) => [number, 0, 0, 0, 0, 0, 0, 0, 0, 0, 0, 0],
     }
-}
-
-// How many of so many items lie between front and back.
-fn between(items: u32, front: u32, back: u32) -> u32
-    ensures { result ≡ items - front - back }
-{
-    if items < front {
-        return 0;
-    }
-    let rest = items - front;
-    if rest < back {
-        return 0;
-    }
-    rest - back
 }
 
 // A comparison's numbers, and zeros up to twelve.
-pub fn of_comparison(x: revisions::Answer) -> [u32; 12]
+pub fn of_comparison(x: Result<Comparison, Uncompared>) -> [u32; 12]
     ensures { result ≡ twelve (compare_numbers (comparisons.says x)) }
 {
     match x {
-        revisions::Answer::Compares(c) => [
+        Ok(c) => [
             0,
             c.front,
             c.back,
             c.first,
             c.second,
-            between(c.first, c.front, c.back),
-            between(c.second, c.front, c.back),
+            c.first.saturating_sub(c.front).saturating_sub(c.back),
+            c.second.saturating_sub(c.front).saturating_sub(c.back),
             0,
             0,
             0,
             0,
             0,
         ],
-        revisions::Answer::Refused(number) => [number, 0, 0, 0, 0, 0, 0, 0, 0, 0, 0, 0],
-        revisions::Answer::Short(needed) => [NO_MIDDLE_ROOM, 0, 0, 0, 0, 0, 0, 0, 0, needed, 0, 0],
+        Err(Uncompared::Refused(number)) => [number, 0, 0, 0, 0, 0, 0, 0, 0, 0, 0, 0],
+        Err(Uncompared::Short(needed)) => [
+            Number::NoMiddleRoom as u32,
+            0,
+            0,
+            0,
+            0,
+            0,
+            0,
+            0,
+            0,
+            needed,
+            0,
+            0,
+        ],
     }
 }
 

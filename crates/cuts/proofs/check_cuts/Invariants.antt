@@ -1,10 +1,6 @@
-use borrow.Author.Rules.{rules}
-use native.Mathlib.Omega.{arith}
 use Prim.Native.Nat.{◌+◌, ◌-◌, ◌*◌}
 use lib.ListN.{length}
-use Rattle.tokens.proofs.Lessening.{token_less, cut_less, found_less}
-use Rattle.tokens.proofs.PlainTokens.{found_later, tail_at}
-use Rattle.cuts.proofs.Checking.{Checking, checking, check_done, run_starts, none_left, next_behind, next_before, next_in_run, next_within, token_refused, cut_inside, next_token}
+use Rattle.cuts.proofs.Checking.{Checking}
 use Rattle.cuts.proofs.check_cuts.Given as goal
 
 abbrev pub invariant-loop-i : goal.invariant-loop-i

@@ -1,20 +1,20 @@
-use borrow.Author.Rules.{rules}
-use borrow.Author.Tests.{leb-true}
+use borrow.Author.Tests.{lt-leb}
 use mathlib.Core.Path.{sym, ◌∙◌}
-use Rattle.cuts.proofs.Walking.{long_alone, ill_alone, refused_alone, passed_alone}
+use Rattle.definition.proofs.Moves.CharLaws.{no}
+use Rattle.cuts.proofs.Walking.{long_alone, ill_alone, told_alone}
 use Rattle.cuts.proofs.reads.Goals as goal
+use Rattle.cuts.proofs.reads.Goals.{then-s-le-LARGEST_BODY, else-s-le-LARGEST_BODY}
 
-pub returns-then-s-gt-LARGEST_BODY : goal.returns-then-s-gt-LARGEST_BODY
-returns-then-s-gt-LARGEST_BODY c = long_alone _ (c.if-s-gt-LARGEST_BODY.true)
-
-pub check_cuts-requires : goal.check_cuts-requires
-check_cuts-requires c = (search rules, leb-true _ _ (sym c.is_formed.ensures ∙ c.if-is_formed.true))
-
-pub returns-in-Refused : goal.returns-in-Refused
-returns-in-Refused c = refused_alone _ (rw (c.in-Refused.is) at (c.check_cuts.ensures))
-
-pub returns-in-Passed : goal.returns-in-Passed
-returns-in-Passed c = passed_alone _ (c.if-s-gt-LARGEST_BODY.false) (sym (c.is_formed.ensures) ∙ c.if-is_formed.true) _ (rw (c.in-Passed.is) at (c.check_cuts.ensures))
+pub returns-then-is_formed : goal.returns-then-is_formed
+returns-then-is_formed c =
+    elim c.if-s-le-LARGEST_BODY.branch [
+      | then-s-le-LARGEST_BODY w ↦ c.is_some.ensures ∙ told_alone _ w.if-s-le-LARGEST_BODY.true (sym w.is_formed.ensures ∙ sym w.value-is ∙ c.if-is_formed.true) _ c.check_cuts.ensures
+      | else-s-le-LARGEST_BODY w ↦ let h = w.value-is in no (sym (sym c.if-is_formed.true ∙ h ∙ lt-leb _ _ w.if-s-le-LARGEST_BODY.false))
+    ]
 
 pub returns-else-is_formed : goal.returns-else-is_formed
-returns-else-is_formed c = ill_alone _ (sym (c.if-is_formed.false) ∙ c.is_formed.ensures)
+returns-else-is_formed c =
+    elim c.if-s-le-LARGEST_BODY.branch [
+      | then-s-le-LARGEST_BODY w ↦ c.if-is_formed.false ∙ ill_alone _ (sym c.if-is_formed.false ∙ w.value-is ∙ w.is_formed.ensures)
+      | else-s-le-LARGEST_BODY w ↦ c.if-is_formed.false ∙ long_alone _ w.if-s-le-LARGEST_BODY.false
+    ]

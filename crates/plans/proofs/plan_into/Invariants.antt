@@ -1,10 +1,6 @@
-use borrow.Author.Rules.{rules}
-use native.Mathlib.Omega.{arith}
 use Prim.Native.Nat.{◌+◌, ◌-◌, ◌*◌}
 use lib.ListN.{length}
-use Rattle.tokens.proofs.Lessening.{token_less, cut_less, found_less}
-use Rattle.tokens.proofs.PlainTokens.{found_later}
-use Rattle.plans.proofs.Planning.{Planning, planning, same_list, done, found, run_on, run_cut, run_none, refused, on, too_long_lem, cut}
+use Rattle.plans.proofs.Planning.{Planning}
 use Rattle.plans.proofs.plan_into.Given as goal
 
 abbrev pub invariant-loop-i : goal.invariant-loop-i

@@ -4,4 +4,4 @@ use Rattle.strings.proofs.of_names.Goals as goal
 
 pub returns : goal.returns
 unfolding refusal
-returns c = refl
+returns c = rw c.from.ensures refl

@@ -1,4 +1,3 @@
-use borrow.Author.Rules.{rules}
 use mathlib.Core.Path.{refl}
 use mathlib.Core.List.{[]}
 use Rattle.escapes.proofs.Lent.{names_none}
@@ -9,10 +8,10 @@ pub returns-then-numbers-eq6 : goal.returns-then-numbers-eq6
 returns-then-numbers-eq6 c = c.parse_one.ensures
 
 pub finish-requires : goal.finish-requires
-finish-requires c = few (rw c.in-Done.is at c.read_all.ensures)
+finish-requires c = few (rw c.in-Ok.is at c.read_all.ensures)
 
-pub returns-in-Refused : goal.returns-in-Refused
-returns-in-Refused c = refused_is (rw (names_none [] [] refl, c.in-Refused.is) at c.read_all.ensures)
+pub returns-in-Err : goal.returns-in-Err
+returns-in-Err c = refused_is (rw (names_none [] [] refl, c.in-Err.is) at c.read_all.ensures)
 
-pub returns-in-Done : goal.returns-in-Done
-returns-in-Done c = let R = rw (names_none [] [] refl, c.in-Done.is) at c.read_all.ensures in c.finish.ensures _ _ _ _ _ _ _ _ R
+pub returns-in-Ok : goal.returns-in-Ok
+returns-in-Ok c = let R = rw (names_none [] [] refl, c.in-Ok.is) at c.read_all.ensures in c.finish.ensures _ _ _ _ _ _ _ _ R

@@ -26,4 +26,4 @@ pub returns-in-92 : goal.returns-in-92
 returns-in-92 c = c.backslash_end.ensures
 
 pub returns-in_default-c : goal.returns-in_default-c
-returns-in_default-c c = plain_end_lem _ _ _ _ (step_char _ _ _ _ (sym c.next_char.ensures ∙ c.in-Char.is)) c.in_default-c.in_default-c-own.rest.0.0.1 c.in_default-c.in_default-c-own.rest.0.1 c.in_default-c.in_default-c-own.rest.1
+returns-in_default-c c = plain_end_lem _ _ _ _ (step_char _ _ _ _ (sym c.next_char.ensures ∙ c.in-Char.is)) (search rules) (search rules) (search rules)

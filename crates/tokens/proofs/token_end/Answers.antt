@@ -1,5 +1,4 @@
 use borrow.Author.Rules.{rules}
-use native.Mathlib.Omega.{arith}
 use Rattle.tokens.proofs.TokenLaws.{token_is}
 use Rattle.tokens.proofs.token_end.Goals as goal
 

@@ -5,14 +5,14 @@ use Rattle.definition_revisions.proofs.Laws.Told.{counting_length}
 use Rattle.answers.specs.Twelve.{twelve}
 use Rattle.twelve.proofs.of_comparison.Goals as goal
 
-pub returns-in-Compares : goal.returns-in-Compares
+pub returns-in-Ok : goal.returns-in-Ok
 unfolding twelve compare_numbers middle
-returns-in-Compares c = rw (c.in-Compares.is, counting_length, counting_length, c.between.ensures, c.between-in-Compares.ensures) refl
+returns-in-Ok c = rw (c.in-Ok.is, counting_length, counting_length, c.saturating_sub-in-Ok.ensures, c.saturating_sub.ensures, c.saturating_sub-in-Ok-3.ensures, c.saturating_sub-in-Ok-2.ensures) refl
 
-pub returns-in-Refused : goal.returns-in-Refused
+pub returns-in-Err-Refused : goal.returns-in-Err-Refused
 unfolding twelve compare_numbers middle
-returns-in-Refused c = rw c.in-Refused.is refl
+returns-in-Err-Refused c = search rules
 
-pub returns-in-Short : goal.returns-in-Short
+pub returns-in-Err-Short : goal.returns-in-Err-Short
 unfolding twelve compare_numbers middle
-returns-in-Short c = rw c.in-Short.is refl
+returns-in-Err-Short c = search rules
