@@ -125,7 +125,7 @@ pub fn literal_here(script: &[u8], at: usize) -> Result<Option<Literal>, Broken>
 pub fn next_literal(script: &[u8], from: usize) -> Result<Option<Literal>, Broken>
     ensures { NextIs script.now from result }
 {
-    if MOST_BYTES < script.len() {
+    if script.len() > MOST_BYTES {
         return Err(Broken::TooLong);
     }
     let mut at = from;

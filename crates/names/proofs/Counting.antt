@@ -1,4 +1,4 @@
--- Some counted, line by line. Assumes nothing.
+-- Names counted, line by line. Assumes nothing.
 use Rattle.std.specs.Prelude as p
 use Rattle.std.specs.Prelude.{Some, None}
 use mathlib.Core.Path.{◌≡◌, refl, sym, ap, ◌∙◌}
