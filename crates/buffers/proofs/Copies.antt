@@ -1,33 +1,21 @@
--- Laws of copying a run to the front of a buffer, and a part of a buffer behind itself.
+-- Laws of copying a part of a buffer behind itself.
 -- Assumes nothing.
-use mathlib.Core.Path.{◌≡◌, sym}
-use mathlib.Core.List.{List, ◌++◌}
+use mathlib.Core.Path.{◌≡◌, refl}
+use mathlib.Core.List.{List}
 use Prim.Native.Nat.{ℕ, ◌+◌, ◌-◌, ◌≤◌, ◌<◌, min}
-use native.Mathlib.Nat.{add-sub_cancel_left, sub-eq-zero_of_le}
 use native.Mathlib.Omega.{arith}
-use lib.ListN.{length, take, drop, length-take, length-drop}
-use lib.Seq.{take-take}
-use Rattle.std.specs.List.{copy_within}
+use lib.ListN.{length, take, drop, set, get_or, length-take, length-drop}
+use lib.Seq.{get_or-take, get_or-drop}
 use Rattle.definition.specs.Chars.{part}
 use Rattle.buffers.specs.Over.{over}
-use Rattle.buffers.proofs.Over.{over_nil, over_front, over_inside, over_take}
+use Rattle.buffers.proofs.Over.{over_take, over_more, get_d_over}
 
--- as much of a run as finds room, in front of what is left of the buffer
-pub front_copied : {A : Type 0} (b xs : List A) (n : ℕ) {front : List A} → n ≡ min (length b) (length xs) → front ≡ take n xs → front ++ drop n b ≡ over b 0 xs
-front_copied b xs n e f =
-    let long : length (take n xs) ≡ n = rw length-take (omega arith) in
-    rw (f, ← over_take b 0 n xs (omega arith), over_front b (take n xs) (omega arith), long)
-
--- an empty part, and one that is copied to p: as many as find room
-pub again_none : (b : List ℕ) (p from to : ℕ) → to ≤ from → b ≡ over b p (part b from to)
-again_none b p from to h = rw (sub-eq-zero_of_le h) (sym (over_nil b p))
-
+-- the part from `from` up to `to`, copied to p: one byte more, and as many as find room
 module _ (b : List ℕ) (p from to i : ℕ) where
+  pub again_more : to ≤ p → p < length b → i < to - from → set (over b p (take i (part b from to))) (p + i) (get_or (over b p (take i (part b from to))) (from + i) 0) ≡ over b p (take (i + 1) (part b from to))
+  again_more behind inside h =
+      rw (get_d_over b p (take i (part b from to)) (from + i) 0 (omega arith), ← get_or-drop from b i 0, ← get_or-take (to - from) (drop from b) i 0 h)
+      (over_more b p i (p + i) (part b from to) 0 (rw (length-take, length-drop) (omega arith)) refl)
+
   pub again_all : min (to - from) (length b - p) ≤ i → over b p (take i (part b from to)) ≡ over b p (part b from to)
   again_all h = over_take b p i (part b from to) (rw length-take (omega arith))
-
-  pub again_copied : from < to → to ≤ p → p < length b → i ≡ min (to - from) (length b - p) → copy_within b from (from + i) p ≡ over b p (part b from to)
-  again_copied some behind inside e =
-      let long : length (take i (drop from b)) ≡ i = rw (length-take, length-drop) (omega arith) in
-      let less : take i (part b from to) ≡ take i (drop from b) = take-take i (to - from) (drop from b) (omega arith) in
-      rw (← again_all (omega arith), less, over_inside b p (take i (drop from b)) (omega arith), long, add-sub_cancel_left)

@@ -24,7 +24,10 @@ pub fn put_run<T: Copy>(buffer: &mut [T], run: &[T])
     ensures { buffer.new ≡ over buffer.old 0 run.now }
 {
     let n = buffer.len().min(run.len());
-    buffer[..n].copy_from_slice(&run[..n]);
+    // By index: by the library's `copy_from_slice` an archive for C would need `memmove`, and nothing to write would cost a call.
+    for i in 0..n {
+        buffer[i] = run[i];
+    }
 }
 
 // Writes a group of words from the front on; all of them by one test where they fit.
@@ -59,9 +62,13 @@ pub fn add_again(text: &mut [u8], used: usize, from: usize, to: usize)
     ensures { text.new ≡ over text.old used (part text.old from (min to used)) }
 {
     let end = to.min(used);
-    if from < end && used < text.len() {
-        let n = (end - from).min(text.len() - used);
-        text.copy_within(from..from + n, used);
+    let n = end
+        .saturating_sub(from)
+        .min(text.len().saturating_sub(used));
+    // Byte by byte: by the library's `copy_within` an archive for C would need `memmove`.
+    for i in 0..n {
+        let byte = text[from + i];
+        text[used + i] = byte;
     }
 }
 

@@ -1,17 +1,19 @@
 use native.Mathlib.Omega.{arith}
 use mathlib.Core.Path.{◌∙◌, sym}
-use Rattle.buffers.proofs.Over.{over_out}
-use Rattle.buffers.proofs.Copies.{again_none, again_copied}
+use Rattle.buffers.proofs.Over.{over_nil}
+use Rattle.buffers.proofs.Copies.{again_more, again_all}
 use Rattle.buffers.proofs.add_again.Goals as goal
-use Rattle.buffers.proofs.add_again.Goals.{else-from-end-via-then-from-end+else-used-text, else-from-end-via-else-from-end}
 
-pub returns-then-used-text : goal.returns-then-used-text
-returns-then-used-text c =
+pub loop-i-init : goal.loop-i-init
+loop-i-init c = sym (over_nil _ _)
+
+pub loop-i-preserved : goal.loop-i-preserved
+loop-i-preserved c =
     let end = c.min-end.result in
-    c.copy_within.ensures.after ∙ again_copied c.args.text.now c.args.used c.args.from end c.min-n.result (omega arith) (omega arith) (omega arith) c.min-n.ensures ∙ rw c.min-end.ensures
+    let i = c.loop-i.i in
+    rw c.loop-i.invariant (again_more _ _ c.args.from end i (omega arith) (omega arith) (omega arith))
 
-pub returns-else-from-end : goal.returns-else-from-end
-returns-else-from-end c = elim c.else-from-end.branch [
-  | else-from-end-via-then-from-end+else-used-text w ↦ sym (over_out _ _ _ (omega arith))
-  | else-from-end-via-else-from-end w ↦ again_none c.args.text.now c.args.used c.args.from _ (omega arith)
-]
+pub returns : goal.returns
+returns c =
+    let end = c.min-end.result in
+    c.loop-i.invariant ∙ again_all _ _ c.args.from end _ (omega arith) ∙ rw c.min-end.ensures
