@@ -255,7 +255,20 @@ pub fn run_end(s: &[u8], from: usize, quote: u32) -> usize
 fn is_passing(b: u8) -> bool
     ensures { result ≡ passing b }
 {
-    matches!(b, b'*'..=b'9' | b'?'..=b'Z' | b'^'..=b'z')
+    // Guards, letters first: as one match over the three ranges each byte of an expression costs up to three times as much.
+    if b'^' <= b {
+        return b <= b'z';
+    }
+    if b < b'*' {
+        return false;
+    }
+    if b <= b'9' {
+        return true;
+    }
+    if b < b'?' {
+        return false;
+    }
+    b <= b'Z'
 }
 
 // How far from an index on bytes have no rule of their own.
