@@ -4,3 +4,4 @@ mod WriteLaws
 mod PieceLaws
 mod GoingLaws
 mod CallLaws
+mod RunLaws

@@ -6,6 +6,10 @@ ghost use Rattle.written.specs.Puts.{Puts};
 
 use buffers::{add_run, put};
 use opens::is_doubled;
+use searches::first_of;
+
+// A text of fewer bytes goes byte by byte, and of a longer one so many are looked at together.
+const STEP: usize = 64;
 
 // One byte.
 fn put_one(body: &mut [u8], used: usize, b: u8) -> usize
@@ -75,14 +79,36 @@ fn put_byte(body: &mut [u8], used: usize, b: u8, depth: usize, late: bool) -> us
     }
 }
 
-// A text where it stands.
-pub(crate) fn put_text(body: &mut [u8], used: usize, text: &[u8], depth: usize, late: bool) -> usize
+// The bytes of a text where it stands, one by one.
+fn put_bytes(body: &mut [u8], used: usize, text: &[u8], depth: usize, late: bool) -> usize
     requires { used + length (spelled_text (where_of depth late) text.now) ≤ 2 ^ 40 }
     ensures { Puts body.old used (spelled_text (where_of depth late) text.now) body.new result }
 {
     let mut u = used;
     for b in text {
         u = put_byte(body, u, *b, depth, late);
+    }
+    u
+}
+
+// A text where it stands: what of each part stands as it is at its front goes at once, since that is most of a text.
+pub(crate) fn put_text(body: &mut [u8], used: usize, text: &[u8], depth: usize, late: bool) -> usize
+    requires { used + length (spelled_text (where_of depth late) text.now) ≤ 2 ^ 40 }
+    ensures { Puts body.old used (spelled_text (where_of depth late) text.now) body.new result }
+{
+    if text.len() < STEP {
+        return put_bytes(body, used, text, depth, late);
+    }
+    let mut u = used;
+    let mut i = 0;
+    // A step is a part of the text.
+    while i < text.len() {
+        let end = i + STEP.min(text.len() - i);
+        let part = &text[i..end];
+        let plain = first_of(part, 0, b'{', b'}', b'\\');
+        u = put_run(body, u, &part[..plain]);
+        u = put_bytes(body, u, &part[plain..], depth, late);
+        i = end;
     }
     u
 }

@@ -1,19 +1,33 @@
 use native.Mathlib.Omega.{arith}
+use mathlib.Core.Path.{sym, ap}
+use lib.Seq.{length-take-le}
 use Rattle.opens.specs.Opens.{where_of}
-use Rattle.written.proofs.PutLaws.{putting_starts, putting_small, putting_on, putting_ends, putting_kept}
+use Rattle.definition_written.specs.Written.{spelled_text}
+use Rattle.written.proofs.PutLaws.{puts_none, puts_same}
+use Rattle.written.proofs.RunLaws.{run_within, run_small, rest_small, part_put, all_taken, spelled_none}
 use Rattle.written.proofs.spell.put_text.Goals as goal
 
-pub loop-b-init : goal.loop-b-init
-loop-b-init c = let a = c.args in putting_starts a.body.now a.used (where_of a.depth a.late) a.text.now
+pub loop-i-init : goal.loop-i-init
+loop-i-init c = (puts_same (spelled_none (where_of c.args.depth c.args.late)) (puts_none _ _), omega arith)
 
-pub put_byte-u-requires : goal.put_byte-u-requires
-put_byte-u-requires c = putting_small _ _ _ _ _ _ _ c.loop-b.invariant c.requires
+pub slice_bounds-put_run-end : goal.slice_bounds-put_run-end
+slice_bounds-put_run-end c = sym (length-take-le _ _ (run_within _ _ _ _ _ _ _ _ _ c.loop-i.invariant.0 c.first_of-plain.ensures c.requires))
 
-pub loop-b-preserved : goal.loop-b-preserved
-loop-b-preserved c = putting_on _ _ _ _ _ _ _ c.loop-b.invariant c.loop-b-test.true _ _ c.put_byte-u.ensures
+pub put_run-u-requires : goal.put_run-u-requires
+put_run-u-requires c = run_small _ _ _ _ _ _ _ _ _ c.loop-i.invariant.0 c.first_of-plain.ensures c.requires
 
-pub shape_of-body : goal.shape_of-body
-shape_of-body c = putting_kept _ _ _ _ _ _ _ c.loop-b.invariant
+pub slice_bounds-put_bytes-count : goal.slice_bounds-put_bytes-count
+slice_bounds-put_bytes-count c = run_within _ _ _ _ _ _ _ _ _ c.loop-i.invariant.0 c.first_of-plain.ensures c.requires
+
+pub slice_bounds-put_bytes-start : goal.slice_bounds-put_bytes-start
+slice_bounds-put_bytes-start c = run_within _ _ _ _ _ _ _ _ _ c.loop-i.invariant.0 c.first_of-plain.ensures c.requires
+
+pub put_bytes-u-requires : goal.put_bytes-u-requires
+put_bytes-u-requires c = rest_small _ _ _ _ _ _ _ _ _ c.loop-i.invariant.0 c.first_of-plain.ensures c.requires c.put_run-u.ensures
+
+pub loop-i-preserved : goal.loop-i-preserved
+loop-i-preserved c =
+    (part_put _ _ _ _ _ _ _ _ _ c.loop-i.invariant.0 c.first_of-plain.ensures c.requires (omega arith) c.put_run-u.ensures c.put_bytes-u.ensures, omega (arith, c.min.ensures))
 
 pub returns : goal.returns
-returns c = putting_ends _ _ _ _ _ _ _ c.loop-b.invariant (omega (arith, c.loop-b-test.false))
+returns c = puts_same (ap (spelled_text (where_of c.args.depth c.args.late)) (all_taken c.args.text.now _ (omega arith))) c.loop-i.invariant.0
