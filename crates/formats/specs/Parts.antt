@@ -81,7 +81,7 @@ unfoldable pub written_with : (spec : List ℕ) → Form → Integer → List �
 written_with s r v = written_in (fill_of s r) r.shape v
 
 -- an integer written by the form that was read of a text; nothing by one that is refused, or outside the set
-abbrev pub written_as : (spec : List ℕ) → Result Form FormError → Integer → List ℕ
+abbrev pub written_as : {E : Type 0} → (spec : List ℕ) → Result Form E → Integer → List ℕ
 written_as s (Ok r) v = written_with s r v
 written_as s (Err e) v = []
 

@@ -325,11 +325,11 @@ fn write_with(out: &mut [u8], s: &[u8], form: Form, negative: bool, size: u32) -
     integers::write(out, &s[..fill], forms::anew(form.shape), negative, size)
 }
 
-// Writes an integer by the form that was read of a text from the front on, nothing by one that is refused; says how many bytes it has, at most 325.
-pub fn write_by(
+// Writes an integer by the form that was read of a text from the front on, nothing by one that is refused, whatever the refusal; says how many bytes it has, at most 325.
+pub fn write_by<E: Copy>(
     out: &mut [u8],
     s: &[u8],
-    form: Result<Form, FormError>,
+    form: Result<Form, E>,
     negative: bool,
     size: u32,
 ) -> usize
